@@ -1,0 +1,18 @@
+-- The log's relations: a table of columns, numbered from 1.
+use mathlib.Core.List.{List, [], _∷_}
+use Prim.Native.Nat.{ℕ, zero, suc}
+use lib.IntN.{ℤ, pos, negsuc}
+use lib.ListN.{getD}
+
+-- Rower, Strap, Worn, Sig, Beat, Noise, Pulse, Coach, Seat, Pause
+abbrev pub relations : List ℕ
+relations = 2 ∷ 1 ∷ 3 ∷ 2 ∷ 2 ∷ 2 ∷ 3 ∷ 2 ∷ 4 ∷ 1 ∷ []
+
+-- the columns of a relation; 0 where there is no such relation
+abbrev pub columnsAt : ℕ → ℕ
+columnsAt zero = 0
+columnsAt (suc n) = getD relations n 0
+
+unfoldable pub columnsOf : ℤ → ℕ
+columnsOf (pos n) = columnsAt n
+columnsOf (negsuc n) = 0

@@ -1,0 +1,127 @@
+// What the sheet's definitions (specs/) and the calls share: the limits, each behind one name, the kinds and causes by number, and the types.
+
+// A sheet's bytes, at most.
+pub const MOST_SHEET_BYTES: usize = 8192;
+
+// The number form's words, at most, and the room that reading wants.
+pub const MOST_WORDS: usize = 602;
+
+// The room that writing wants.
+pub const MOST_BYTES: usize = 4214;
+
+// The bytes of a field, and the words of a line: the field count, then the fields.
+pub const FIELD_BYTES: usize = 8;
+
+pub const LINE_WORDS: usize = 7;
+
+pub const MOST_FIELDS: usize = 6;
+
+// What fits a field lies between these: a minus and seven digits, or eight digits.
+pub const FIELD_MINUS_END: i32 = -10_000_000;
+
+pub const FIELD_END: i32 = 100_000_000;
+
+// The most fields of a head or a row, and the least of an atom.
+pub const MOST_HEAD_FIELDS: usize = 5;
+
+pub const LEAST_ATOM_FIELDS: usize = 3;
+
+// Constants are 0 and up, below this; variables are -1 down to minus VARIABLES.
+pub const CONSTANT_END: i32 = 1_000_000;
+
+pub const VARIABLES: i32 = 12;
+
+// The relations' columns, from relation 1 on: Rower, Strap, Worn, Sig, Beat, Noise, Pulse, Coach, Seat, Pause.
+pub const COLUMNS: [usize; 10] = [2, 1, 3, 2, 2, 2, 3, 2, 4, 1];
+
+// The most atoms of the question or the list, and of a view; the most views; the most rows, of all views together.
+pub const MOST_ATOMS: usize = 6;
+
+pub const MOST_VIEW_ATOMS: usize = 3;
+
+pub const MOST_VIEWS: usize = 8;
+
+pub const MOST_ROWS: usize = 40;
+
+// The kinds of a line, and of a block by its head; 0 is none.
+pub const QUESTION_KIND: usize = 1;
+
+pub const SAVED_KIND: usize = 2;
+
+pub const VIEW_KIND: usize = 3;
+
+pub const ATOM_KIND: usize = 4;
+
+pub const ROW_KIND: usize = 5;
+
+// The causes for sending back.
+pub const TOO_LONG: usize = 1;
+
+pub const MALFORMED: usize = 2;
+
+pub const MISPLACED: usize = 3;
+
+pub const WRONG_COLUMNS: usize = 4;
+
+pub const OUT_OF_RANGE: usize = 5;
+
+pub const TOO_MANY: usize = 6;
+
+pub const WRONG_LENGTH: usize = 7;
+
+pub const UNSAFE_HEAD: usize = 8;
+
+pub const NOT_ABOVE: usize = 9;
+
+pub const NO_ROOM: usize = 13;
+
+// Why a sheet is sent back: the cause's number and the line, counted from 1, or 0 where none is named. Nothing is refused where both are 0.
+pub struct Refusal {
+    pub number: usize,
+    pub line: usize,
+}
+
+// How a call ends: with the count of what it wrote, or with the cause's number and the line.
+pub enum Ending {
+    Done(usize),
+    Refused(usize, usize),
+}
+
+// What the bytes of a field so far are: blanks, a minus, a number with its sign, or no field.
+pub enum Digits {
+    Blank,
+    Minus,
+    Run(bool, usize),
+    Broken,
+}
+
+// What eight bytes are as a field.
+pub enum Field {
+    Number(i32),
+    Malformed,
+}
+
+// What a number stands for as a term: a constant, or a variable by its index from 1.
+pub enum Term {
+    Constant(usize),
+    Variable(usize),
+    OutOfRange,
+}
+
+// What a line's place goes by: the kind of the block and of the line before (0 for none), the block's atoms, the views and rows so far, the
+// lengths of the question's head and of the block's.
+pub struct Seen {
+    pub block: usize,
+    pub last: usize,
+    pub atoms: usize,
+    pub views: usize,
+    pub rows: usize,
+    pub asked: usize,
+    pub columns: usize,
+}
+
+// What a line does to the sheet: it goes on, or stops by its cause.
+pub enum Step {
+    Goes(Seen),
+    Stops(usize),
+}

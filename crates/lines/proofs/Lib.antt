@@ -1,0 +1,3 @@
+pub mod Words
+pub mod Slices
+pub mod Lines

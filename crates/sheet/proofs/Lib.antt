@@ -1,0 +1,6 @@
+pub mod Laws
+pub mod LineOf
+pub mod ParseLaws
+pub mod Endings
+pub mod FindLaws
+pub mod WriteLaws
