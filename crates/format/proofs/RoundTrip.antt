@@ -86,7 +86,7 @@ write-read ws buf n e out le =
 
 -- ---- the bytes that read accepts
 
-bytes-clean : (s : List ℕ) → sheetRefusal s .number ≡ 0 → refusalOf (byteLines s) .number ≡ 0
+pub bytes-clean : (s : List ℕ) → sheetRefusal s .number ≡ 0 → refusalOf (byteLines s) .number ≡ 0
 unfolding sheetRefusal
 bytes-clean s e = go (ltb most-sheet-bytes (length s)) e
   where

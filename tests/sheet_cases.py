@@ -1,0 +1,1097 @@
+#!/usr/bin/env python3
+"""Cases for the calls that read a sheet, write one and hand back a line, with the results they must give.
+
+This is an independent reading of the format. It is written from the text of the paper "Questions, saved lists and the
+logs behind them" alone ("The sheet", "Causes for sending back"), and shares nothing with the library. The stored results
+(crates/sheet_tests/stdout) come from it and not from the library.
+
+    python3 tests/sheet_cases.py            writes crates/sheet_tests/stdin and crates/sheet_tests/stdout
+    python3 tests/sheet_cases.py --check    only says whether those two files are what it would write
+
+Run it at the repository's root. It draws no chance from outside: each run writes the same bytes.
+
+A case is one line of stdin, its result the same line of stdout (the program's src/main.rt says how they are written).
+Beside every case that is written by hand stands what the paper says of it, as (number, line), and the reading below has
+to agree with that before anything is stored.
+"""
+import collections
+import pathlib
+import sys
+
+# --- The format -----------------------------------------------------------------------------------------------------
+
+# The paper's table, and from it how many columns each relation has.
+RELATIONS = """1 Rower(rower, crew); 2 Strap(strap); 3 Worn(strap, session, rower); 4 Sig(strap, tick); 5 Beat(strap, tick);
+6 Noise(strap, tick); 7 Pulse(strap, tick, rate); 8 Coach(coach, crew); 9 Seat(rower, session, boat, seat); 10 Pause(session)"""
+COLUMNS = {int(relation.split()[0]): relation.count(",") + 1 for relation in RELATIONS.split(";")}
+
+MOST_BYTES = 8192           # of a sheet that is read
+MOST_WORDS = 602            # of a number form, and what reading must be lent
+LENT_BYTES = 4214           # what writing must be lent
+MOST_ATOMS = {1: 6, 2: 6, 3: 3}
+MOST_VIEWS = 8
+MOST_ROWS = 40
+
+# The numbers that eight bytes can hold.
+WIDEST = 99_999_999
+LOWEST = -9_999_999
+
+Block = collections.namedtuple("Block", "kind line head atoms rows")
+
+
+def number_of(field):
+    """The number that eight bytes are, or None where they are no field."""
+    text = field.lstrip(b" ")
+    digits = text[1:] if text[:1] == b"-" else text
+    if not digits or any(byte not in b"0123456789" for byte in digits):
+        return None
+    if digits[0] == ord("0") and text != b"0":
+        return None                                         # a leading zero, or -0
+    return int(text)
+
+
+def fields_of(line):
+    """The numbers of a line's bytes, or None where they are refused by 2."""
+    if len(line) % 8 or not 8 <= len(line) <= 48:
+        return None
+    fields = [number_of(line[at:at + 8]) for at in range(0, len(line), 8)]
+    return None if None in fields else fields
+
+
+def fields_in(words):
+    """The numbers of a line's seven words, or None where they are refused by 2."""
+    count, rest = words[0], words[1:]
+    if not 1 <= count <= 6:
+        return None
+    if any(rest[count:]) or any(not LOWEST <= number <= WIDEST for number in rest[:count]):
+        return None
+    return rest[:count]
+
+
+def in_place(kind, before, blocks):
+    """Whether a line of this kind may follow the line of kind `before` (0 at the first line), after these blocks."""
+    if kind == 1:
+        return before == 0
+    if kind == 2:
+        return len(blocks) == 1
+    if kind == 3:
+        return len(blocks) >= 2
+    if kind == 4:
+        return before in (1, 2, 3, 4)
+    return bool(blocks) and blocks[-1].kind == 3 and before in (4, 5)
+
+
+def judge_line(fields, before, blocks):
+    """The first of 2, 3, 4, 5, 6, 7 and 9 that holds of a line after these blocks, and 0 where none does."""
+    if fields is None:
+        return 2
+    kind, count = fields[0], len(fields)
+    if not 1 <= kind <= 5 or not in_place(kind, before, blocks):
+        return 3
+    if not (3 <= count <= 6 if kind == 4 else 1 <= count <= 5):
+        return 3
+    terms = fields[1:]
+    if kind == 4:
+        relation, terms = fields[1], fields[2:]
+        if COLUMNS.get(relation) != len(terms):
+            return 4
+    least = 0 if kind == 5 else -12
+    if any(not least <= term <= 999_999 for term in terms):
+        return 5
+    if kind == 3 and sum(block.kind == 3 for block in blocks) == MOST_VIEWS:
+        return 6
+    if kind == 4 and len(blocks[-1].atoms) == MOST_ATOMS[blocks[-1].kind]:
+        return 6
+    if kind == 5 and sum(len(block.rows) for block in blocks) == MOST_ROWS:
+        return 6
+    if kind == 2 and len(terms) != len(blocks[0].head):
+        return 7
+    if kind == 5 and len(terms) != len(blocks[-1].head):
+        return 7
+    if kind == 5 and blocks[-1].rows and not blocks[-1].rows[-1] < terms:
+        return 9
+    return 0
+
+
+def judge(lines):
+    """(number, line) of what a sheet is sent back for by its lines, and (0, 0) where it is taken."""
+    blocks, before = [], 0
+    for at, fields in enumerate(lines, 1):
+        number = judge_line(fields, before, blocks)
+        if number:
+            return number, at
+        before = fields[0]
+        if before == 4:
+            blocks[-1].atoms.append(fields[2:])
+        elif before == 5:
+            blocks[-1].rows.append(fields[1:])
+        else:
+            blocks.append(Block(before, at, fields[1:], [], []))
+    if len(blocks) < 2:
+        return 3, 0                                         # the question is missing, or the list
+    for block in blocks:
+        held = {term for atom in block.atoms for term in atom}
+        if not block.atoms or any(term < 0 and term not in held for term in block.head):
+            return 8, block.line
+    return 0, 0
+
+
+def closed_lines(sheet):
+    """The lines that are closed by byte 10, without it, and what follows the last byte 10."""
+    *lines, rest = sheet.split(b"\n")
+    return lines, rest
+
+
+def read(sheet, room):
+    """(number, line, lines of numbers) of reading a sheet into so many lent words."""
+    if len(sheet) > MOST_BYTES:
+        return 1, 0, []
+    closed, rest = closed_lines(sheet)
+    lines = [fields_of(line) for line in closed] + ([None] if rest else [])
+    number, line = judge(lines)
+    if number == 0 and room < MOST_WORDS:
+        number = 13
+    return number, line, [] if number else lines
+
+
+def write(words, room):
+    """(number, line, bytes) of writing a number form into so many lent bytes."""
+    if len(words) > MOST_WORDS:
+        return 1, 0, b""
+    if len(words) % 7:
+        return 2, 0, b""
+    lines = [fields_in(words[at:at + 7]) for at in range(0, len(words), 7)]
+    number, line = judge(lines)
+    if number == 0 and room < LENT_BYTES:
+        number = 13
+    return number, line, b"" if number else sheet_of(lines)
+
+
+def line_of(sheet, number):
+    """The bytes of a closed line, and none where there is no such line."""
+    closed, _ = closed_lines(sheet)
+    return closed[number - 1] if 1 <= number <= len(closed) else b""
+
+
+def sheet_of(lines):
+    """The bytes of lines of numbers."""
+    return b"".join(b"".join(b"%8d" % number for number in line) + b"\n" for line in lines)
+
+
+def words_of(lines):
+    """The number form of lines of numbers. A line of more than six has its count and its first six."""
+    return [word for line in lines for word in [len(line)] + (line + [0] * 6)[:6]]
+
+
+# --- The cases ------------------------------------------------------------------------------------------------------
+
+STDIN = pathlib.Path("crates/sheet_tests/stdin")
+STDOUT = pathlib.Path("crates/sheet_tests/stdout")
+
+# What the program has room for.
+ROOM = {"r": 704, "w": 4352}
+HELD_BYTES = 8704
+HELD_WORDS = 704
+HELD_LINE = 4096
+
+given, wanted = [], []
+tally = collections.Counter()
+
+
+def shown(data):
+    """Bytes as they are printed: "/" for byte 10, "\\" and two hexadecimal digits for what is not plain."""
+    return "".join("/" if byte == 10 else chr(byte) if 32 <= byte <= 126 and byte not in b",;/\\" else "\\%02x" % byte
+                   for byte in data)
+
+
+def noted(data):
+    """Bytes as a case writes them: the same, with "," for seven blanks and ";" for six."""
+    return shown(data).replace(" " * 7, ",").replace(" " * 6, ";")
+
+
+def shown_words(words):
+    """Words as they are printed: "/" after each line of seven, a blank after any other."""
+    return "".join("%d%s" % (word, " " if at % 7 else "/") for at, word in enumerate(words, 1))
+
+
+def noted_words(words):
+    """Words as a case writes them: by single blanks, and "/" after each line of seven, whose last zeros are left out."""
+    lines = []
+    for at in range(0, len(words), 7):
+        line = words[at:at + 7]
+        whole = len(line) == 7
+        while whole and len(line) > 1 and line[-1] == 0:
+            line = line[:-1]
+        lines.append(" ".join(map(str, line)) + "/" * whole)
+    return "".join(lines)
+
+
+def add(call, number, data, result, cause):
+    """Keeps a case, and counts it by its call and cause."""
+    given.append(f"{call} {number}|{data}")
+    wanted.append(result)
+    tally[call, cause] += 1
+
+
+def heading(text):
+    given.append("# " + text)
+    wanted.append("# " + text)
+
+
+def agree(want, number, line, what):
+    """Stops where the paper, as it stands beside the case, and the reading above differ."""
+    if want is not None and want != (number, line):
+        sys.exit(f"the reading gives {(number, line)} and not {want}: {what}")
+
+
+def read_case(sheet, want=None, room=MOST_WORDS):
+    assert room <= ROOM["r"] and len(sheet) <= HELD_BYTES
+    number, line, lines = read(sheet, room)
+    agree(want, number, line, sheet)
+    add("r", room, noted(sheet), f"{number} {line} {len(lines)} =|{shown_words(words_of(lines))}", number)
+
+
+def write_case(words, want=None, room=LENT_BYTES):
+    assert room <= ROOM["w"] and len(words) <= HELD_WORDS
+    number, line, sheet = write(words, room)
+    agree(want, number, line, words)
+    add("w", room, noted_words(words), f"{number} {line} {len(sheet)} =|{shown(sheet)}", number)
+
+
+def line_case(sheet, number, want=None):
+    assert len(sheet) <= HELD_BYTES
+    line = line_of(sheet, number)
+    if want is not None and want != line:
+        sys.exit(f"the reading gives {line} and not {want}: line {number} of {sheet}")
+    add("l", number, noted(sheet), f"{len(line)}|{shown(line)}", "some" if line else "none")
+
+
+def round_case(sheet, room=LENT_BYTES):
+    """A sheet that is taken: what is read is written again."""
+    assert len(sheet) <= HELD_BYTES and room <= ROOM["w"]
+    refused, line, lines = read(sheet, MOST_WORDS)
+    number, place, written = write(words_of(lines), room)
+    assert (refused, number, written) == (0, 0, sheet), sheet
+    add("b", room, noted(sheet), f"0 0 {len(lines)} =|{shown_words(words_of(lines))}0 0 {len(sheet)} =|{shown(sheet)}", 0)
+
+
+def lines_in(text):
+    """Lines of numbers from the paper's way to show a sheet: fields by single spaces, lines by " / "."""
+    return [[int(field) for field in line.split()] for line in text.split(" / ")] if text else []
+
+
+def sheet(text):
+    return sheet_of(lines_in(text))
+
+
+def words(text):
+    return words_of(lines_in(text))
+
+
+def both(text, want):
+    """The same sheet as bytes and as words: the two forms are sent back for the same things."""
+    read_case(sheet(text), want)
+    write_case(words(text), want)
+
+
+def joined(*parts):
+    return " / ".join(part for part in parts if part)
+
+
+TAKEN = (0, 0)
+
+# Sheets from which the cases are made.
+LEAST = "1 / 4 2 1 / 2 / 4 2 1"
+VIEW = joined(LEAST, "3 / 4 2 1")
+ROWS = joined(LEAST, "3 -1 / 4 2 -1 / 5 7 / 5 9")
+PAPER = "1 -1 -2 / 4 4 -1 -2 / 2 -1 -2 / 4 5 -1 -2 / 3 -1 -2 / 4 4 -1 -2 / 5 7 1 / 5 7 2"
+PLAIN = "1 / 4 2 1"                                         # a question
+VIEW_OF_ONE = "3 1 / 4 2 1"                                 # a view of one column
+FORTY = " / ".join(f"5 {row}" for row in range(1, 41))      # forty rows for it
+
+
+def full(head, atom, rows):
+    """A sheet of 86 lines: 6 atoms twice, 8 views of 3 atoms and 5 rows each."""
+    view = [[3] + head] + [atom] * 3 + rows
+    return [[1] + head] + [atom] * 6 + [[2] + head] + [atom] * 6 + view * 8
+
+
+FULL = full([5], [4, 2, 1], [[5, row] for row in range(1, 6)])
+LARGEST = full([-1, -2, -3, -4], [4, 9, -1, -2, -3, -4], [[5, row] + [999_999] * 3 for row in range(999_995, 1_000_000)])
+
+
+def papers_own():
+    heading("the paper's sheet and its judged examples: all are taken")
+    for text in [
+        PAPER,
+        "1 -1 -2 / 4 4 -1 -2 / 2 -1 -2 / 4 5 -1 -2 / 3 -1 -2 / 4 4 -1 -2",
+        "1 -1 -2 / 4 4 -1 -2 / 2 -1 -2 / 4 5 -1 -2 / 3 -1 -2 / 4 4 -1 -2 / 5 7 1 / 3 -1 -2 / 4 5 -1 -2 / 5 7 1",
+        "1 -1 / 4 4 -1 -2 / 2 7 / 4 4 7 -2 / 3 -1 / 4 4 -1 -2 / 5 7",
+        "1 -1 / 4 4 -1 -2 / 2 7 / 4 4 7 -2 / 3 -1 / 4 4 -1 -2 / 5 7 / 5 8",
+        joined(LEAST, "3 / 4 5 -1 -2 / 5 / 3 -1 -2 / 4 5 -1 -2"),
+        "1 -1 / 4 2 -1 / 4 10 -2 / 2 -1 / 4 2 -1 / 3 / 4 2 -1 / 4 10 -1",
+        "1 / 4 5 7 1 / 4 6 7 2 / 2 / 4 10 1 / 3 -1 / 4 5 7 -1 / 4 6 7 -1",
+        "1 / 4 5 7 1 / 4 6 7 1 / 2 / 4 10 1 / 3 -1 / 4 5 7 -1 / 4 6 7 -1",
+    ]:
+        both(text, TAKEN)
+    read_case(b"", (3, 0))
+    write_case([], (3, 0))
+
+
+def sizes():
+    heading("1: over 8,192 bytes, over 602 words")
+    tail = sheet(joined(PAPER, "5 7 2"))                    # 9 at line 9
+    read_case(tail + b" " * (8192 - len(tail)), (9, 9))
+    read_case(tail + b" " * (8193 - len(tail)), (1, 0), room=0)
+    words_602 = words_of(FULL)
+    assert len(words_602) == 602
+    write_case(words_602, TAKEN)
+    write_case(words_602 + words("5 9"), (1, 0))            # by its lines it would be 6 at line 87
+    write_case(words_602 + [0], (1, 0))
+    write_case(words_602 + [0] * 6, (1, 0), room=0)
+    write_case([0] * 609, (1, 0))
+    heading("2, line 0: the word count is no multiple of 7")
+    write_case(words_602[:601], (2, 0))
+    write_case(words_602[:596], (2, 0), room=0)
+    for count in (1, 6, 8, 13, 15, 27):
+        write_case(words(LEAST)[:count], (2, 0))
+    write_case([0], (2, 0))
+    write_case([9] * 8, (2, 0))
+    write_case(words(LEAST) + [0], (2, 0))
+    write_case(words("3 / 4 2 1") + [1], (2, 0))
+    heading("any multiple of 7 up to 602 goes on to the lines")
+    for count, want in ((7, (3, 0)), (14, (3, 0)), (21, (8, 3)), (28, TAKEN)):
+        write_case(words(LEAST)[:count], want)
+    for count, want in ((28, (3, 0)), (35, (3, 0)), (588, TAKEN), (595, TAKEN)):
+        write_case(words_602[:count], want)
+    heading("the largest sheets: 86 lines, 602 words")
+    read_case(sheet_of(FULL), TAKEN)
+    read_case(sheet_of(LARGEST), TAKEN)
+    write_case(words_of(LARGEST), TAKEN)
+    round_case(sheet_of(LARGEST))
+    round_case(sheet_of(FULL))
+    heading("line 87, which no sheet has, and many more lines")
+    for line, want in (("5 9", (6, 87)), ("5 -1", (5, 87)), ("3 1", (6, 87)), ("4 2 1", (3, 87)), ("9", (3, 87))):
+        read_case(sheet_of(FULL) + sheet(line), want)
+    read_case(sheet(joined(LEAST, VIEW_OF_ONE)) + sheet("5 1") * 470, (9, 8))
+    read_case(sheet("4 2 1") * 320, (3, 1))
+    read_case(b"\n" * 300, (2, 1))
+
+
+def line_lengths():
+    heading("2: a line's length is not 8 to 48 by eights")
+    for length in (0, 1, 7, 9, 15, 17, 23, 25, 47, 49, 55, 56, 57, 64):
+        line = (b"       1" * 8)[-length:] if length else b""
+        read_case(line + b"\n", (2, 1))
+        read_case(sheet(PLAIN) + line + b"\n" + sheet("2 / 4 2 1"), (2, 3))
+    read_case(b"\n" + sheet(LEAST), (2, 1))
+    read_case(sheet(LEAST) + b"\n", (2, 5))
+    read_case(sheet(PLAIN) + b"\n" + sheet("2 / 4 2 1"), (2, 3))
+    read_case(sheet(LEAST).replace(b"\n", b"\r\n"), (2, 1))
+    read_case(sheet(LEAST).replace(b"\n", b" \n"), (2, 1))
+    read_case(sheet(LEAST).replace(b"\n", b"\n\n"), (2, 2))
+    heading("lengths of 8 to 48 are taken")
+    read_case(sheet("1 / 4 2 1 / 2 / 4 4 1 1 / 4 3 1 1 1 / 4 9 1 1 1 1"), TAKEN)
+    heading("2: the last line is not closed")
+    read_case(sheet(LEAST)[:-1], (2, 4))
+    read_case(sheet(LEAST) + b" ", (2, 5))
+    read_case(sheet(LEAST) + b"       3", (2, 5))
+    read_case(sheet(LEAST) + b"x", (2, 5))
+    read_case(b"       1", (2, 1))
+    read_case(b" ", (2, 1))
+    read_case(b"x", (2, 1))
+    read_case(sheet("1 / 9 / 2 / 4 2 1")[:-1], (3, 2))      # an earlier line goes first
+    read_case(sheet("1") + b"       9", (2, 2))
+    read_case(sheet_of(FULL) + b"       9", (2, 87))
+
+
+# Eight bytes that are no field.
+BROKEN = [
+    b"        ", b"       -", b"-       ", b"      -0", b"      00", b"      01", b"     -01", b"00000001", b"-0000001",
+    b"00000000", b"      +1", b"     + 1", b"     1 1", b"1       ", b"      1 ", b"     1  ", b"\t      1", b"      1\t",
+    b"     - 5", b"-      5", b"     5 -", b"      5-", b"     --1", b"    1-1 ", b"     1-1", b"       a", b"      1a",
+    b"      a1", b"     0x1", b"     1e3", b"     1.0", b"   1,000", b"       \x00", b"\x00      1", b"       \xff",
+    b"\xff      1", b"\xa0      1", b"       /", b"       :", b"      1/", b"      1:", b"!!!!!!!1", b"       \x0b",
+    b"       \r", b"      1\r", b"       \xb2", b"      _1", b"     1_0", b"       \x1f", b"       \x7f",
+]
+
+
+def malformed():
+    heading("2: malformed fields, as a term and as a kind")
+    for field in BROKEN:
+        assert len(field) == 8
+        read_case(sheet("1") + b"       4       2" + field + b"\n" + sheet("2 / 4 2 1"), (2, 2))
+        read_case(field + b"\n" + sheet("4 2 1 / 2 / 4 2 1"), (2, 1))
+    heading("byte 10 inside a field closes the line there")
+    for field, want in ((b"   \n   1", (2, 2)), (b"      1\n", (2, 2)), (b"\n      1", (3, 2))):
+        read_case(sheet("1") + b"       4       2" + field + b"\n" + sheet("2 / 4 2 1"), want)
+        read_case(field + b"\n" + sheet("4 2 1 / 2 / 4 2 1"), (2, 1))
+    read_case(sheet("1") + b"       4       2       1\n       1\n" + sheet("2 / 4 2 1"), (3, 3))
+    heading("2: each field of a line is looked at")
+    fields = [b"       4", b"       9", b"       1", b"       2", b"       3", b"       4"]
+    for at in range(6):
+        line = b"".join(fields[:at] + [b"      0x"] + fields[at + 1:]) + b"\n"
+        read_case(sheet("1") + line + sheet("2 / 4 2 1"), (2, 2))
+    for good in range(5):
+        line = b"       5" + b"       1" * good + b"       -\n"
+        read_case(sheet(joined(LEAST, VIEW_OF_ONE)) + line, (2, 7))
+    heading("well formed at every width")
+    for number in (0, 9, 10, 99, 100, 999, 1000, 9999, 10_000, 99_999, 100_000, 999_999):
+        read_case(sheet(f"1 / 4 2 {number} / 2 / 4 2 1"), TAKEN)
+    heading("the widest numbers are well formed, and are refused by their place")
+    for number in (WIDEST, LOWEST, 10_000_000, -1_000_000):
+        both(f"{number} / 4 2 1 / 2 / 4 2 1", (3, 1))
+        both(f"1 / {number} 2 1 / 2 / 4 2 1", (3, 2))
+        both(f"1 / 4 {number} 1 / 2 / 4 2 1", (4, 2))
+        both(f"1 / 4 2 {number} / 2 / 4 2 1", (5, 2))
+        both(f"1 {number} / 4 2 1 / 2 1 / 4 2 1", (5, 1))
+        both(joined(LEAST, VIEW_OF_ONE, f"5 {number}"), (5, 7))
+
+
+def word_forms():
+    heading("2: field count not 1 to 6")
+    for count in (0, 7, 8, -1, -7, 256, 2**31 - 1, -2**31):
+        write_case([count] + [0] * 6, (2, 1))
+        write_case([count, 1, 0, 0, 0, 0, 0] + words(LEAST)[7:], (2, 1))
+        write_case(words(PLAIN) + [count, 2, 0, 0, 0, 0, 0] + words("4 2 1"), (2, 3))
+    write_case([0] * 7, (2, 1))
+    write_case([0] * 602, (2, 1))
+    write_case(words(LEAST) + [0] * 7, (2, 5))
+    heading("2: an unused word is not 0")
+    for at in range(4, 7):
+        for value in (1, -1, 4, 100_000_000, -2**31):
+            line = [3, 4, 2, 1, 0, 0, 0]
+            line[at] = value
+            write_case(words("1") + line + words("2 / 4 2 1"), (2, 2))
+    for at in range(2, 7):
+        line = [1, 1, 0, 0, 0, 0, 0]
+        line[at] = 1
+        write_case(line + words("4 2 1 / 2 / 4 2 1"), (2, 1))
+    write_case(words("1") + [2, 4, 2, 1, 0, 0, 0] + words("2 / 4 2 1"), (2, 2))
+    write_case(words("1") + [5, 4, 9, 1, 2, 3, 4] + words("2 / 4 2 1"), (2, 2))
+    heading("a field that is 0 is used where the count says so")
+    write_case(words("1") + [4, 4, 2, 1, 0, 0, 0] + words("2 / 4 2 1"), (4, 2))
+    write_case(words("1") + [4, 4, 4, 1, 0, 0, 0] + words("2 / 4 2 1"), TAKEN)
+    write_case(words("1") + [6, 4, 9, 0, 0, 0, 0] + words("2 / 4 2 1"), TAKEN)
+    write_case([2, 1, 0, 0, 0, 0, 0] + words("4 2 1") + [2, 2, 0, 0, 0, 0, 0] + words("4 2 1"), TAKEN)
+    write_case([2, 1, 0, 0, 0, 0, 0] + words("4 2 1 / 2 / 4 2 1"), (7, 3))
+    write_case(words("1") + [3, 0, 0, 0, 0, 0, 0] + words("2 / 4 2 1"), (3, 2))
+    heading("2: a number too wide for a field")
+    for value in (100_000_000, -10_000_000, 2**31 - 1, -2**31, 999_999_999, -100_000_000):
+        for at in range(1, 7):
+            line = [6, 4, 9, 1, 2, 3, 4]
+            line[at] = value
+            write_case(words("1") + line + words("2 / 4 2 1"), (2, 2))
+    for value in (100_000_000, -10_000_000):
+        write_case([1, value, 0, 0, 0, 0, 0], (2, 1))
+        write_case(words(joined(LEAST, VIEW_OF_ONE, f"5 {value}")), (2, 7))
+
+
+# After each beginning, what the sheet comes to when it ends with a line of kind 1 to 5.
+PLACES = [
+    ("at line 1", "", {1: (3, 0)}),
+    ("after the question's head", "1", {2: (8, 1), 4: (3, 0)}),
+    ("after the question's atom", PLAIN, {2: (8, 3), 4: (3, 0)}),
+    ("after the list's head", joined(PLAIN, "2"), {3: (8, 3), 4: TAKEN}),
+    ("after the list's atom", LEAST, {3: (8, 5), 4: TAKEN}),
+    ("after a view's head", joined(LEAST, "3"), {3: (8, 5), 4: TAKEN}),
+    ("after a view's atom", VIEW, {3: (8, 7), 4: TAKEN, 5: TAKEN}),
+    ("after a row", joined(LEAST, VIEW_OF_ONE, "5 7"), {3: (8, 8), 5: TAKEN}),
+    ("after a later view's head", joined(LEAST, VIEW_OF_ONE, "5 7 / 3"), {3: (8, 8), 4: TAKEN}),
+]
+
+
+def kinds():
+    for place, begin, results in PLACES:
+        heading(f"3: kinds {place}")
+        at = len(lines_in(begin)) + 1
+        for kind in (1, 2, 3, 4, 5, 0, 6, 7, -1, -4, LOWEST, WIDEST):
+            line = {4: "4 2 1", 5: "5 8" if begin.endswith("5 7") else "5"}.get(kind, str(kind))
+            both(joined(begin, line), results.get(kind, (3, at)))
+    heading("3: kinds that are no kind, with the fields of one that is")
+    for kind in (0, 6, -1, -4, 44):
+        both(joined(PLAIN, f"{kind} 2 1", "2 / 4 2 1"), (3, 3))
+    heading("3: out of place with the rest of the sheet behind it")
+    both("2 / 4 2 1 / 1 / 4 2 1", (3, 1))
+    both("3 / 4 2 1 / 1 / 4 2 1 / 2 / 4 2 1", (3, 1))
+    both("4 2 1 / 1 / 4 2 1 / 2 / 4 2 1", (3, 1))
+    both("5 / 1 / 4 2 1 / 2 / 4 2 1", (3, 1))
+    both("1 / 1 / 4 2 1 / 2 / 4 2 1", (3, 2))
+    both("1 / 4 2 1 / 1 / 4 2 1 / 2 / 4 2 1", (3, 3))
+    both("1 / 4 2 1 / 3 / 4 2 1 / 2 / 4 2 1", (3, 3))
+    both("1 / 4 2 1 / 5 / 2 / 4 2 1", (3, 3))
+    both("1 / 4 2 1 / 2 / 4 2 1 / 2 / 4 2 1", (3, 5))
+    both("1 / 4 2 1 / 2 / 5 / 4 2 1", (3, 4))
+    both(joined(VIEW, "2 / 4 2 1"), (3, 7))
+    both(joined(VIEW, "1 / 4 2 1"), (3, 7))
+    both(joined(LEAST, "3 1 / 5 7 / 4 2 1"), (3, 6))
+    both(joined(LEAST, VIEW_OF_ONE, "5 7 / 4 2 1"), (3, 8))
+    both(joined(LEAST, VIEW_OF_ONE, "5 7 / 4 2 1 / 5 8"), (3, 8))
+    both(joined(LEAST, VIEW_OF_ONE, "3 1 / 5 7"), (3, 8))
+    heading("3: impossible field counts")
+    both("1 / 4 / 2 / 4 2 1", (3, 2))
+    both("1 / 4 2 / 2 / 4 2 1", (3, 2))
+    both("1 / 4 10 / 2 / 4 2 1", (3, 2))
+    both("1 / 4 0 / 2 / 4 2 1", (3, 2))
+    both("1 1 2 3 4 5 / 4 2 1 / 2 / 4 2 1", (3, 1))
+    both("1 / 4 2 1 / 2 1 2 3 4 5 / 4 2 1", (3, 3))
+    both(joined(LEAST, "3 1 2 3 4 5 / 4 2 1"), (3, 5))
+    both(joined(LEAST, "3 1 2 3 4 / 4 2 1 / 5 1 2 3 4 5"), (3, 7))
+    both(joined(LEAST, "3 1 2 3 4 / 4 2 1 / 5 1 2 3 4"), TAKEN)
+    heading("3, line 0: the question or the list is missing")
+    both("1", (3, 0))
+    both("1 -1", (3, 0))
+    both("1 / 4 2 1", (3, 0))
+    both("1 -1 / 4 2 -2", (3, 0))
+    both("1 / 4 2 1 / 4 9 1 2 3 4", (3, 0))
+    heading("heads of 0 to 4 columns")
+    for count in range(5):
+        head = " ".join(str(-1 - at) for at in range(count))
+        row = " ".join("7" for _ in range(count))
+        atom = "4 9 -1 -2 -3 -4"
+        both(joined(f"1 {head}", atom, f"2 {head}", "4 9 -4 -3 -2 -1", f"3 {head}", atom, f"5 {row}"), TAKEN)
+
+
+def relations():
+    heading("4: each relation with 1 to 4 columns")
+    for relation in list(range(-1, 13)) + [256 + 2, 65536 + 4]:
+        for count in range(1, 5):
+            terms = " ".join("1" for _ in range(count))
+            both(f"1 / 4 {relation} {terms} / 2 / 4 2 1", TAKEN if COLUMNS.get(relation) == count else (4, 2))
+    heading("4: in the list and in a view, and not in a later atom only")
+    both(joined(PLAIN, "2 / 4 11 1"), (4, 4))
+    both(joined(PLAIN, "2 / 4 2 1 / 4 0 1"), (4, 5))
+    both(joined(LEAST, "3 / 4 4 1"), (4, 6))
+    both(joined(LEAST, "3 / 4 2 1 / 4 9 1 1 1"), (4, 7))
+    both(joined(VIEW, "3 / 4 10 1 / 4 10 1 / 4 10 1 1"), (4, 10))
+
+
+def terms():
+    heading("5: terms at the ends of the range, in each place")
+    begin = ["1 1", "4 2 1", "2 1", "4 2 1", "3 1", "4 2 1", "5 1"]
+    places = {"heads": [(1, 2), (3, 4), (5, 6)], "atoms": [(2,), (4,), (6,)], "row": [(7,)]}
+    for place, spots in places.items():
+        for spot in spots:
+            for value in (-13, -12, -1, 0, 999_999, 1_000_000):
+                lines = list(begin)
+                for at in spot:
+                    lines[at - 1] = lines[at - 1][:-1] + str(value)
+                fits = 0 <= value <= 999_999 or place != "row" and -12 <= value < 0
+                both(joined(*lines), TAKEN if fits else (5, spot[0]))
+    for value in (-14, -100, -256 - 1, 1_000_001, 16_777_216 + 1):
+        both(joined(f"1 / 4 2 {value} / 2 / 4 2 1"), (5, 2))
+        both(joined(LEAST, VIEW_OF_ONE, f"5 {value}"), (5, 7))
+    heading("5: in each column")
+    for at in range(4):
+        for value in (-13, 1_000_000):
+            columns = [1, 2, 3, 4]
+            columns[at] = value
+            row = " ".join(map(str, columns))
+            both(f"1 {row} / 4 2 1 / 2 1 1 1 1 / 4 2 1", (5, 1))
+            both(f"1 / 4 9 {row} / 2 / 4 2 1", (5, 2))
+            both(joined(LEAST, "3 1 1 1 1 / 4 2 1", f"5 {row}"), (5, 7))
+    heading("5: a variable in a row")
+    for value in (-1, -12):
+        for row in (f"{value} 9", f"9 {value}"):
+            both(joined(LEAST, "3 -1 -1 / 4 2 -1", f"5 {row}"), (5, 7))
+    both(joined(ROWS, "5 -1"), (5, 9))
+    heading("all twelve variables")
+    both("1 -1 -5 -9 -12 / 4 9 -1 -2 -3 -4 / 4 9 -5 -6 -7 -8 / 4 9 -9 -10 -11 -12 / 2 -12 -1 -12 -1 / 4 4 -12 -1", TAKEN)
+
+
+def too_many():
+    six = joined(*["4 2 1"] * 6)
+    three = joined(*["4 2 1"] * 3)
+    heading("6: the seventh atom of question or list, the fourth of a view")
+    both(joined("1", six, "2 / 4 2 1"), TAKEN)
+    both(joined("1", six, "4 2 1", "2 / 4 2 1"), (6, 8))
+    both(joined(PLAIN, "2", six), TAKEN)
+    both(joined(PLAIN, "2", six, "4 2 1"), (6, 10))
+    both(joined("1", six, "2", six), TAKEN)
+    both(joined("1", six, "2", six, "4 2 1"), (6, 15))
+    both(joined(LEAST, "3", three), TAKEN)
+    both(joined(LEAST, "3", three, "4 2 1"), (6, 9))
+    both(joined(LEAST, "3", three, "5", "3", three), TAKEN)
+    both(joined(LEAST, "3", three, "5", "3", three, "4 2 1"), (6, 14))
+    both(joined("1", six, "2", six, "3", three), TAKEN)
+    heading("6: the ninth view")
+    views = ["3 / 4 2 1"] * 8
+    both(joined(LEAST, *views), TAKEN)
+    both(joined(LEAST, *views, "3"), (6, 21))
+    both(joined(LEAST, *views, "3 / 4 2 1"), (6, 21))
+    both(joined(LEAST, *views, "5"), TAKEN)
+    both(joined(LEAST, *["3"] * 8), (8, 5))
+    both(joined(LEAST, *["3"] * 9), (6, 13))
+    heading("6: row 41, in one view and over several")
+    forty = joined(LEAST, VIEW_OF_ONE, FORTY)
+    both(forty, TAKEN)
+    both(joined(forty, "5 41"), (6, 47))
+    both(joined(forty, "5 40"), (6, 47))                    # not ascending: 6 goes before 9
+    both(joined(forty, "5 41 1"), (6, 47))                  # too long: 6 goes before 7
+    both(joined(forty, "5"), (6, 47))
+    both(joined(forty, "5 -1"), (5, 47))                    # a variable: 5 goes before 6
+    both(joined(forty, "5 1000000"), (5, 47))
+    both(joined(forty, "4 2 1"), (3, 47))
+    both(joined(forty, "3 1 / 4 2 1"), TAKEN)
+    both(joined(forty, "3 1 / 4 2 1 / 5 1"), (6, 49))
+    twenty = " / ".join(f"5 {row}" for row in range(20))
+    write_case(words(joined(LEAST, VIEW_OF_ONE, twenty, VIEW_OF_ONE, twenty)), TAKEN)
+    write_case(words(joined(LEAST, VIEW_OF_ONE, twenty, VIEW_OF_ONE, twenty, "5 20")), (6, 49))
+    write_case(words(joined(LEAST, VIEW_OF_ONE, "3 1 / 4 2 1", FORTY, VIEW_OF_ONE)), TAKEN)
+    write_case(words_of(FULL[:-1]) + words("4 2 1"), (3, 86))
+
+
+def head_lengths():
+    heading("7: the list's head and the question's")
+    for asked in range(5):
+        for listed in range(5):
+            both(joined("1" + " 1" * asked, "4 2 1", "2" + " 2" * listed, "4 2 1"), TAKEN if asked == listed else (7, 3))
+    heading("7: a row and its view's head")
+    for columns in range(5):
+        for values in range(5):
+            both(joined(LEAST, "3" + " 1" * columns, "4 2 1", "5" + " 7" * values), TAKEN if columns == values else (7, 7))
+    heading("7: a row is as long as its own view's head, and a view's head as long as it likes")
+    both(joined(LEAST, "3 1 1 / 4 2 1 / 5 7 7 / 3 1 / 4 2 1 / 5 7"), TAKEN)
+    both(joined(LEAST, "3 1 1 / 4 2 1 / 5 7 7 / 3 1 / 4 2 1 / 5 7 7"), (7, 10))
+    both(joined(LEAST, "3 1 1 / 4 2 1 / 5 7 7 / 5 7 8 9"), (7, 8))
+    both("1 1 1 / 4 2 1 / 2 1 1 / 4 2 1 / 3 1 / 4 2 1 / 5 1", TAKEN)
+    both("1 -1 / 4 2 -1 / 2 / 4 2 1", (7, 3))
+    both("1 / 4 2 1 / 2 -1 / 4 2 -1", (7, 3))
+
+
+def heads():
+    heading("8: a block without atoms")
+    both("1 / 2 / 4 2 1", (8, 1))
+    both("1 / 4 2 1 / 2", (8, 3))
+    both("1 / 2", (8, 1))
+    both("1 / 4 2 1 / 2 / 3 / 4 2 1", (8, 3))
+    both(joined(LEAST, "3"), (8, 5))
+    both(joined(LEAST, "3 / 3 / 4 2 1"), (8, 5))
+    both(joined(VIEW, "3"), (8, 7))
+    both(joined(VIEW, "5 / 3"), (8, 8))
+    both(joined(VIEW, "3 / 3 / 4 2 1"), (8, 7))
+    both("1 / 2 / 3", (8, 1))
+    both("1 / 2 / 3 / 3", (8, 1))
+    both("1 7 / 2 7 / 4 2 1", (8, 1))
+    heading("8: a head variable in no atom of its block")
+    both("1 -1 / 4 2 -2 / 2 -1 / 4 2 -1", (8, 1))
+    both("1 -1 / 4 2 -1 / 2 -1 / 4 2 -2", (8, 3))
+    both("1 -1 / 4 2 1 / 2 1 / 4 2 -1", (8, 1))
+    both("1 -1 / 4 2 -1 / 2 -2 / 4 2 1 / 3 / 4 2 -2", (8, 3))
+    both(joined(LEAST, "3 -1 / 4 2 -2"), (8, 5))
+    both(joined(LEAST, "3 -1 / 4 2 -2 / 5 7"), (8, 5))
+    both(joined(VIEW, "3 -1 / 4 2 -2"), (8, 7))
+    both(joined(LEAST, "3 -1 / 4 2 1 / 3 / 4 2 -1"), (8, 5))
+    both("1 -12 / 4 2 -1 / 2 -12 / 4 2 -12", (8, 1))
+    both("1 -1 / 4 2 1 / 2 -1 / 4 2 1", (8, 1))
+    both("1 -2 / 4 2 2 / 2 -2 / 4 2 -2", (8, 1))            # the relation's number, and the constant 2
+    for at in range(4):
+        head = [-1, -1, -1, -1]
+        head[at] = -2
+        row = " ".join(map(str, head))
+        both(f"1 {row} / 4 2 -1 / 2 {row} / 4 4 -1 -2", (8, 1))
+        both(f"1 {row} / 4 4 -1 -2 / 2 {row} / 4 2 -1", (8, 3))
+    heading("a head variable in any column of any atom, a head of constants, a variable twice")
+    for at in range(4):
+        atom = [1, 1, 1, 1]
+        atom[at] = -7
+        row = " ".join(map(str, atom))
+        both(f"1 -7 / 4 9 {row} / 2 7 / 4 2 1", TAKEN)
+        both(f"1 -7 / 4 2 1 / 4 2 -1 / 4 9 {row} / 2 7 / 4 2 1", TAKEN)
+    both("1 5 / 4 2 -1 / 2 6 / 4 2 1", TAKEN)
+    both("1 -1 -1 / 4 2 -1 / 2 -1 -1 / 4 2 -1", TAKEN)
+    both("1 -1 -2 / 4 2 -1 / 4 2 -2 / 2 -2 -1 / 4 2 -1 / 4 2 -2", TAKEN)
+    both("1 0 / 4 2 -1 / 2 0 / 4 2 1", TAKEN)
+    heading("8: the first head of several")
+    both("1 -1 / 4 2 1 / 2 -1 / 3 -1 / 4 2 1", (8, 1))
+    both("1 -1 / 2 -1 / 4 2 1", (8, 1))
+    both("1 1 / 4 2 1 / 2 -1 / 3 -1 / 4 2 1", (8, 3))
+    both(joined(LEAST, "3 -1 / 4 2 1 / 3 / 3"), (8, 5))
+    both(joined(LEAST, "3 / 3 -1 / 4 2 1"), (8, 5))
+
+
+def ascending():
+    heading("9: rows ascend strictly, column by column from the first")
+    pairs = [
+        ("7", "7", 9), ("7", "6", 9), ("7", "8", 0), ("9", "10", 0), ("10", "9", 9), ("2", "10", 0), ("100", "99", 9),
+        ("0", "0", 9), ("0", "1", 0), ("1", "0", 9), ("0", "999999", 0), ("999999", "0", 9), ("999999", "999999", 9),
+        ("7 1", "7 1", 9), ("7 1", "7 2", 0), ("7 2", "7 1", 9), ("7 9", "8 1", 0), ("8 1", "7 9", 9), ("7 1", "6 2", 9),
+        ("1 2 3", "1 2 4", 0), ("1 2 3", "1 2 3", 9), ("1 2 3", "1 1 9", 9), ("1 2 3", "1 3 0", 0),
+        ("1 2 3 4", "1 2 3 5", 0), ("1 2 3 4", "1 2 3 4", 9), ("1 2 3 4", "1 2 3 3", 9), ("1 2 3 4", "1 2 4 0", 0),
+        ("1 2 3 4", "1 2 2 9", 9), ("1 2 3 4", "1 3 0 0", 0), ("1 2 3 4", "1 1 9 9", 9), ("1 2 3 4", "2 0 0 0", 0),
+        ("1 2 3 4", "0 9 9 9", 9), ("0 0 0 0", "0 0 0 1", 0), ("0 0 0 0", "0 0 0 0", 9), ("65536 1", "1 2", 9),
+    ]
+    for first, second, number in pairs:
+        head = "3" + " 1" * len(first.split())
+        both(joined(LEAST, head, "4 2 1", f"5 {first} / 5 {second}"), (9, 8) if number else TAKEN)
+    both(joined(VIEW, "5"), TAKEN)
+    both(joined(VIEW, "5 / 5"), (9, 8))
+    both(joined(VIEW, "5 / 3 / 4 2 1 / 5"), TAKEN)
+    both(joined(LEAST, VIEW_OF_ONE, "5 1 / 5 3 / 5 2"), (9, 9))
+    both(joined(LEAST, VIEW_OF_ONE, "5 1 / 5 3 / 5 3"), (9, 9))
+    both(joined(LEAST, VIEW_OF_ONE, "5 1 / 5 3 / 5 1 / 5 4"), (9, 9))
+    both(joined(LEAST, VIEW_OF_ONE, "5 5 / 5 6", VIEW_OF_ONE, "5 1 / 5 2"), TAKEN)
+    both(joined(LEAST, VIEW_OF_ONE, "5 5 / 5 6", VIEW_OF_ONE, "5 6"), TAKEN)
+    both(joined(LEAST, VIEW_OF_ONE, "5 5", VIEW_OF_ONE, "5 6 / 5 6"), (9, 11))
+
+
+# One sheet for each number that its lines can be sent back by, with its line.
+BAD = {
+    2: ("1 / 4 2 1 / 2 / 4 2 1", 2), 3: ("1 / 4 2 1 / 2 / 4 2 1 / 5", 5), 4: ("1 / 4 11 1 / 2 / 4 2 1", 2),
+    5: ("1 / 4 2 -13 / 2 / 4 2 1", 2), 6: (joined("1", *["4 2 1"] * 7, "2 / 4 2 1"), 8), 7: ("1 / 4 2 1 / 2 1 / 4 2 1", 3),
+    8: ("1 / 4 2 1 / 2", 3), 9: (joined(VIEW, "5 / 5"), 8),
+}
+
+
+def lent():
+    heading("13: reading is lent 602 words or more, whatever the sheet needs")
+    for room in (0, 1, 6, 7, 27, 28, 29, 600, 601):
+        read_case(sheet(LEAST), (13, 0), room)
+    for room in (602, 603, 609, 640, 704):
+        read_case(sheet(LEAST), TAKEN, room)
+        read_case(sheet(PAPER), TAKEN, room)
+    read_case(sheet_of(FULL), (13, 0), 601)
+    heading("13: writing is lent 4,214 bytes or more")
+    for room in (0, 1, 8, 67, 68, 69, 4096, 4213):
+        write_case(words(LEAST), (13, 0), room)
+    for room in (4214, 4215, 4300, 4352):
+        write_case(words(LEAST), TAKEN, room)
+        write_case(words(PAPER), TAKEN, room)
+    write_case(words_of(FULL), (13, 0), 4213)
+    heading("13 comes last")
+    for number, (text, line) in BAD.items():
+        for words_lent, bytes_lent in ((0, 0), (601, 4213), (602, 4214), (704, 4352)):
+            page, form = sheet(text), words(text)
+            if number == 2:
+                page, form = page.replace(b"2       1\n", b"2      01\n", 1), form[:7] + [9] + form[8:]
+            read_case(page, (number, line), words_lent)
+            write_case(form, (number, line), bytes_lent)
+    for room in (0, 601):
+        read_case(b"", (3, 0), room)
+        read_case(sheet("1 -1"), (3, 0), room)
+    for room in (0, 4213):
+        write_case([], (3, 0), room)
+        write_case(words("1 -1"), (3, 0), room)
+        write_case([1], (2, 0), room)
+
+
+def within_a_line():
+    heading("two causes in one line: the first of 2, 3, 4, 5, 6, 7, 9")
+    six = joined("1", *["4 2 1"] * 6)
+    nine = joined(LEAST, *["3 / 4 2 1"] * 8)
+    two = joined(LEAST, "3 1 1 / 4 2 1 / 5 7 7")
+    forty = joined(LEAST, VIEW_OF_ONE, FORTY)
+    broken = b"      0x\n"
+    for before, line in [
+        ("1", "9 2"), ("1", "5 1"), ("1", "4"), ("1", "4 2"),                       # 3
+        ("1", "4 11"), ("1", "4 2 1 1"),                                            # 4
+        ("1", "4 4 -13"), (two, "5 -1"),                                            # 5
+        (six, "4 2"), (nine, "3"), (nine, "3 1 1"),                                 # 6
+        (PLAIN, "2"), (two, "5 8"), (two, "5 8 8"),                                 # 7
+        (two, "5 7"), (two, "5 6"), (two, "5 7 6"),                                 # 9
+    ]:
+        read_case(sheet(before) + sheet(line)[:-1] + broken + sheet("2 / 4 2 1"), (2, len(lines_in(before)) + 1))
+    read_case(sheet(forty) + b"       5" + broken, (2, 47))
+    for before, line, number in [
+        (two, "4 11 1", 3), (two, "4 2 1 1", 3), (PLAIN, "1 1000000", 3), (PLAIN, "3 -13", 3), ("1", "5 -1", 3),
+        (joined(LEAST, "3 / 4 2 1 / 4 2 1 / 4 2 1 / 5"), "4 2 1", 3), (six, "4 2", 3), (six, "4", 3),
+        (nine, "3 1 2 3 4 5", 3), (nine, "2", 3), (nine, "1", 3), (LEAST, "2 1", 3), (LEAST, "2 -13", 3),
+        (joined(LEAST, "3 1"), "5", 3), (joined(LEAST, "3 1"), "5 7 7", 3), (two, "5 8 8 8 8 8", 3), (two, "5 -1 1 1 1 1", 3),
+        (two, "5 7 7 7 7 7", 3), (two, "4 2 -13", 3), (two, "6 6 6", 3), (nine, "0", 3),
+        ("1", "4 11 1000000", 4), ("1", "4 0 -13", 4), ("1", "4 2 -13 -13", 4), ("1", "4 9 1000000", 4),
+        (six, "4 0 1", 4), (six, "4 2 1 1", 4), (six, "4 11 -13", 4), (joined(LEAST, "3", *["4 2 1"] * 3), "4 4 1", 4),
+        (six, "4 2 -13", 5), (six, "4 2 1000000", 5), (nine, "3 1000000", 5), (nine, "3 -13", 5),
+        (joined(LEAST, "3", *["4 2 1"] * 3), "4 2 -13", 5), (PLAIN, "2 -13", 5), (PLAIN, "2 1 1000000", 5),
+        (two, "5 -1", 5), (two, "5 -1 8", 5), (two, "5 -1 8 9", 5), (two, "5 8 -1", 5), (two, "5 6 1000000", 5),
+        (two, "5 1000000", 5), (two, "5 7 -12", 5),
+        (two, "5 7", 7), (two, "5 6", 7), (two, "5", 7), (two, "5 7 7 7", 7), (two, "5 6 9 9", 7), (two, "5 7 6 9", 7),
+        (two, "5 7 6", 9), (two, "5 7 7", 9), (two, "5 6 8", 9),
+    ]:
+        both(joined(before, line), (number, len(lines_in(before)) + 1))
+
+
+def across_lines():
+    heading("a cause in an early line and one in a late line: the early line decides")
+    base = lines_in(joined(PAPER, "3 -1 / 4 2 -1 / 5 3 / 5 4"))
+    early = {
+        2: (2, [[4, 4, -1, "bad"]]), 3: (2, [[5, 1, 1]]), 4: (2, [[4, 11, -1, -2]]), 5: (2, [[4, 4, -1, -13]]),
+        6: (2, [[4, 4, -1, -2]] * 7), 7: (3, [[2, -1]]), 9: (8, [[5, 7, 1]]),
+    }
+    late = {
+        2: (12, [[5, "bad"]]), 3: (12, [[4, 2, -1]]), 4: (10, [[4, 2, -1, -1]]), 5: (12, [[5, -4]]),
+        6: (10, [[4, 2, -1]] * 4), 7: (12, [[5, 4, 4]]), 9: (12, [[5, 3]]),
+    }
+
+    def page(lines):
+        """The bytes of lines in which "bad" stands for a malformed field, and the words, with one that is too wide."""
+        text = sheet_of([[-7_777_777 if field == "bad" else field for field in line] for line in lines])
+        form = words_of([[100_000_000 if field == "bad" else field for field in line] for line in lines])
+        return text.replace(b"-7777777", b"      0x"), form
+
+    for first, (at, put) in early.items():
+        where = at + len(put) - 1
+        for second, (later, later_put) in late.items():
+            lines = base[:later - 1] + later_put + base[later:]
+            lines = lines[:at - 1] + put + lines[at:]
+            text, form = page(lines)
+            read_case(text, (first, where))
+            write_case(form, (first, where))
+    heading("a head's cause in line 1 and one in a late line: the late line decides")
+    for second, (later, put) in late.items():
+        for first in ([[1, -1, -3], [4, 4, -1, -2]], [[1, -1, -2]]):
+            lines = first + base[2:later - 1] + put + base[later:]
+            text, form = page(lines)
+            where = later + len(put) - 1 - (2 - len(first))
+            read_case(text, (second, where))
+            write_case(form, (second, where))
+    heading("a missing list goes before a head's cause, and a late line before the missing list")
+    both("1 -1 / 4 2 1", (3, 0))
+    both("1 -1 / 4 2 -13", (5, 2))
+    both("1 -1 / 9", (3, 2))
+    both("1 -1 / 4 11 1", (4, 2))
+    read_case(sheet("1 -1") + b"       4\n" + b"       -\n", (3, 2))
+    read_case(sheet("1 -1") + b"       -\n", (2, 2))
+    read_case(sheet("1 -1") + b"       4", (2, 2))
+    both(joined("1 -1", *["4 2 1"] * 7), (6, 8))
+    heading("a list head of another length before a malformed field one line below")
+    read_case(sheet("1 -1 / 4 2 -1 / 2") + b"       4       2      0x\n", (7, 3))
+    write_case(words("1 -1 / 4 2 -1 / 2") + [9] * 7, (7, 3))
+
+
+def lines_handed_back():
+    heading("lines: 0, each line, the next, very large numbers")
+    numbers = (0, 1, 2, 3, 4, 5, 6, 255, 256, 257, 2**31, 2**32, 2**32 + 1, 2**63, 2**63 + 1, 2**64 - 2, 2**64 - 1)
+    for number in numbers:
+        line_case(sheet(LEAST), number, sheet(LEAST).split(b"\n")[number - 1] if 1 <= number <= 4 else b"")
+    for number in range(10):
+        line_case(sheet(PAPER), number)
+    heading("lines of any bytes")
+    for text, expected in [
+        (b"", [b""]), (b"\n", [b""]), (b"\n\n", [b"", b""]), (b"a", [b""]), (b"a\n", [b"a"]), (b"a\nb", [b"a", b""]),
+        (b"a\nb\n", [b"a", b"b"]), (b"\na\n", [b"", b"a"]), (b"\n\na\n", [b"", b"", b"a"]), (b"a\n\nb\n", [b"a", b"", b"b"]),
+        (b"a\n\n\nbc\nd", [b"a", b"", b"", b"bc", b""]), (b"no byte ten at all", [b""]),
+        (bytes(range(256)), [bytes(range(10)), b""]), (bytes(range(255, -1, -1)), [bytes(range(255, 10, -1)), b""]),
+        (b"\x00\n\xff\n\r\n", [b"\x00", b"\xff", b"\r"]), (b"x" * 300 + b"\n" + b"y" * 9 + b"\n", [b"x" * 300, b"y" * 9]),
+        (b" \n  \n   \n    ", [b" ", b"  ", b"   ", b""]), (b"\n" * 300 + b"z\n", [b""]),
+    ]:
+        for number in range(len(expected) + 2):
+            line_case(text, number, expected[number - 1] if 1 <= number <= len(expected) else b"")
+    many = b"\n" * 300 + b"z\n"
+    for number in (44, 45, 300, 301, 302):
+        line_case(many, number, b"z" if number == 301 else b"")
+    heading("lines of a sheet over 8,192 bytes")
+    line_case(b" " * 8190 + b"\nlate\n", 2, b"late")
+
+
+# --- Generated cases ------------------------------------------------------------------------------------------------
+
+
+class Dice:
+    """Numbers that look drawn by chance and are the same in each run."""
+
+    def __init__(self, seed):
+        self.state = seed
+
+    def below(self, count):
+        self.state = (self.state * 6364136223846793005 + 1442695040888963407) % 2**64
+        return (self.state >> 33) % count
+
+    def one(self, items):
+        return items[self.below(len(items))]
+
+
+CONSTANTS = (0, 1, 2, 7, 7, 8, 10, 42, 500, 9999, 123_456, 999_998, 999_999)
+
+
+def some_atoms(dice, count):
+    """Atoms of a block, over few variables."""
+    names = [-1 - dice.below(12) for _ in range(1 + dice.below(4))]
+    atoms = []
+    for _ in range(count):
+        relation = 1 + dice.below(10)
+        terms = [dice.one(names) if dice.below(3) else dice.one(CONSTANTS) for _ in range(COLUMNS[relation])]
+        atoms.append([4, relation] + terms)
+    return atoms
+
+
+def some_block(dice, kind, columns, count):
+    """A head and atoms: each head variable stands in an atom."""
+    atoms = some_atoms(dice, count)
+    held = [term for atom in atoms for term in atom[2:] if term < 0]
+    head = [dice.one(held) if held and dice.below(4) else dice.one(CONSTANTS) for _ in range(columns)]
+    return [[kind] + head] + atoms
+
+
+def some_sheet(dice, size):
+    """Lines of a sheet that is taken: small at size 1, up to every limit at size 6."""
+    most = {1: 2, 2: 3, 6: 6}[size]
+    columns = dice.below(5)
+    lines = some_block(dice, 1, columns, 1 + dice.below(most)) + some_block(dice, 2, columns, 1 + dice.below(most))
+    left = MOST_ROWS
+    for _ in range(dice.below({1: 2, 2: 4, 6: 9}[size])):
+        columns = dice.below(5)
+        lines += some_block(dice, 3, columns, 1 + dice.below(min(most, 3)))
+        rows = {tuple(dice.one(CONSTANTS) for _ in range(columns)) for _ in range(dice.below({1: 3, 2: 5, 6: 9}[size]))}
+        rows = sorted(rows)[:left]
+        left -= len(rows)
+        lines += [[5] + list(row) for row in rows]
+    return lines
+
+
+ODD_FIELDS = (-9_999_999, -14, -13, -12, -1, 0, 1, 2, 3, 4, 5, 6, 7, 9, 10, 11, 12, 999_999, 1_000_000, 99_999_999)
+
+
+def damaged_lines(dice, lines):
+    """The same lines with one thing changed: a field, a field more or less, a line gone, twice, moved or put in."""
+    lines = [list(line) for line in lines]
+    at = dice.below(len(lines))
+    line = lines[at]
+    way = dice.below(10)
+    if way < 4:
+        line[dice.below(len(line))] = dice.one(ODD_FIELDS)
+    elif way == 4:
+        line.append(dice.one(ODD_FIELDS))
+    elif way == 5 and len(line) > 1:
+        line.pop(1 + dice.below(len(line) - 1))
+    elif way == 6:
+        del lines[at]
+    elif way == 7:
+        lines.insert(at, list(line))
+    elif way == 8:
+        other = dice.below(len(lines))
+        lines[at], lines[other] = lines[other], lines[at]
+    else:
+        lines.insert(at, dice.one([[1], [2], [3, 1], [4, 2, 1], [5, 7], [5], [4, 11, 1], [9], [3], [4, 2, -12]]))
+    return lines
+
+
+def damaged_bytes(dice, text):
+    """The same bytes with one of them changed, left out or put in."""
+    at = dice.below(len(text))
+    byte = bytes([dice.one(b"  0123456789--\n\n\x00\xffa+\t")])
+    way = dice.below(8)
+    if way == 0:
+        return text[:at] + text[at + 1:]
+    if way == 1:
+        return text[:at] + byte + text[at:]
+    return text[:at] + byte + text[at + 1:]
+
+
+def random_lines(dice):
+    """A few lines that often, but not always, come in a sheet's order."""
+    lines, before = [], 0
+    for _ in range(1 + dice.below(9)):
+        usual = {0: [1], 1: [4, 4, 2], 2: [4, 4, 3], 3: [4, 4, 3], 4: [4, 2, 3, 5, 5], 5: [5, 5, 3]}[before]
+        kind = dice.one(usual) if dice.below(9) else dice.below(7)
+        if kind == 4:
+            relation = 1 + dice.below(10) if dice.below(15) else dice.below(13)
+            count = COLUMNS.get(relation, 1) if dice.below(15) else 1 + dice.below(4)
+            terms = [dice.one((-1, -1, -2, 1, 7)) for _ in range(count)]
+            if not dice.below(12):
+                terms[0] = dice.one((-13, 1_000_000))
+            line = [4, relation] + terms
+        elif kind == 5:
+            line = [5] + [dice.below(12) for _ in range(dice.one((1, 1, 1, 2, 0)))]
+        else:
+            line = [kind] + [dice.one((-1, -1, 1, -2)) for _ in range(dice.one((1, 1, 1, 1, 2, 0)))]
+        lines.append(line)
+        before = kind if 1 <= kind <= 5 else 1
+    return lines
+
+
+def spread(make, keep, count, most):
+    """Makes cases until `count` are kept, at most `most` of each number that the sheet is sent back by."""
+    kept = collections.Counter()
+    for _ in range(100 * count):
+        case = make()
+        number = keep(case, False)
+        if kept[number] < most:
+            kept[number] += 1
+            keep(case, True)
+        if sum(kept.values()) == count:
+            return
+    raise AssertionError("too few cases of their kind")
+
+
+def keep_read(text, really):
+    if really:
+        read_case(text)
+    return read(text, MOST_WORDS)[0]
+
+
+def keep_write(form, really):
+    if really:
+        write_case(form)
+    return write(form, LENT_BYTES)[0]
+
+
+def generated():
+    dice = Dice(1)
+    heading("generated: sheets that are taken, read and written again")
+    for at in range(60):
+        lines = some_sheet(dice, 6 if at % 20 == 0 else 2 if at % 4 == 0 else 1)
+        round_case(sheet_of(lines), dice.one((4214, 4352)))
+    heading("generated: the same, in a call each")
+    for _ in range(12):
+        lines = some_sheet(dice, 1)
+        read_case(sheet_of(lines), TAKEN, dice.one((602, 603, 704)))
+        write_case(words_of(lines), TAKEN, dice.one((4214, 4215, 4352)))
+    heading("generated: damaged in one byte")
+    spread(lambda: damaged_bytes(dice, sheet_of(some_sheet(dice, 1))), keep_read, 110, 40)
+    heading("generated: damaged in one line")
+    spread(lambda: sheet_of(damaged_lines(dice, some_sheet(dice, 1))), keep_read, 90, 16)
+    heading("generated: damaged in two lines")
+    spread(lambda: sheet_of(damaged_lines(dice, damaged_lines(dice, some_sheet(dice, 1)))), keep_read, 60, 10)
+    heading("generated: the number form damaged in one line")
+    spread(lambda: words_of(damaged_lines(dice, some_sheet(dice, 1))), keep_write, 120, 20)
+    heading("generated: the number form damaged in one word")
+
+    def one_word():
+        form = words_of(some_sheet(dice, 1))
+        form[dice.below(len(form))] = dice.one(ODD_FIELDS + (100_000_000, -10_000_000, 2**31 - 1, -2**31))
+        return form
+
+    spread(one_word, keep_write, 110, 40)
+    heading("generated: small sheets of lines drawn by chance")
+    spread(lambda: sheet_of(random_lines(dice)), keep_read, 90, 18)
+    spread(lambda: words_of(random_lines(dice)), keep_write, 90, 18)
+    heading("generated: lines of bytes drawn by chance")
+    for _ in range(60):
+        text = bytes(dice.one(b"\n\n\n 1x\x00\xff\r-") for _ in range(dice.below(40)))
+        line_case(text, dice.below(text.count(b"\n") + 2))
+
+
+def main():
+    papers_own()
+    sizes()
+    line_lengths()
+    malformed()
+    word_forms()
+    kinds()
+    relations()
+    terms()
+    too_many()
+    head_lengths()
+    heads()
+    ascending()
+    lent()
+    within_a_line()
+    across_lines()
+    lines_handed_back()
+    generated()
+    texts = ["".join(line + "\n" for line in lines).encode("ascii") for lines in (given, wanted)]
+    assert all(0 < len(line) < HELD_LINE and ("|" in line) != line.startswith("#") for line in given)
+    calls = {"r": "read", "w": "write", "l": "line", "b": "round trip"}
+    for (call, cause), count in sorted(tally.items(), key=lambda item: (item[0][0], str(item[0][1]).rjust(4))):
+        print(f"{calls[call]:>10} {cause:>4} {count:>5}")
+    print(f"{sum(tally.values())} cases, {len(texts[0])} bytes of input, {len(texts[1])} bytes of output")
+    for path, text in zip((STDIN, STDOUT), texts):
+        if "--check" in sys.argv[1:]:
+            if path.read_bytes() != text:
+                sys.exit(f"{path} is not what is made here")
+        else:
+            path.write_bytes(text)
+
+
+if __name__ == "__main__":
+    main()
