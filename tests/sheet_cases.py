@@ -1,9 +1,8 @@
 #!/usr/bin/env python3
 """Cases for the calls that read a sheet, write one and hand back a line, with the results they must give.
 
-This is an independent reading of the format. It is written from the text of the paper "Questions, saved lists and the
-logs behind them" alone ("The sheet", "Causes for sending back"), and shares nothing with the library. The stored results
-(crates/sheet_tests/stdout) come from it and not from the library.
+This is an independent reading of the format: it is written from the format's description in words alone, and shares
+nothing with the library. The stored results (crates/sheet_tests/stdout) come from it and not from the library.
 
     python3 tests/sheet_cases.py            writes crates/sheet_tests/stdin and crates/sheet_tests/stdout
     python3 tests/sheet_cases.py --check    only says whether those two files are what it would write
@@ -11,7 +10,7 @@ logs behind them" alone ("The sheet", "Causes for sending back"), and shares not
 Run it at the repository's root. It draws no chance from outside: each run writes the same bytes.
 
 A case is one line of stdin, its result the same line of stdout (the program's src/main.rt says how they are written).
-Beside every case that is written by hand stands what the paper says of it, as (number, line), and the reading below has
+Beside every case that is written by hand stands what the description says of it, as (number, line), and the reading below has
 to agree with that before anything is stored.
 """
 import collections
@@ -20,10 +19,19 @@ import sys
 
 # --- The format -----------------------------------------------------------------------------------------------------
 
-# The paper's table, and from it how many columns each relation has.
-RELATIONS = """1 Rower(rower, crew); 2 Strap(strap); 3 Worn(strap, session, rower); 4 Sig(strap, tick); 5 Beat(strap, tick);
-6 Noise(strap, tick); 7 Pulse(strap, tick, rate); 8 Coach(coach, crew); 9 Seat(rower, session, boat, seat); 10 Pause(session)"""
-COLUMNS = {int(relation.split()[0]): relation.count(",") + 1 for relation in RELATIONS.split(";")}
+# The relations by number, and how many columns each has.
+COLUMNS = {
+    1: 2,   # Rower
+    2: 1,   # Strap
+    3: 3,   # Worn
+    4: 2,   # Sig
+    5: 2,   # Beat
+    6: 2,   # Noise
+    7: 3,   # Pulse
+    8: 2,   # Coach
+    9: 4,   # Seat
+    10: 1,  # Pause
+}
 
 MOST_BYTES = 8192           # of a sheet that is read
 MOST_WORDS = 602            # of a number form, and what reading must be lent
@@ -239,7 +247,7 @@ def heading(text):
 
 
 def agree(want, number, line, what):
-    """Stops where the paper, as it stands beside the case, and the reading above differ."""
+    """Stops where what stands beside the case and the reading above differ."""
     if want is not None and want != (number, line):
         sys.exit(f"the reading gives {(number, line)} and not {want}: {what}")
 
@@ -276,7 +284,7 @@ def round_case(sheet, room=LENT_BYTES):
 
 
 def lines_in(text):
-    """Lines of numbers from the paper's way to show a sheet: fields by single spaces, lines by " / "."""
+    """Lines of numbers from a sheet in short: fields by single spaces, lines by " / "."""
     return [[int(field) for field in line.split()] for line in text.split(" / ")] if text else []
 
 
@@ -304,7 +312,7 @@ TAKEN = (0, 0)
 LEAST = "1 / 4 2 1 / 2 / 4 2 1"
 VIEW = joined(LEAST, "3 / 4 2 1")
 ROWS = joined(LEAST, "3 -1 / 4 2 -1 / 5 7 / 5 9")
-PAPER = "1 -1 -2 / 4 4 -1 -2 / 2 -1 -2 / 4 5 -1 -2 / 3 -1 -2 / 4 4 -1 -2 / 5 7 1 / 5 7 2"
+SIGNALS = "1 -1 -2 / 4 4 -1 -2 / 2 -1 -2 / 4 5 -1 -2 / 3 -1 -2 / 4 4 -1 -2 / 5 7 1 / 5 7 2"
 PLAIN = "1 / 4 2 1"                                         # a question
 VIEW_OF_ONE = "3 1 / 4 2 1"                                 # a view of one column
 FORTY = " / ".join(f"5 {row}" for row in range(1, 41))      # forty rows for it
@@ -320,10 +328,10 @@ FULL = full([5], [4, 2, 1], [[5, row] for row in range(1, 6)])
 LARGEST = full([-1, -2, -3, -4], [4, 9, -1, -2, -3, -4], [[5, row] + [999_999] * 3 for row in range(999_995, 1_000_000)])
 
 
-def papers_own():
-    heading("the paper's sheet and its judged examples: all are taken")
+def worked_sheets():
+    heading("a worked sheet and judged examples: all are taken")
     for text in [
-        PAPER,
+        SIGNALS,
         "1 -1 -2 / 4 4 -1 -2 / 2 -1 -2 / 4 5 -1 -2 / 3 -1 -2 / 4 4 -1 -2",
         "1 -1 -2 / 4 4 -1 -2 / 2 -1 -2 / 4 5 -1 -2 / 3 -1 -2 / 4 4 -1 -2 / 5 7 1 / 3 -1 -2 / 4 5 -1 -2 / 5 7 1",
         "1 -1 / 4 4 -1 -2 / 2 7 / 4 4 7 -2 / 3 -1 / 4 4 -1 -2 / 5 7",
@@ -340,7 +348,7 @@ def papers_own():
 
 def sizes():
     heading("1: over 8,192 bytes, over 602 words")
-    tail = sheet(joined(PAPER, "5 7 2"))                    # 9 at line 9
+    tail = sheet(joined(SIGNALS, "5 7 2"))                    # 9 at line 9
     read_case(tail + b" " * (8192 - len(tail)), (9, 9))
     read_case(tail + b" " * (8193 - len(tail)), (1, 0), room=0)
     words_602 = words_of(FULL)
@@ -749,14 +757,14 @@ def lent():
         read_case(sheet(LEAST), (13, 0), room)
     for room in (602, 603, 609, 640, 704):
         read_case(sheet(LEAST), TAKEN, room)
-        read_case(sheet(PAPER), TAKEN, room)
+        read_case(sheet(SIGNALS), TAKEN, room)
     read_case(sheet_of(FULL), (13, 0), 601)
     heading("13: writing is lent 4,214 bytes or more")
     for room in (0, 1, 8, 67, 68, 69, 4096, 4213):
         write_case(words(LEAST), (13, 0), room)
     for room in (4214, 4215, 4300, 4352):
         write_case(words(LEAST), TAKEN, room)
-        write_case(words(PAPER), TAKEN, room)
+        write_case(words(SIGNALS), TAKEN, room)
     write_case(words_of(FULL), (13, 0), 4213)
     heading("13 comes last")
     for number, (text, line) in BAD.items():
@@ -812,7 +820,7 @@ def within_a_line():
 
 def across_lines():
     heading("a cause in an early line and one in a late line: the early line decides")
-    base = lines_in(joined(PAPER, "3 -1 / 4 2 -1 / 5 3 / 5 4"))
+    base = lines_in(joined(SIGNALS, "3 -1 / 4 2 -1 / 5 3 / 5 4"))
     early = {
         2: (2, [[4, 4, -1, "bad"]]), 3: (2, [[5, 1, 1]]), 4: (2, [[4, 11, -1, -2]]), 5: (2, [[4, 4, -1, -13]]),
         6: (2, [[4, 4, -1, -2]] * 7), 7: (3, [[2, -1]]), 9: (8, [[5, 7, 1]]),
@@ -864,7 +872,7 @@ def lines_handed_back():
     for number in numbers:
         line_case(sheet(LEAST), number, sheet(LEAST).split(b"\n")[number - 1] if 1 <= number <= 4 else b"")
     for number in range(10):
-        line_case(sheet(PAPER), number)
+        line_case(sheet(SIGNALS), number)
     heading("lines of any bytes")
     for text, expected in [
         (b"", [b""]), (b"\n", [b""]), (b"\n\n", [b"", b""]), (b"a", [b""]), (b"a\n", [b"a"]), (b"a\nb", [b"a", b""]),
@@ -1062,7 +1070,7 @@ def generated():
 
 
 def main():
-    papers_own()
+    worked_sheets()
     sizes()
     line_lengths()
     malformed()
