@@ -4,7 +4,7 @@ ghost use lib.ListN.{length};
 use libc::STDIN_FILENO;
 
 // Reads a line, without its byte 10, and returns its length: 0 at the end of the input.
-pub fn line(out: &mut [u8]) -> usize
+pub(crate) fn line(out: &mut [u8]) -> usize
     ensures { λ r. ⌜ r ≤ length (now (out .exit)) ⌝ }
 {
     let mut n = 0;
@@ -29,7 +29,7 @@ fn next() -> u8 {
 }
 
 // The place of the first byte from `from` on that is a or b, or the length where there is none.
-pub fn find(s: &[u8], from: usize, a: u8, b: u8) -> usize
+pub(crate) fn find(s: &[u8], from: usize, a: u8, b: u8) -> usize
     requires { ⌜ from ≤ length (now s) ⌝ }
     ensures { λ r. ⌜ (from ≤ r) × (r ≤ length (now (s .entry))) ⌝ }
 {
@@ -48,7 +48,7 @@ pub fn find(s: &[u8], from: usize, a: u8, b: u8) -> usize
 }
 
 // The number that the digits of s make, or the largest one where that is larger. Other bytes are passed over.
-pub fn number(s: &[u8]) -> usize {
+pub(crate) fn number(s: &[u8]) -> usize {
     let mut n: usize = 0;
     let mut i = 0;
     while i < s.len() {
@@ -99,7 +99,7 @@ fn below(n: usize) -> i32 {
 }
 
 // Puts the words of text at the start of out, which holds zeros, and returns how many they are.
-pub fn words(text: &[u8], out: &mut [i32]) -> usize
+pub(crate) fn words(text: &[u8], out: &mut [i32]) -> usize
     ensures { λ r. ⌜ r ≤ length (now (out .exit)) ⌝ }
 {
     let mut n = 0;
@@ -136,7 +136,7 @@ fn sevens(n: usize) -> usize {
 }
 
 // Puts the bytes that text stands for at the start of out, and returns how many they are.
-pub fn bytes(text: &[u8], out: &mut [u8]) -> usize
+pub(crate) fn bytes(text: &[u8], out: &mut [u8]) -> usize
     ensures { λ r. ⌜ r ≤ length (now (out .exit)) ⌝ }
 {
     let mut n = 0;

@@ -2,18 +2,18 @@
 use format::Ending;
 use libc::STDOUT_FILENO;
 
-pub fn byte(b: u8) {
+pub(crate) fn byte(b: u8) {
     io::write_all(STDOUT_FILENO, &[b]);
 }
 
 // A number, and a byte after it.
-pub fn number(n: usize, after: u8) {
+pub(crate) fn number(n: usize, after: u8) {
     io::print_decimal(STDOUT_FILENO, n as u64);
     byte(after);
 }
 
 // Number, line and count, then whether what comes after the count is as it was lent.
-pub fn answer(a: Ending, kept: bool) {
+pub(crate) fn answer(a: Ending, kept: bool) {
     number(cause(a), b' ');
     number(line(a), b' ');
     number(count(a), b' ');
@@ -34,19 +34,19 @@ fn line(a: Ending) -> usize {
     }
 }
 
-pub fn count(a: Ending) -> usize {
+pub(crate) fn count(a: Ending) -> usize {
     match a {
         Ending::Done(n) => n,
         Ending::Refused(_, _) => 0,
     }
 }
 
-pub fn mark(ok: bool) -> u8 {
+pub(crate) fn mark(ok: bool) -> u8 {
     if ok { b'=' } else { b'!' }
 }
 
 // The words, "/" after each line of seven and a blank after any other.
-pub fn words(s: &[i32]) {
+pub(crate) fn words(s: &[i32]) {
     let mut i = 0;
     while i < s.len() {
         word(s[i]);
@@ -78,7 +78,7 @@ fn close(i: usize) -> u8 {
 }
 
 // The bytes, as the cases write them.
-pub fn bytes(s: &[u8]) {
+pub(crate) fn bytes(s: &[u8]) {
     let mut i = 0;
     while i < s.len() {
         plain(s[i]);
@@ -111,7 +111,7 @@ fn digit(d: u8) -> u8 {
 }
 
 // Whether the words from `from` on are all w.
-pub fn are_words(words: &[i32], from: usize, w: i32) -> bool {
+pub(crate) fn are_words(words: &[i32], from: usize, w: i32) -> bool {
     let mut i = from;
     while i < words.len() {
         if words[i] != w {
@@ -123,7 +123,7 @@ pub fn are_words(words: &[i32], from: usize, w: i32) -> bool {
 }
 
 // Whether the bytes from `from` on are all b.
-pub fn are_bytes(bytes: &[u8], from: usize, b: u8) -> bool {
+pub(crate) fn are_bytes(bytes: &[u8], from: usize, b: u8) -> bool {
     let mut i = from;
     while i < bytes.len() {
         if bytes[i] != b {
