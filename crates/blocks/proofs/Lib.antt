@@ -1,0 +1,4 @@
+pub mod Accepted
+pub mod Shape
+pub mod Words
+pub mod Parts

@@ -1,0 +1,16 @@
+-- What the functions go by, one part of a fact's test each.
+use mathlib.Core.Bool.{Bool, not, _&&_}
+use mathlib.Core.List.{List, []}
+use Prim.Native.Nat.{ℕ, zero, suc}
+use lib.IntN.{ℤ, pos}
+use lib.ListN.{getD}
+use lib.Signed.{ltZ, leZ}
+
+-- a word that is 0 or more, and below the end
+abbrev pub inRange : ℤ → ℤ → Bool
+inRange end z = not (ltZ z (pos 0)) && not (leZ end z)
+
+-- the fact before fact i; none before the first
+abbrev pub before : List (List ℤ) → ℕ → List ℤ
+before fs zero = []
+before fs (suc i) = getD fs i []

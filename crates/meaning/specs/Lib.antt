@@ -1,0 +1,4 @@
+pub mod Meaning
+pub mod Blocks
+pub mod Facts
+pub mod Evaluate
