@@ -1,0 +1,9 @@
+pub mod Table
+pub mod Verdict
+pub mod Handed
+pub mod Accepted
+pub mod Tableau
+pub mod Search
+pub mod Words
+pub mod Sheets
+pub mod Examples
