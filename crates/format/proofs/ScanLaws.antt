@@ -7,6 +7,7 @@ use native.Mathlib.Omega.{arith}
 use lib.Dec.{eqb, ltb, leb}
 use lib.ListN.{length}
 use borrow.Author.Tests.{eqb-true, eqb-false, leb-true, leb-false, ltb-true, ltb-false, not-false}
+use Rattle.format.specs.Limits.{most-lines}
 use Rattle.format.specs.Line.{Line, all, null}
 use Rattle.format.specs.Cause.{Kind, question, saved, view, atom, row, other, kind, inPlace, misplaced, wrongColumns, outOfRange, tooMany, atomsOf, cause, start, nextBy, next, refusal, missing, scan, heads, unsafe, atoms, refusalOf}
 use Rattle.format.specs.declared.Refusal.{Refusal}
@@ -150,7 +151,7 @@ scan-long-from (l ∷ p) g b n k le w h =
     scan-long-from p (next g l) l (n + 1) (k + 1) (omega arith) (within-next g (kind l) _ k w (q .placed) (q .room)) (omega arith))
 
 -- more than 86 lines are refused at a line
-pub scan-long : (p : List Line) → 86 < length p → 0 < scan start [] 1 p .line
+pub scan-long : (p : List Line) → most-lines < length p → 0 < scan start [] 1 p .line
 scan-long p h = scan-long-from p start [] 1 0 (omega arith) within-start (omega arith)
 
 -- ---- nothing is refused
@@ -180,10 +181,10 @@ pub accepted-lines : (p : List Line) → refusalOf p .number ≡ 0 → all (λ l
 accepted-lines p h = scan-formed p start [] 1 (accepted-scan p h)
 
 -- there are at most 86 lines
-pub accepted-length : (p : List Line) → refusalOf p .number ≡ 0 → length p ≤ 86
+pub accepted-length : (p : List Line) → refusalOf p .number ≡ 0 → length p ≤ most-lines
 accepted-length p h = go (ltb 86 (length p)) refl
   where
-    go : (t : Bool) → ltb 86 (length p) ≡ t → length p ≤ 86
+    go : (t : Bool) → ltb 86 (length p) ≡ t → length p ≤ most-lines
     go true e = true-false (sym (accepted-scan p h) ∙ scan-number p start [] 1 (scan-long p (ltb-true _ _ e)))
     go false e = ltb-false _ _ e
 

@@ -57,3 +57,9 @@ most-views = 8
 -- listed rows of all views together
 abbrev pub most-rows : ℕ
 most-rows = 40
+
+-- ---- what follows from these
+
+-- an accepted sheet has at most so many lines: a head and its atoms for question, list and views, and the rows (a law shows it)
+abbrev pub most-lines : ℕ
+most-lines = 86

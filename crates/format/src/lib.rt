@@ -43,6 +43,9 @@ pub const MOST_VIEWS: usize = 8;
 
 pub const MOST_ROWS: usize = 40;
 
+// The lines of an accepted sheet, at most: this follows from the limits above.
+pub const MOST_LINES: usize = 86;
+
 // The kinds of a line, and of a block by its head; 0 is none.
 pub const QUESTION_KIND: usize = 1;
 

@@ -16,13 +16,14 @@ use format::LINE_WORDS;
 use format::MALFORMED;
 use format::MOST_BYTES;
 use format::MOST_FIELDS;
+use format::MOST_LINES;
 use format::MOST_SHEET_BYTES;
 use format::MOST_WORDS;
 use format::NO_ROOM;
 use format::TOO_LONG;
 
 // The lines that are looked at: one more than an accepted sheet can have. Their words.
-const LINES: usize = 87;
+const LINES: usize = MOST_LINES + 1;
 
 const WORDS: usize = LINES * LINE_WORDS;
 
