@@ -1,0 +1,90 @@
+// Runs evaluation on the cases of standard input, a case to a line, and prints a line for each case.
+//
+//     # TEXT                    a heading, printed as it stands
+//     BLOCK ROOM|SHEET|FACTS    evaluates the block BLOCK of SHEET on FACTS, with ROOM lent words
+//
+// In a SHEET "/" stands for byte 10, "," for seven blanks, ";" for six; any other byte stands for itself. FACTS are decimal words by single
+// blanks, with "/" after each fact, whose last zeros may be left out.
+//
+// What is printed: the number, the line and the count; "=" where the lent words after the answers are as they were lent, and "!" where they
+// are not; a bar; the answers, four words each, with "/" after each.
+mod input;
+mod output;
+
+use libc::STDOUT_FILENO;
+ghost use Prim.Native.Nat.{_≤_};
+
+// Runs every case: the count is one that no input reaches.
+fn main() {
+    let mut turns: usize = 1000000;
+    while 0 < turns && run_next() {
+        turns -= 1;
+    }
+}
+
+// Runs the next case, and returns false where there is none.
+fn run_next() -> bool {
+    let mut line = [0u8; 8192];
+    let n = input::line(&mut line);
+    if n == 0 {
+        return false;
+    }
+    run(&line[0..n]);
+    output::byte(b'\n');
+    true
+}
+
+// Runs a case. A line without a bar is a heading.
+fn run(case: &[u8]) {
+    let bar = input::find(case, 0, b'|', b'|');
+    if bar == case.len() {
+        io::write_all(STDOUT_FILENO, case);
+        return;
+    }
+    run_parts(&case[0..bar], &case[bar + 1..]);
+}
+
+// Takes a case's two numbers apart, and its two texts.
+fn run_parts(numbers: &[u8], texts: &[u8]) {
+    let gap = input::find(numbers, 0, b' ', b' ');
+    let block = input::number(&numbers[0..gap]);
+    let room = input::number(&numbers[gap..]);
+    let bar = input::find(texts, 0, b'|', b'|');
+    if bar == texts.len() {
+        output::byte(b'?');
+        return;
+    }
+    call(&texts[0..bar], block, &texts[bar + 1..], room);
+}
+
+// Calls with the bytes and words that the texts stand for.
+fn call(sheet: &[u8], block: usize, facts: &[u8], room: usize) {
+    let mut bytes = [0u8; 8704];
+    let n = input::bytes(sheet, &mut bytes);
+    let mut words = [0i32; 704];
+    let m = input::words(facts, &mut words);
+    let mut lent = [0i32; 8192];
+    output::mark(&mut lent);
+    let k = least(room, 8192);
+    show(&bytes[0..n], block, &words[0..m], &mut lent[0..k]);
+}
+
+// Calls, and prints what came of it.
+fn show(sheet: &[u8], block: usize, facts: &[i32], lent: &mut [i32]) {
+    let ending = evaluate::evaluate(sheet, block, facts, lent);
+    let done = least(words_of(output::count(ending)), lent.len());
+    output::ending(ending, output::are_marked(lent, done));
+    output::byte(b'|');
+    output::words(&lent[0..done]);
+}
+
+// How many words that many answers have. More than the program lends count as a hundred thousand.
+fn words_of(answers: usize) -> usize {
+    if answers < 25000 { answers * 4 } else { 100000 }
+}
+
+fn least(a: usize, b: usize) -> usize
+    ensures { λ r. ⌜ r ≤ b ⌝ }
+{
+    if a < b { a } else { b }
+}
