@@ -1,0 +1,1 @@
+// A sheet in plain numbers, as the search for a case works on it.

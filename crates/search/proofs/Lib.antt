@@ -1,0 +1,5 @@
+pub mod Padded
+pub mod Node
+pub mod Heads
+pub mod Fresh
+pub mod ReadyLaws

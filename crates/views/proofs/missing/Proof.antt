@@ -1,0 +1,84 @@
+-- `views::missing` meets its contract: the loop's invariant: of the rows given to the question, each is given to the list or not passed yet. The measure is how many rows can follow. Assumes nothing.
+use Rattle.views.proofs.Laws.{WalkAt, start-at, more-at, missing-yes, missing-no}
+use Rattle.views.specs.Walks.{Ready, GivesAtBy, room}
+use Rattle.views.specs.Views.{GivenAt}
+use mathlib.Core.Path.{subst}
+use native.Mathlib.Omega.{arith}
+use borrow.Author.Needs.{needs}
+use borrow.Author.Tests.{not-true, not-false}
+use Rattle.views.proofs.missing.Statement.{statement}
+use Rattle.views.proofs.missing.Tie as tie
+
+abbrev Inv-loop : tie.InvT-loop
+Inv-loop p facts blk n cur₀ cur = Ready p → WalkAt (GivenAt p 1 facts) p 0 facts (cur .some) (cur .values)
+
+abbrev μ-loop : tie.MeasureT-loop
+μ-loop p facts blk n cur₀ cur = room (cur .some) (cur .values)
+
+block-requires : tie.Need-block-requires Inv-loop μ-loop
+block-requires c κs = search needs
+
+element-copy-out-n : tie.Need-element-copy-out-n Inv-loop μ-loop
+element-copy-out-n c = search needs
+
+none-requires : tie.Need-none-requires Inv-loop μ-loop
+none-requires c κs = search needs
+
+follow-requires : tie.Need-follow-requires Inv-loop μ-loop
+follow-requires c κs = search needs
+
+loop-holds : tie.Need-loop-holds Inv-loop μ-loop
+loop-holds c =
+    let b = c .before .before .before .before in
+    let s = b .before .before in
+    λ ready. start-at (GivenAt (s .args .p .now) 1 (s .args .facts .now)) (s .args .p .now) 0 (s .args .facts .now) (b .block .result) (c .follow .result .some) (c .before .before .none .result .some) (c .before .before .none .result .values) (c .follow .result .values)
+    ready (omega arith) (b .block .ensures (ready .size)) (c .before .before .none .ensures) (c .follow .ensures .0)
+
+list-gives-requires : tie.Need-list-gives-requires Inv-loop μ-loop
+list-gives-requires c κs = search needs
+
+returns : tie.Need-returns Inv-loop μ-loop
+returns c =
+    let l = c .before .before .before .before in
+    let s = l .before .before .before .before .before .before .before in
+    λ ready. missing-yes (s .args .p .now) (s .args .facts .now) (l .loop .cur .some) (l .loop .cur .values) (l .loop .inv ready) (c .before .before .before .loop-test .taken)
+    (subst (λ b. GivesAtBy b (s .args .p .now) 1 (s .args .facts .now) (l .loop .cur .values)) (not-true (c .before .list-gives .result) (c .if1 .taken)) (c .before .list-gives .ensures ready))
+
+follow-requires-2 : tie.Need-follow-requires-2 Inv-loop μ-loop
+follow-requires-2 c κs = search needs
+
+loop-less : tie.Need-loop-less Inv-loop μ-loop
+loop-less c = c .follow2 .ensures .1 (c .before .before .before .before .before .loop-test .taken)
+
+loop-again : tie.Need-loop-again Inv-loop μ-loop
+loop-again c =
+    let l = c .before .before .before .before .before .before in
+    let b = l .before .before .before .before .before in
+    let s = b .before .before in
+    λ ready. more-at (GivenAt (s .args .p .now) 1 (s .args .facts .now)) (s .args .p .now) 0 (s .args .facts .now) (b .block .result) (c .follow2 .result .some) (l .loop .cur .some) (l .loop .cur .values) (c .follow2 .result .values)
+    ready (omega arith) (b .block .ensures (ready .size)) (c .before .before .before .before .before .loop-test .taken) (c .follow2 .ensures .0) (l .loop .inv ready)
+    (subst (λ b. GivesAtBy b (s .args .p .now) 1 (s .args .facts .now) (l .loop .cur .values)) (not-false (c .before .before .before .list-gives .result) (c .before .before .if1 .left)) (c .before .before .before .list-gives .ensures ready))
+
+returns-2 : tie.Need-returns-2 Inv-loop μ-loop
+returns-2 c =
+    let l = c .before in
+    let s = l .before .before .before .before .before .before .before in
+    λ ready. missing-no (s .args .p .now) (s .args .facts .now) (l .loop .cur .some) (l .loop .cur .values) (l .loop .inv ready) (c .loop-test .left)
+
+pub missing-spec : {M : Type 1} → statement M
+missing-spec =
+    tie.close
+    (tie.spec
+    Inv-loop
+    μ-loop
+    block-requires
+    element-copy-out-n
+    none-requires
+    follow-requires
+    loop-holds
+    list-gives-requires
+    returns
+    follow-requires-2
+    loop-less
+    loop-again
+    returns-2)
