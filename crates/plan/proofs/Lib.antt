@@ -1,0 +1,7 @@
+pub mod Laws
+pub mod Blocks
+pub mod Rows
+pub mod Taken
+pub mod Tableau
+pub mod Copies
+pub mod Whole
