@@ -3,3 +3,4 @@ pub mod Node
 pub mod Heads
 pub mod Fresh
 pub mod ReadyLaws
+pub mod NodeLaws

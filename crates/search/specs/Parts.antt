@@ -16,6 +16,7 @@ use Rattle.verdicts.specs.Search.{equations, Refuted, RefutedBy}
 use Rattle.verdicts.specs.Words.{stateOf}
 use Rattle.plan.specs.Plan.{Plan, viewCount, askedSize, rowCount, rowAt, rowValues}
 use Rattle.state.specs.State.{Fresh}
+use Rattle.views.specs.Views.{StrayAt, NoStray}
 
 -- a plan of an accepted sheet
 pub record Ready (p : List ℕ) (x : Sheet) : Type 0 where
@@ -64,3 +65,9 @@ abbrev pub NodeBy : Bool → Bool → List ℕ → Sheet → List ℕ → ℕ �
 NodeBy true true p y ws view u = Settled y (stateOf top ws) → Good y (stateOf top ws)
 NodeBy true false p y ws view u = Refuted top y (stateOf top ws)
 NodeBy false good p y ws view u = Opened p y ws view u
+
+-- what stray rows alone say: one, or none
+abbrev pub ByStrays : Bool → Bool → List ℕ → List ℕ → ℕ → List ℕ → Type 0
+ByStrays true true p ns view u = NoStray p ns
+ByStrays true false p ns view u = ⊥
+ByStrays false good p ns view u = StrayAt p ns view u

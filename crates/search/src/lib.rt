@@ -7,6 +7,8 @@ ghost use Rattle.joins.specs.Joins.{valueOf, headRow};
 ghost use Rattle.verdicts.specs.Sheets.{top};
 ghost use Rattle.verdicts.specs.Words.{stateOf};
 ghost use Rattle.plan.specs.Plan.{blockNumbers, rowValues};
+ghost use Rattle.views.specs.Walks as walks;
+ghost use Rattle.search.specs.Parts.{ByStrays};
 
 // The places of a plan's parts.
 const ROWS: usize = 630;
@@ -51,4 +53,55 @@ fn row_of(p: &[usize], i: usize) -> [usize; 4]
 {
     let at = ROWS + i * 5;
     [p[at + 1], p[at + 2], p[at + 3], p[at + 4]]
+}
+
+// What a state is found to be: done and good, done and refuted, or open, with a stray row of a view.
+struct Finding {
+    done: bool,
+    good: bool,
+    view: usize,
+    values: [usize; 4],
+}
+
+// A state that is refuted.
+fn refuted() -> Finding
+    ensures { λ r. ⌜ (r .done ≡ true) × (r .good ≡ false) ⌝ }
+{
+    Finding {
+        done: true,
+        good: false,
+        view: 0,
+        values: [0; 4],
+    }
+}
+
+// What stray rows say of a state.
+fn by_strays(p: &[usize; 1184], facts: &[usize]) -> Finding
+    ensures { λ r. ⌜ (walks.Ready (now (p .entry)) → ByStrays (r .done) (r .good) (now (p .entry)) (now (facts .entry)) (r .view) (r .values)) ⌝ }
+{
+    let s = views::stray(p, facts);
+    if s.some {
+        let values = s.values;
+        return Finding {
+            done: false,
+            good: false,
+            view: s.view,
+            values: values,
+        };
+    }
+    Finding {
+        done: true,
+        good: true,
+        view: 0,
+        values: [0; 4],
+    }
+}
+
+// Whether the list is given the question's head.
+fn is_shut(p: &[usize; 1184], st: &[usize], facts: &[usize]) -> bool
+    requires { ⌜ (length (now p) ≡ 1184) × (length (now st) ≡ 533) ⌝ }
+    ensures { λ r. ⌜ (walks.Ready (now (p .entry)) → walks.GivesAtBy r (now (p .entry)) 1 (now (facts .entry)) (headRow (λ x. stateOf top (now (st .entry)) (0 * 13 + x)) (blockNumbers (now (p .entry)) 0))) ⌝ }
+{
+    let row = head_of(p, st, 0, 0);
+    views::list_gives(p, facts, row)
 }
