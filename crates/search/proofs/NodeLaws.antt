@@ -1,6 +1,6 @@
 -- What a state is found to be: by the list and the stray rows that its facts give.
 use mathlib.Core.Path.{_≡_, refl, sym, ap, _∙_, subst}
-use mathlib.Core.Bool.{Bool, true, false}
+use mathlib.Core.Bool.{Bool, true, false, not, true≢false}
 use mathlib.Core.List.{List, [], _∷_}
 use mathlib.Core.Logic.{_⊎_, inl, inr, ⊎-elim}
 use Prim.Native.Nat.{ℕ, zero, suc, _+_, _-_, _*_, _<_, _≤_, min}
@@ -16,12 +16,12 @@ use Rattle.verdicts.specs.Sheets.{top}
 use Rattle.verdicts.specs.Tableau.{State, logOf, headOf, copy, Good, bare}
 use Rattle.verdicts.specs.Search.{Refuted}
 use Rattle.verdicts.specs.Words.{stateOf}
-use Rattle.plan.specs.Plan.{Plan, viewCount, blockNumbers, blockSize}
+use Rattle.plan.specs.Plan.{Plan, viewCount, blockNumbers, blockSize, tableauSize, tableauFacts}
 use Rattle.views.specs.Views.{GivenAt, SafePlan, NoStray}
 use Rattle.views.specs.Walks as walks
-use Rattle.search.specs.Parts.{Ready, sheetBy, Settled}
+use Rattle.search.specs.Parts.{Ready, sheetBy, fromBy, Settled, Proper, ByStrays, NodeBy}
 use Rattle.search.proofs.Node.{list-refuted, list-lacks, good-state}
-use Rattle.search.proofs.ReadyLaws.{ready-task}
+use Rattle.search.proofs.ReadyLaws.{ready-task, ready-facts, opened}
 
 safe-at : {blk : List ℕ} {n : ℕ} {b : Block} → BlockNumbers blk n b → Safe blk n → Safe blk (min n 6)
 safe-at {blk} {n} bn s = subst (λ m. Safe blk m) (let f = bn .few in let e : n ≡ min n 6 = omega arith in e) s
@@ -30,6 +30,11 @@ safe-at {blk} {n} bn s = subst (λ m. Safe blk m) (let f = bn .few in let e : n 
 copy-at : (s : State) (k : ℕ) → (λ (z : ℕ). s (k * 13 + z)) ≡ copy s k
 unfolding width
 copy-at s k = refl
+
+-- a sheet without its question is not asked
+pub unasked : {A : Type 0} (b : Bool) → not b ≡ true → b ≡ true → A
+unasked true e f = absurd (true≢false (sym e))
+unasked false e f = absurd (true≢false (sym f))
 
 module _ (p : List ℕ) (x : Sheet) (r : Ready p x) where
   saved-in : In (r .plan .saved) (x .lists)
@@ -75,3 +80,27 @@ module _ (p : List ℕ) (x : Sheet) (r : Ready p x) where
       good-state p x x (r .plan) (ready-task p x r true) s ns fn st clean
       (λ k m. subst (λ b. Answer (logOf x s) b (headOf x s) → ⊥) (sym (only-saved k m)) (list-lacks p x x (r .plan) (ready-task p x r true) s ns fn l sh (r .plan .list) (λ g. lacks refl (subst (GivenAt p 1 ns) (sym (asked-head s)) g))))
   closed false s ns fn lacks clean st = good-state p x (bare x) (r .plan) (ready-task p x r false) s ns fn st clean (λ k m. absurd m)
+
+  -- so stray rows decide what a state is found to be, where the list is not given the head
+  pub found : (asked : Bool) (ws ns : List ℕ) → Proper ws → FactNumbers ns (logOf (sheetBy asked x) (stateOf top ws))
+      → (asked ≡ true → GivenAt p 1 ns (headRow (λ z. stateOf top ws (0 * 13 + z)) (blockNumbers p 0)) → ⊥)
+      → (done good : Bool) (v : ℕ) (u : List ℕ) → ByStrays done good p ns v u → NodeBy done good p (sheetBy asked x) ws v u
+  found asked ws ns pr fn lacks true true v u clean = λ st. closed asked (stateOf top ws) ns fn lacks clean st
+  found asked ws ns pr fn lacks true false v u b = absurd b
+  found asked ws ns pr fn lacks false good v u b = opened p x r asked ws pr ns fn v u b
+
+  pub shut-by : (asked : Bool) → asked ≡ true → (ws ns : List ℕ) → FactNumbers ns (logOf (sheetBy asked x) (stateOf top ws))
+      → GivenAt p 1 ns (headRow (λ z. stateOf top ws (0 * 13 + z)) (blockNumbers p 0))
+      → (done good : Bool) → done ≡ true → good ≡ false → (v : ℕ) (u : List ℕ) → NodeBy done good p (sheetBy asked x) ws v u
+  shut-by asked e ws ns fn g done good a b v u =
+      subst (λ d. NodeBy d good p (sheetBy asked x) ws v u) (sym a)
+      (subst (λ d. NodeBy true d p (sheetBy asked x) ws v u) (sym b)
+      (subst (λ k. FactNumbers ns (logOf (sheetBy k x) (stateOf top ws)) → Refuted top (sheetBy k x) (stateOf top ws)) (sym e) (λ f. shut (stateOf top ws) ns f g) fn))
+
+  pub from-few : (asked : Bool) → fromBy asked p ≤ tableauSize p
+  from-few true = omega arith
+  from-few false = r .plan .asked
+
+  pub facts-by : (asked : Bool) (s : State) (ns : List ℕ) (from n : ℕ) → from ≡ fromBy asked p → n ≡ tableauSize p - from → ns ≡ tableauFacts p s from n → FactNumbers ns (logOf (sheetBy asked x) s)
+  facts-by asked s ns from n e f g =
+      subst (λ l. FactNumbers l (logOf (sheetBy asked x) s)) (sym (g ∙ ap (λ k. tableauFacts p s from k) f ∙ ap (λ k. tableauFacts p s k (tableauSize p - k)) e)) (ready-facts p x r asked s)

@@ -8,7 +8,10 @@ ghost use Rattle.verdicts.specs.Sheets.{top};
 ghost use Rattle.verdicts.specs.Words.{stateOf};
 ghost use Rattle.plan.specs.Plan.{blockNumbers, rowValues};
 ghost use Rattle.views.specs.Walks as walks;
-ghost use Rattle.search.specs.Parts.{ByStrays};
+ghost use Rattle.search.specs.Parts.{Ready, Proper, sheetBy, fromBy, NodeBy, ByStrays};
+ghost use Rattle.verdicts.specs.Verdict.{Sheet};
+ghost use Rattle.verdicts.specs.Tableau.{logOf};
+ghost use Rattle.numbers.specs.Numbers.{FactNumbers};
 
 // The places of a plan's parts.
 const ROWS: usize = 630;
@@ -20,6 +23,10 @@ const BLOCK: usize = 34;
 const HEAD: usize = 30;
 
 const NAMES: usize = 13;
+
+const ASKED: usize = 1181;
+
+const MOST_FACTS: usize = 126;
 
 // Column c of the head of block b, under the valuation of copy k.
 fn head_value(p: &[usize], st: &[usize], b: usize, k: usize, c: usize) -> usize
@@ -104,4 +111,43 @@ fn is_shut(p: &[usize; 1184], st: &[usize], facts: &[usize]) -> bool
 {
     let row = head_of(p, st, 0, 0);
     views::list_gives(p, facts, row)
+}
+
+// What a state is found to be by its facts, with the question or without.
+fn by_facts(p: &[usize; 1184], st: &[usize], asked: bool, facts: &[usize]) -> Finding
+    requires { ⌜ (length (now p) ≡ 1184) × (length (now st) ≡ 533) ⌝ }
+    ensures { λ r. ⌜ ((x : Sheet) → Ready (now (p .entry)) x → Proper (now (st .entry)) → FactNumbers (now (facts .entry)) (logOf (sheetBy asked x) (stateOf top (now (st .entry)))) → NodeBy (r .done) (r .good) (now (p .entry)) (sheetBy asked x) (now (st .entry)) (r .view) (r .values)) ⌝ }
+{
+    if !asked {
+        return by_strays(p, facts);
+    }
+    if is_shut(p, st, facts) {
+        return refuted();
+    }
+    by_strays(p, facts)
+}
+
+// Where a state's facts start in the tableau.
+fn start(p: &[usize; 1184], asked: bool) -> usize
+    requires { ⌜ length (now p) ≡ 1184 ⌝ }
+    ensures { λ r. ⌜ r ≡ fromBy asked (now (p .entry)) ⌝ }
+{
+    if asked {
+        return 0;
+    }
+    p[ASKED]
+}
+
+// What a state is found to be, with the question or without.
+fn judge_state(p: &[usize; 1184], st: &[usize], asked: bool) -> Finding
+    requires { ⌜ (length (now p) ≡ 1184) × (length (now st) ≡ 533) ⌝ }
+    ensures { λ r. ⌜ ((x : Sheet) → Ready (now (p .entry)) x → Proper (now (st .entry)) → NodeBy (r .done) (r .good) (now (p .entry)) (sheetBy asked x) (now (st .entry)) (r .view) (r .values)) ⌝ }
+{
+    let mut room = [0; 630];
+    let from = start(p, asked);
+    let n = state::facts(p, st, from, &mut room);
+    if MOST_FACTS < n {
+        return refuted();
+    }
+    by_facts(p, st, asked, &room[..n * 5])
 }

@@ -1,3 +1,4 @@
+-- `search::by_strays` meets its contract: a stray row, or none. Assumes nothing.
 use Rattle.search.proofs.by_strays.Statement.{statement}
 use Rattle.search.proofs.by_strays.Tie as tie
 use borrow.Author.Needs.{needs}

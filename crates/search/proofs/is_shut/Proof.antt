@@ -1,3 +1,4 @@
+-- `search::is_shut` meets its contract: the list is block 1, and the row is the head under the first copy. Assumes nothing.
 use Rattle.search.proofs.is_shut.Statement.{statement}
 use Rattle.search.proofs.is_shut.Tie as tie
 use borrow.Author.Needs.{needs}
