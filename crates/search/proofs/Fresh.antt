@@ -20,14 +20,14 @@ use Rattle.search.specs.Parts.{Proper}
 use Rattle.search.proofs.Heads.{inside}
 
 -- a word of the state
-proper-value : (ws : List ℕ) → Proper ws → (n : ℕ) → n < 533 → (v : ℕ) → v ≡ stateOf top ws n → (v < top) ⊎ ((top ≤ v) × (v < top + length ws) × (getD ws (v - top) 0 ≡ v))
+pub proper-value : (ws : List ℕ) → Proper ws → (n : ℕ) → n < 533 → (v : ℕ) → v ≡ stateOf top ws n → (v < top) ⊎ ((top ≤ v) × (v < top + length ws) × (getD ws (v - top) 0 ≡ v))
 proper-value ws p n lt v e =
     let l = p .size in
     let q : v ≡ getD ws n 0 = e ∙ inside ws n (top + n) 0 (omega arith) in
     ⊎-elim (λ h. inl (omega arith)) (λ h. inr (omega arith, omega arith, ap (λ i. getD ws i 0) (let z : v - top ≡ n = omega arith in z) ∙ sym q)) (p .each n lt)
 
 -- a copy's number is below the number of jobs
-copy-small : (js : List Job) (c : Copy) → In c (numbered js) → c .number < length js
+pub copy-small : (js : List Job) (c : Copy) → In c (numbered js) → c .number < length js
 copy-small [] c m = absurd m
 copy-small (j ∷ js) c (inl e) = let z : c .number ≡ 0 = ap (λ (q : Copy). q .number) e in omega arith
 copy-small (j ∷ js) c (inr m) = let (d, i, e) = map-in _ c (numbered js) m in let k = copy-small js d i in let z : c .number ≡ suc (d .number) = ap (λ (q : Copy). q .number) e in omega arith

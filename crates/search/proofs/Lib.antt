@@ -4,3 +4,5 @@ pub mod Heads
 pub mod Fresh
 pub mod ReadyLaws
 pub mod NodeLaws
+pub mod Levels
+pub mod Copies

@@ -37,7 +37,7 @@ line-plain [] n = (refl, refl, refl)
 line-plain (c ∷ cs) zero = (refl, refl, refl)
 line-plain (c ∷ cs) (suc n) = line-plain cs n
 
-ten-columns : (n : ℕ) → relation ten n .columns ≡ columnsOf (pos n)
+pub ten-columns : (n : ℕ) → relation ten n .columns ≡ columnsOf (pos n)
 unfolding relation columnsOf
 ten-columns zero = refl
 ten-columns (suc n) = line-plain relations n .0
@@ -52,7 +52,7 @@ unfolding relation
 ten-parent zero = refl
 ten-parent (suc n) = line-plain relations n .2
 
-no-parents : (f : Fact) → parents ten f ≡ []
+pub no-parents : (f : Fact) → parents ten f ≡ []
 no-parents f = ap (λ k. owed k (f .row)) (ten-parent (f .rel))
 
 gather-alone : (l : Log) → gather (withParents ten) l ≡ l
@@ -84,23 +84,17 @@ nth-in [] v lt = absurd (omega arith)
 nth-in (w ∷ ws) zero lt = inl refl
 nth-in (w ∷ ws) (suc v) lt = inr (nth-in ws v (omega arith))
 
-in-nth : (ws : List View) (w : View) → In w ws → (v : ℕ) × (v < length ws) × (w ≡ nth ws v)
+pub in-nth : (ws : List View) (w : View) → In w ws → (v : ℕ) × (v < length ws) × (w ≡ nth ws v)
 in-nth (u ∷ ws) w (inl e) = (0, omega arith, e)
 in-nth (u ∷ ws) w (inr m) = let (v, lt, e) = in-nth ws w m in (suc v, omega arith, e)
 
-module _ (p : List ℕ) (x y : Sheet) (plan : Plan p x) (task : Task p x y) (s : State) (ns : List ℕ) (fn : FactNumbers ns (logOf y s)) where
-  pub shaped-log : ShapedLog (logOf y s)
-  shaped-log f m =
-      let d = log-formed y (task .accepted) s f m in
-      let e : length (f .row) ≡ columnsOf (pos (f .rel)) = d .full ∙ ap (λ t. relation t (f .rel) .columns) (task .plain) ∙ ten-columns (f .rel) in
-      let k = columns-most (pos (f .rel)) in
-      (e, omega arith)
+six : (n : ℕ) → n ≤ 6 → min n 6 ≡ n
+six n le = omega arith
 
-  six : (n : ℕ) → n ≤ 6 → min n 6 ≡ n
-  six n le = omega arith
-
+-- any log in numbers
+module _ (p : List ℕ) (x y : Sheet) (plan : Plan p x) (task : Task p x y) (log : Log) (ns : List ℕ) (fn : FactNumbers ns log) where
   -- a view's answer in numbers
-  view-given : (v : ℕ) → v < viewCount p → (r : List ℕ) → Answer (logOf y s) (nth (x .views) v .block) r → GivenAt p (2 + v) ns (padded r)
+  view-given : (v : ℕ) → v < viewCount p → (r : List ℕ) → Answer log (nth (x .views) v .block) r → GivenAt p (2 + v) ns (padded r)
   view-given v lt r a =
       let bn = plan .view v lt in
       subst (λ n. Given (blockNumbers p (2 + v)) n ns (padded r)) (sym (six (blockSize p (2 + v)) (bn .few))) (answer-given bn (task .shaped v lt) fn a)
@@ -115,12 +109,21 @@ module _ (p : List ℕ) (x y : Sheet) (plan : Plan p x) (task : Task p x y) (s :
       subst (λ t. In t (nth (x .views) v .rows)) (sym (pad-same r (o .row) (len ∙ sym q) (sym f ∙ o .values))) h
 
   -- no stray row: every answer of a view is listed
-  pub none-stray : NoStray p ns → (w : View) → In w (y .views) → (r : List ℕ) → Answer (logOf y s) (w .block) r → In r (w .rows)
+  pub none-stray : NoStray p ns → (w : View) → In w (y .views) → (r : List ℕ) → Answer log (w .block) r → In r (w .rows)
   none-stray none w m r a =
       let (v, lt, e) = in-nth (x .views) w (subst (λ ws. In w ws) (task .same) m) in
       let c = plan .views in
-      let a' = subst (λ u. Answer (logOf y s) (u .block) r) e a in
+      let a' = subst (λ u. Answer log (u .block) r) e a in
       subst (λ u. In r (u .rows)) (sym e) (listed-row v (omega arith) r (head-length a') (none v (omega arith) (padded r) (view-given v (omega arith) r a')))
+
+-- a state's log
+module _ (p : List ℕ) (x y : Sheet) (plan : Plan p x) (task : Task p x y) (s : State) (ns : List ℕ) (fn : FactNumbers ns (logOf y s)) where
+  pub shaped-log : ShapedLog (logOf y s)
+  shaped-log f m =
+      let d = log-formed y (task .accepted) s f m in
+      let e : length (f .row) ≡ columnsOf (pos (f .rel)) = d .full ∙ ap (λ t. relation t (f .rel) .columns) (task .plain) ∙ ten-columns (f .rel) in
+      let k = columns-most (pos (f .rel)) in
+      (e, omega arith)
 
   -- a stray row, and each of its alternatives refuted
   pub stray-refuted : (v : ℕ) (u : List ℕ) → StrayAt p ns v u
@@ -173,15 +176,15 @@ module _ (p : List ℕ) (x y : Sheet) (plan : Plan p x) (task : Task p x y) (s :
 
   -- every copy's head is what it must be, no view gives a stray row, no list gives the question's head: the state is good
   pub good-state : ((c : Copy) → In c (numbered (jobs y)) → Meets (copy s (c .number)) (c .job)) → NoStray p ns → ((l : Block) → In l (y .lists) → Answer (logOf y s) l (headOf y s) → ⊥) → Good y s
-  good-state meets none lacks = record { meets = meets; keyed = λ f g m n k. no-keys y (task .plain) f g k; none-more = none-stray none; missing = lacks }
+  good-state meets none lacks = record { meets = meets; keyed = λ f g m n k. no-keys y (task .plain) f g k; none-more = none-stray p x y plan task (logOf y s) ns fn none; missing = lacks }
 
 -- ---- what is settled stays settled
 
-kept-row : (h : ℕ → ℕ) (r : List ℕ) → Keeps top h → ((n : ℕ) → In n r → n < top) → map h r ≡ r
+pub kept-row : (h : ℕ → ℕ) (r : List ℕ) → Keeps top h → ((n : ℕ) → In n r → n < top) → map h r ≡ r
 kept-row h [] k small = refl
 kept-row h (n ∷ r) k small = ap (λ z. z ∷ map h r) (k n (small n (inl refl))) ∙ ap (λ l. n ∷ l) (kept-row h r k (λ m i. small m (inr i)))
 
-fine-row : (h v : ℕ → ℕ) (ts : List Term) → Keeps top h → Fine top ts → row (λ z. h (v z)) ts ≡ map h (row v ts)
+pub fine-row : (h v : ℕ → ℕ) (ts : List Term) → Keeps top h → Fine top ts → row (λ z. h (v z)) ts ≡ map h (row v ts)
 fine-row h v [] k f = refl
 fine-row h v (con c ∷ ts) k f = ap (λ z. z ∷ row (λ q. h (v q)) ts) (sym (k c (f (con c) (inl refl)))) ∙ ap (λ l. h c ∷ l) (fine-row h v ts k (λ t m. f t (inr m)))
 fine-row h v (var z ∷ ts) k f = ap (λ l. h (v z) ∷ l) (fine-row h v ts k (λ t m. f t (inr m)))

@@ -37,10 +37,10 @@ unasked true e f = absurd (true≢false (sym e))
 unasked false e f = absurd (true≢false (sym f))
 
 module _ (p : List ℕ) (x : Sheet) (r : Ready p x) where
-  saved-in : In (r .plan .saved) (x .lists)
+  pub saved-in : In (r .plan .saved) (x .lists)
   saved-in = subst (λ l. In (r .plan .saved) l) (sym (r .plan .lists)) (inl refl)
 
-  only-saved : (l : Block) → In l (x .lists) → l ≡ r .plan .saved
+  pub only-saved : (l : Block) → In l (x .lists) → l ≡ r .plan .saved
   only-saved l m = ⊎-elim (λ e. e) (λ n. absurd n) (subst (λ ls. In l ls) (r .plan .lists) m)
 
   safe : SafePlan p
@@ -84,17 +84,17 @@ module _ (p : List ℕ) (x : Sheet) (r : Ready p x) where
   -- so stray rows decide what a state is found to be, where the list is not given the head
   pub found : (asked : Bool) (ws ns : List ℕ) → Proper ws → FactNumbers ns (logOf (sheetBy asked x) (stateOf top ws))
       → (asked ≡ true → GivenAt p 1 ns (headRow (λ z. stateOf top ws (0 * 13 + z)) (blockNumbers p 0)) → ⊥)
-      → (done good : Bool) (v : ℕ) (u : List ℕ) → ByStrays done good p ns v u → NodeBy done good p (sheetBy asked x) ws v u
+      → (done good : Bool) (v : ℕ) (u : List ℕ) → ByStrays done good p ns v u → NodeBy done good p x (sheetBy asked x) ws v u
   found asked ws ns pr fn lacks true true v u clean = λ st. closed asked (stateOf top ws) ns fn lacks clean st
   found asked ws ns pr fn lacks true false v u b = absurd b
   found asked ws ns pr fn lacks false good v u b = opened p x r asked ws pr ns fn v u b
 
   pub shut-by : (asked : Bool) → asked ≡ true → (ws ns : List ℕ) → FactNumbers ns (logOf (sheetBy asked x) (stateOf top ws))
       → GivenAt p 1 ns (headRow (λ z. stateOf top ws (0 * 13 + z)) (blockNumbers p 0))
-      → (done good : Bool) → done ≡ true → good ≡ false → (v : ℕ) (u : List ℕ) → NodeBy done good p (sheetBy asked x) ws v u
+      → (done good : Bool) → done ≡ true → good ≡ false → (v : ℕ) (u : List ℕ) → NodeBy done good p x (sheetBy asked x) ws v u
   shut-by asked e ws ns fn g done good a b v u =
-      subst (λ d. NodeBy d good p (sheetBy asked x) ws v u) (sym a)
-      (subst (λ d. NodeBy true d p (sheetBy asked x) ws v u) (sym b)
+      subst (λ d. NodeBy d good p x (sheetBy asked x) ws v u) (sym a)
+      (subst (λ d. NodeBy true d p x (sheetBy asked x) ws v u) (sym b)
       (subst (λ k. FactNumbers ns (logOf (sheetBy k x) (stateOf top ws)) → Refuted top (sheetBy k x) (stateOf top ws)) (sym e) (λ f. shut (stateOf top ws) ns f g) fn))
 
   pub from-few : (asked : Bool) → fromBy asked p ≤ tableauSize p

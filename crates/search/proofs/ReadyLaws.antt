@@ -12,8 +12,9 @@ use Rattle.joins.specs.Joins.{Given}
 use Rattle.numbers.specs.Numbers.{FactNumbers, padded}
 use Rattle.numbers.proofs.Lists.{in-map}
 use Rattle.numbers.proofs.Order.{pad-same}
-use Rattle.numbers.proofs.Bridge.{given-answer}
+use Rattle.numbers.proofs.Bridge.{given-answer, head-length}
 use Rattle.verdicts.specs.Verdict.{Sheet}
+use Rattle.verdicts.specs.Handed.{in-row}
 use Rattle.verdicts.specs.Sheets.{top}
 use Rattle.verdicts.specs.Tableau.{Job, Copy, State, jobs, numbered, later, facts, logOf, bare}
 use Rattle.verdicts.specs.Search.{equations, Refuted, RefutedBy}
@@ -75,7 +76,7 @@ module _ (p : List ℕ) (x : Sheet) (r : Ready p x) where
   jobs-few false = let c = r .plan .copies in let f = r .plan .rows-few in omega arith
 
   -- a stray row opens the state
-  pub opened : (asked : Bool) (ws : List ℕ) → Proper ws → (ns : List ℕ) → FactNumbers ns (logOf (sheetBy asked x) (stateOf top ws)) → (v : ℕ) (u : List ℕ) → StrayAt p ns v u → Opened p (sheetBy asked x) ws v u
+  pub opened : (asked : Bool) (ws : List ℕ) → Proper ws → (ns : List ℕ) → FactNumbers ns (logOf (sheetBy asked x) (stateOf top ws)) → (v : ℕ) (u : List ℕ) → StrayAt p ns v u → Opened p x (sheetBy asked x) ws v u
   opened asked ws pr ns fn v u st =
       let y = sheetBy asked x in
       let task = ready-task asked in
@@ -88,6 +89,18 @@ module _ (p : List ℕ) (x : Sheet) (r : Ready p x) where
       let (t, e, a) = given-answer bn (r .views v lt) fn (shaped-log p x y (r .plan) task (stateOf top ws) ns fn) g in
       record {
         fresh = subst (Fresh ws) (sym e) (fresh-answer y (task .accepted) (jobs-few asked) ws pr (w .block) (task .accepted .views w (subst (λ l. In w l) (sym (task .same)) (nth-in (x .views) v (omega arith)))) (r .views v lt) t a);
+        fits = λ i li f.
+            let h = r .plan .rows i li in
+            let m = nth-in (x .views) v (omega arith) in
+            let k = subst (λ q. In (h .row) (nth (x .views) q .rows)) f (h .listed) in
+            record {
+              left = t;
+              right = h .row;
+              left-is = e;
+              right-is = h .values;
+              same = head-length a ∙ sym (r .accepted .lengths w m (h .row) k);
+              stands = λ n i. in-row w m (h .row) k i;
+            };
         other = λ i li e f. st .stray (i, li, e, sym f);
         refuted = λ each. stray-refuted p x y (r .plan) task (stateOf top ws) ns fn v u st each;
       }

@@ -4,3 +4,4 @@ pub mod ParseLaws
 pub mod Endings
 pub mod FindLaws
 pub mod WriteLaws
+pub mod Calls

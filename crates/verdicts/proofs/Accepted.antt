@@ -3,7 +3,7 @@ use mathlib.Core.Path.{_≡_, refl, sym, ap, _∙_, subst}
 use mathlib.Core.Bool.{Bool, true, false, cond, not, _&&_, _||_}
 use mathlib.Core.List.{List, [], _∷_, map}
 use mathlib.Core.Logic.{inl, inr}
-use Prim.Native.Nat.{ℕ, suc, _+_, _<_}
+use Prim.Native.Nat.{ℕ, suc, _+_, _<_, _≤_}
 use native.Mathlib.Omega.{arith}
 use lib.Dec.{eqb, ltb}
 use lib.IntN.{ℤ, pos, negsuc}
@@ -12,7 +12,7 @@ use borrow.Author.Tests.{eqb-true, eqb-false, ltb-true, not-true, not-false}
 use Rattle.format.specs.Limits.{constant-end, variables}
 use Rattle.format.specs.Relations.{relations, columnsOf}
 use Rattle.format.specs.Line.{Line, all, null, natural}
-use Rattle.format.specs.Cause.{Kind, question, saved, view, atom, row, other, kind, rest, second, terms, orOut, termOf, isTerm, isConstant, term, constant, misplaced, wrongColumns, outOfRange, tooMany, wrongLength, cause, start, nextBy, next, refusal, scan, isHead, isAtom, atoms, same, occurs, bound, unsafe, heads, refusalOf}
+use Rattle.format.specs.Cause.{Kind, question, saved, view, atom, row, other, kind, rest, second, terms, orOut, termOf, isTerm, isConstant, term, constant, inPlace, misplaced, wrongColumns, outOfRange, tooMany, wrongLength, cause, start, nextBy, next, refusal, scan, isHead, isAtom, atoms, same, occurs, bound, unsafe, heads, refusalOf}
 use Rattle.format.specs.declared.Refusal.{Refusal}
 use Rattle.format.specs.declared.Seen.{Seen}
 use Rattle.format.specs.declared.Term.{Term}
@@ -174,6 +174,43 @@ later-rows (l ∷ ls) g b n h r m = go (kind l) (later-rows ls (next g l) l (n +
     go row ih i = front-rows (l ∷ ls) g b n h r i
     go other ih i = front-rows (l ∷ ls) g b n h r i
 
+-- ---- the list's head is as long as the question's
+
+-- after the question's head
+saved-long : (ls : List Line) (g : Seen) (b : Line) (n : ℕ) → 1 ≤ g .block → scan g b n ls .number ≡ 0 → (w : View) → In w (blocks isSaved ls) → length (w .block .head) ≡ g .asked
+unfolding blocks next
+saved-long [] g b n late h w m = absurd m
+saved-long (l ∷ ls) g b n late h w m =
+    let (c, s) = scan-step l ls g b n h in
+    go (kind l) (scan-first l ls g b n h .0 .placed) (no-cause g b l c .1) (λ k. saved-long ls (next g l) l (n + 1) k s w) m
+  where
+    go : (k : Kind) → inPlace g k ≡ true → wrongLength g k l ≡ false → (1 ≤ nextBy g k (length (rest l)) .block → In w (blocks isSaved ls) → length (w .block .head) ≡ nextBy g k (length (rest l)) .asked)
+        → In w (cond (isSaved k) (viewOf l ls ∷ blocks isSaved ls) (blocks isSaved ls)) → length (w .block .head) ≡ g .asked
+    go question p q ih i = absurd (let e = eqb-true (g .block) 0 p in omega arith)
+    go saved p q ih (inl e) = ap (λ (v : View). length (v .block .head)) e ∙ length-map (rest l) asTerm ∙ eqb-true _ _ (not-false _ q)
+    go saved p q ih (inr i) = ih (omega arith) i
+    go view p q ih i = ih (omega arith) i
+    go atom p q ih i = ih late i
+    go row p q ih i = ih late i
+    go other p q ih i = no-way p
+
+-- from the first line on
+question-long : (ls : List Line) → scan start [] 1 ls .number ≡ 0 → (w : View) → In w (blocks isSaved ls) → length (w .block .head) ≡ length (nth (blocks isQuestion ls) 0 .block .head)
+unfolding blocks next
+question-long [] h w m = absurd m
+question-long (l ∷ ls) h w m =
+    let (c, s) = scan-step l ls start [] 1 h in
+    go (kind l) (scan-first l ls start [] 1 h .0 .placed) (λ k. saved-long ls (next start l) l 2 k s w) m
+  where
+    go : (k : Kind) → inPlace start k ≡ true → (1 ≤ nextBy start k (length (rest l)) .block → In w (blocks isSaved ls) → length (w .block .head) ≡ nextBy start k (length (rest l)) .asked)
+        → In w (cond (isSaved k) (viewOf l ls ∷ blocks isSaved ls) (blocks isSaved ls)) → length (w .block .head) ≡ length (nth (cond (isQuestion k) (viewOf l ls ∷ blocks isQuestion ls) (blocks isQuestion ls)) 0 .block .head)
+    go question p ih i = ih (omega arith) i ∙ sym (length-map (rest l) asTerm)
+    go saved p ih i = no-way p
+    go view p ih i = no-way p
+    go atom p ih i = no-way p
+    go row p ih i = no-way p
+    go other p ih i = no-way p
+
 -- ---- the blocks of accepted lines
 
 -- the block of a head that passes the test, and what is known of it
@@ -280,6 +317,11 @@ module _ (ls : List Line) (ok : refusalOf ls .number ≡ 0) where
     rows = λ w m r i. read-rows isView views-head w (accepted-read isView w m) r i .small;
     lengths = λ w m r i. read-rows isView views-head w (accepted-read isView w m) r i .long;
   }
+
+  pub accepted-lists : (l : Block) → In l (sheetOf ls .lists) → length (l .head) ≡ length (sheetOf ls .question .head)
+  accepted-lists l m =
+      let (w, i, e) = from-map (λ (w : View). w .block) (blocks isSaved ls) l m in
+      ap (λ (b : Block). length (b .head)) e ∙ question-long ls (eqb-true _ 0 (accepted-scan ls ok)) w i
 
   pub accepted-evaluable : Evaluable (sheetOf ls)
   accepted-evaluable = record {

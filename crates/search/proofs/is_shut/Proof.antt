@@ -13,7 +13,7 @@ list-gives-requires c κs = search needs
 
 returns : tie.Need-returns
 returns c =
-    let s = c .before .before .before .before .before in
+    let s = c .before .before .before .before in
     λ ready. subst (GivesAtBy (c .list-gives .result) (s .args .p .now) 1 (s .args .facts .now)) (c .before .head-of .ensures) (c .list-gives .ensures ready)
 
 pub is-shut-spec : {M : Type 1} → statement M

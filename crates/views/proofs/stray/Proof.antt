@@ -1,5 +1,5 @@
 -- `views::stray` meets its contract: the loop's invariant: what is kept is stray, and where nothing is the views before v have no stray row. The measure is what is left of the views. Assumes nothing.
-use Rattle.views.proofs.Laws.{Sought, sought-none, sought-more, stray-found, stray-by}
+use Rattle.views.proofs.Laws.{Sought, sought-none, sought-on, sought-more, stray-found, stray-by}
 use Rattle.views.specs.Walks.{Ready, Clean}
 use Rattle.plan.specs.Plan.{viewCount}
 use mathlib.Core.Path.{_≡_, refl, subst}
@@ -27,16 +27,22 @@ loop-holds c = (omega arith, λ _. sought-none (c .before .before .before .args 
 scan-requires : tie.Need-scan-requires Inv-loop μ-loop
 scan-requires c κs = search needs
 
-enough-requires : tie.Need-enough-requires Inv-loop μ-loop
-enough-requires c κs = search needs
+again-requires : tie.Need-again-requires Inv-loop μ-loop
+again-requires c κs = search needs
+
+is-forced-requires : tie.Need-is-forced-requires Inv-loop μ-loop
+is-forced-requires c κs = search needs
 
 returns : tie.Need-returns Inv-loop μ-loop
 returns c =
     let r = c .before .before .before .scan .result in
-    let l = c .before .before .before .before .before in
-    let s = c .before .before .before .before .before .before .before .before .before in
-    λ ready. stray-found (s .args .p .now) (s .args .facts .now) (r .some) (r .view) (r .values) (c .before .before .enough .ensures (c .before .if1 .taken))
-    ((c .before .before .before .scan .ensures ready (l .before .before .count .ensures .exact (ready .rows-few)) (let e = l .before .count2 .ensures .exact (ready .views-few) in omega arith)) .held (l .loop .inv .1 ready .held) .stray)
+    let l = c .before .before .before .before .before .before in
+    let s = c .before .before .before .before .before .before .before .before .before .before in
+    let o = c .before .before .before .before .again in
+    λ ready.
+    let old = sought-on (s .args .p .now) (s .args .facts .now) (l .loop .v) (l .loop .best) (o .result) (o .ensures) (l .loop .inv .1 ready) in
+    stray-found (s .args .p .now) (s .args .facts .now) (r .some) (r .view) (r .values) (c .before .before .is-forced .ensures (c .before .if1 .taken))
+    ((c .before .before .before .scan .ensures ready (l .before .before .count .ensures .exact (ready .rows-few)) (let e = l .before .count2 .ensures .exact (ready .views-few) in let w = c .before .before .before .before .before .loop-test .taken in omega arith)) .held (old .held) .stray)
 
 add-v : tie.Need-add-v Inv-loop μ-loop
 add-v c = search needs
@@ -46,10 +52,13 @@ loop-less c = search needs
 
 loop-again : tie.Need-loop-again Inv-loop μ-loop
 loop-again c =
-    let l = c .before .before .before .before in
-    let s = c .before .before .before .before .before .before .before .before in (
+    let l = c .before .before .before .before .before in
+    let s = c .before .before .before .before .before .before .before .before .before in
+    let o = c .before .before .before .again in
+    let w = c .before .before .before .before .loop-test .taken in (
       omega arith,
-      λ ready. sought-more (s .args .p .now) (s .args .facts .now) (l .loop .v) (l .loop .best) (c .before .before .scan .result) (l .loop .inv .1 ready)
+      λ ready. sought-more (s .args .p .now) (s .args .facts .now) (l .loop .v) (o .result) (c .before .before .scan .result)
+          (sought-on (s .args .p .now) (s .args .facts .now) (l .loop .v) (l .loop .best) (o .result) (o .ensures) (l .loop .inv .1 ready))
           (c .before .before .scan .ensures ready (l .before .before .count .ensures .exact (ready .rows-few)) (let e = l .before .count2 .ensures .exact (ready .views-few) in omega arith)),
     )
 
@@ -72,8 +81,9 @@ stray-spec =
     count-requires
     count-requires-2
     loop-holds
+    again-requires
     scan-requires
-    enough-requires
+    is-forced-requires
     returns
     add-v
     loop-less

@@ -1,0 +1,146 @@
+// Judges the sheet of standard input, and prints the verdict in fields of eight bytes.
+//
+//     9, number, line             a refusal
+//     0 or 2                      covered, or no log
+//     1, count                    not covered, and how many facts the case has; then
+//     6, a value for each column of the question's head       the missing answer
+//     7, relation, a value for each column of it              a fact of the case, a line for each
+use format::FIELD_BYTES;
+use judge::Judgement;
+use libc::STDIN_FILENO;
+use libc::STDOUT_FILENO;
+ghost use mathlib.Core.Path.{_≡_};
+ghost use Prim.Native.Nat.{_+_, _*_, _≤_};
+ghost use lib.ListN.{length};
+
+// What is read: one byte more than a sheet may have, so that a longer one is refused. The words that a verdict wants, and those of a fact.
+const READ: usize = 8193;
+
+const LENT: usize = 640;
+
+const FACT: usize = 5;
+
+fn main() {
+    let mut given = [0u8; READ];
+    let n = io::read_full(STDIN_FILENO, &mut given);
+    cover(&given[..n]);
+}
+
+// Judges a sheet, and prints what comes out.
+fn cover(sheet: &[u8]) {
+    let mut facts = [0i32; LENT];
+    let j = judged(sheet, &mut facts);
+    let verdict = j.verdict;
+    let count = j.count;
+    if verdict == 9 {
+        print_refusal(j.number, j.line);
+        return;
+    }
+    if verdict != 1 {
+        print_verdict(verdict);
+        return;
+    }
+    let missing = j.missing;
+    print_count(count);
+    print_missing(&missing, columns(sheet));
+    print_facts(&facts, count);
+}
+
+// Judges a sheet into the words that a verdict wants: the facts of its case are among them.
+fn judged(sheet: &[u8], facts: &mut [i32]) -> Judgement
+    requires { ⌜ length (now facts) ≡ 640 ⌝ }
+    ensures { λ r. ⌜ r .count * 5 ≤ 640 ⌝ }
+{
+    judge::judge(sheet, facts)
+}
+
+// The columns of the question's head, which is the sheet's first line.
+fn columns(sheet: &[u8]) -> usize
+    ensures { λ r. ⌜ r ≤ 4 ⌝ }
+{
+    let fields = sheet::line(sheet, 1).len() / FIELD_BYTES;
+    if fields < 1 {
+        return 0;
+    }
+    if 5 < fields {
+        return 4;
+    }
+    fields - 1
+}
+
+fn print_refusal(number: usize, line: usize) {
+    print_number(9);
+    print_number(number);
+    print_number(line);
+    print_end();
+}
+
+fn print_verdict(verdict: usize) {
+    print_number(verdict);
+    print_end();
+}
+
+fn print_count(count: usize) {
+    print_number(1);
+    print_number(count);
+    print_end();
+}
+
+fn print_missing(values: &[usize; 4], columns: usize)
+    requires { ⌜ columns ≤ 4 ⌝ }
+{
+    print_number(6);
+    let mut i = 0;
+    while i < columns {
+        print_number(values[i]);
+        i += 1;
+    }
+    print_end();
+}
+
+fn print_facts(facts: &[i32], count: usize)
+    requires { ⌜ count * 5 ≤ length (now facts) ⌝ }
+{
+    let mut i = 0;
+    while i < count {
+        let at = i * FACT;
+        print_fact(&facts[at..at + FACT]);
+        i += 1;
+    }
+}
+
+// A relation, and as many values as it has columns.
+fn print_fact(fact: &[i32])
+    requires { ⌜ length (now fact) ≡ 5 ⌝ }
+{
+    print_number(7);
+    let columns = least(terms::columns(fact[0]), 4);
+    let mut i = 0;
+    while i <= columns {
+        print_word(fact[i]);
+        i += 1;
+    }
+    print_end();
+}
+
+fn least(a: usize, b: usize) -> usize
+    ensures { λ r. ⌜ r ≤ b ⌝ }
+{
+    if a < b { a } else { b }
+}
+
+// A number that fits a field, as all numbers of a judgement do.
+fn print_number(n: usize) {
+    if n < 100000000 {
+        print_word(n as i32);
+    }
+}
+
+fn print_word(w: i32) {
+    let bytes = fields::field_bytes(w);
+    io::write_all(STDOUT_FILENO, &bytes);
+}
+
+fn print_end() {
+    io::write_all(STDOUT_FILENO, b"\n");
+}

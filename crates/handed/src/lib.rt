@@ -1,0 +1,1 @@
+// From a case in plain numbers to what is handed over: laws only.

@@ -1,0 +1,89 @@
+-- What the call gives, way by way.
+use mathlib.Core.Path.{_≡_, refl, sym, ap, _∙_, subst}
+use mathlib.Core.Bool.{Bool, true, false, true≢false}
+use mathlib.Core.List.{List, [], _∷_}
+use mathlib.Core.Logic.{_⊎_, inl, inr}
+use Prim.Native.Nat.{ℕ, zero, suc, _+_, _<_, _≤_}
+use native.Mathlib.Omega.{arith}
+use borrow.Author.Tests.{ne-eqb, le-ltb}
+use lib.Dec.{eqb, ltb}
+use lib.IntN.{ℤ}
+use lib.ListN.{length}
+use Rattle.format.specs.Limits.{most-words}
+use Rattle.format.specs.Line.{Line, byteLines}
+use Rattle.format.specs.Cause.{refusal, refusalOf}
+use Rattle.format.specs.Sheet.{sheetRefusal, readEnding}
+use Rattle.format.specs.declared.Refusal.{Refusal}
+use Rattle.format.specs.declared.Ending.{Ending}
+use Rattle.format.specs.declared.Ending.the-variants.{Done, Refused}
+use Rattle.meaning.specs.Meaning.{Block, In}
+use Rattle.meaning.specs.Blocks.{View, nth, allBlocks, blockAt}
+use Rattle.numbers.specs.Numbers.{Shaped, isBlock}
+use Rattle.blocks.proofs.Shape.{accepted-shaped}
+use Rattle.sheet.proofs.Calls.{refused-by, clean-sheet}
+use Rattle.verdicts.specs.Verdict.{Sheet}
+use Rattle.verdicts.specs.Sheets.{top, sheetOf}
+use Rattle.verdicts.specs.Tableau.{bare, State}
+use Rattle.verdicts.specs.Search.{free, Refuted}
+use Rattle.verdicts.proofs.Accepted.{accepted-sheet, accepted-lists}
+use Rattle.verdicts.proofs.Order.{block-question, block-list, block-view, block-count}
+use Rattle.verdicts.proofs.Judge.{says-covered, says-no-log}
+use Rattle.plan.specs.Plan.{Plan, viewCount}
+use Rattle.search.specs.Parts.{Ready, Found, FoundBy}
+use Rattle.judge.specs.Judged.{judgement, Sent, Short, Said, HandedOver, Decided, Judged}
+use Rattle.judge.specs.declared.Judgement.{Judgement}
+
+-- ---- a plan of accepted lines is ready for a search
+
+module _ (ls : List Line) (ok : refusalOf ls .number ≡ 0) where
+  is-block : (k : ℕ) → k < 2 + length (sheetOf ls .views) → isBlock ls (suc k) ≡ true
+  is-block k lt = let c = block-count ls ok in rw (ne-eqb (suc k) 0 (λ e. omega arith), le-ltb (length (allBlocks ls)) (suc k) (omega arith)) refl
+
+  shaped : (k : ℕ) → k < 2 + length (sheetOf ls .views) → Shaped (blockAt ls (suc k))
+  shaped k lt = accepted-shaped ls ok (suc k) (is-block k lt)
+
+  pub ready-plan : (p : List ℕ) → Plan p (sheetOf ls) → Ready p (sheetOf ls)
+  ready-plan p plan = record {
+    plan = plan;
+    accepted = accepted-sheet ls ok;
+    plain = refl;
+    question = subst Shaped (block-question ls ok) (shaped 0 (omega arith));
+    lists = λ l m. (subst Shaped (sym (only (subst (λ bs. In l bs) (block-list ls ok) m))) (shaped 1 (omega arith)), accepted-lists ls ok l m);
+    views = λ v lt. let c = plan .views in subst Shaped (block-view ls ok v) (shaped (suc (suc v)) (omega arith));
+  }
+    where
+      only : {l b : Block} → In l (b ∷ []) → l ≡ b
+      only (inl e) = e
+      only (inr m) = absurd m
+
+-- ---- the verdict from the two searches
+
+module _ (p : List ℕ) (x : Sheet) (r : Ready p x) (out : List ℤ) (room : 640 ≤ length out) where
+  pub found-case : (b : Bool) (ws : List ℕ) → b ≡ true → FoundBy b x x ws → Found x x ws
+  found-case true ws e f = f
+  found-case false ws e f = absurd (true≢false (sym e))
+
+  no-case : (b : Bool) (ws : List ℕ) → b ≡ false → FoundBy b x x ws → Refuted top x (free top)
+  no-case true ws e f = absurd (true≢false e)
+  no-case false ws e f = f
+
+  pub decided-covered : (b c : Bool) (ws us : List ℕ) → b ≡ false → c ≡ true → FoundBy b x x ws → FoundBy c x (bare x) us → (q : Judgement) → q ≡ judgement 0 0 0 0 [] → Decided x out out q
+  decided-covered b true ws us e g f h q is = inr (inl (record { room = room; holds = says-covered (r .accepted) (no-case b ws e f) (h .good); result = is; lent = refl }))
+  decided-covered b false ws us e g f h q is = absurd (true≢false (sym g))
+
+  pub decided-no-log : (c : Bool) (us : List ℕ) → c ≡ false → FoundBy c x (bare x) us → (q : Judgement) → q ≡ judgement 2 0 0 0 [] → Decided x out out q
+  decided-no-log true us g h q is = absurd (true≢false g)
+  decided-no-log false us g h q is = inr (inr (inr (record { room = room; holds = says-no-log (r .accepted) h; result = is; lent = refl })))
+
+-- ---- refusals
+
+pub decided-short : (x : Sheet) (out : List ℤ) → length out < 640 → (q : Judgement) → q ≡ judgement 9 13 0 0 [] → Decided x out out q
+decided-short x out few q is = inl (record { few = few; result = is; lent = refl })
+
+pub judged-sent : (s : List ℕ) (out : List ℤ) (c l : ℕ) (r : Ending) → r ≡ readEnding s most-words → r ≡ Refused c l → (q : Judgement) → q ≡ judgement 9 c l 0 [] → Judged s out out q
+judged-sent s out c l r is e q b =
+    let (h, k) = refused-by s c l r is e in
+    inl (record { cause = h; result = b ∙ sym (ap (λ (z : Refusal). judgement 9 (z .number) (z .line) 0 []) k); lent = refl })
+
+pub judged-read : (s : List ℕ) (out after : List ℤ) (n : ℕ) (ls : List Line) (q : Judgement) → readEnding s most-words ≡ Done n → ls ≡ byteLines s → Decided (sheetOf ls) out after q → Judged s out after q
+judged-read s out after n ls q done e d = inr (clean-sheet s n done, subst (λ l. Decided (sheetOf l) out after q) e d)

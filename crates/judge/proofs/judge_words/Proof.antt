@@ -1,0 +1,44 @@
+use mathlib.Core.Path.{_≡_, refl, sym, ap, _∙_}
+use mathlib.Core.Logic.{⊎-elim}
+use Prim.Native.Nat.{ℕ, _≤_, _<_, _-_, _%_, _+_, _*_}
+use native.Mathlib.Omega.{arith}
+use lib.ListN.{length, getD}
+use borrow.Author.Needs.{needs}
+use Rattle.format.specs.Line.{wordLines}
+use Rattle.verdicts.specs.Sheets.{sheetOf}
+use Rattle.judge.proofs.Ways.{decided-short, ready-plan}
+use Rattle.judge.proofs.judge_words.Statement.{statement}
+use Rattle.judge.proofs.judge_words.Tie as tie
+use Rattle.judge.proofs.judge_words.Reads as reads
+use Rattle.judge.proofs.judge_words.Lts as lts
+use Rattle.judge.proofs.decide.Reads as decide-reads
+use Rattle.judge.proofs.plain.Reads as plain-reads
+use Rattle.plan.proofs.plan.Reads as plan-reads
+
+plain-requires : tie.Need-plain-requires
+plain-requires c κs = search needs
+
+returns : tie.Need-returns
+returns c = let s = c .before .before in decided-short (sheetOf (wordLines (s .args .ws .now))) (s .args .out .now) (c .before .if1 .taken) (c .plain .result) (c .plain .ensures)
+
+plan-requires : tie.Need-plan-requires
+plan-requires c κs = search needs
+
+decide-requires : tie.Need-decide-requires
+decide-requires c κs =
+    let s = c .before .before .before .before in
+    let p = c .before .before .plan in
+    (c .before .before .before .if1 .left, (sheetOf (wordLines (s .args .ws .now)), ready-plan (wordLines (s .args .ws .now)) (s .pre) (p .result) (p .ensures (s .pre))))
+
+same-length : tie.Need-same-length
+same-length c = search needs
+
+returns-2 : tie.Need-returns-2
+returns-2 c =
+    let s = c .before .before .before .before .before .before in
+    let p = c .before .before .before .before .plan in
+    c .before .decide .ensures (sheetOf (wordLines (s .args .ws .now))) (ready-plan (wordLines (s .args .ws .now)) (s .pre) (p .result) (p .ensures (s .pre)))
+
+pub judge-words-spec : {M : Type 1} → statement M
+judge-words-spec =
+    tie.close (tie.spec plain-requires returns plan-requires decide-requires same-length returns-2)

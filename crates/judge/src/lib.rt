@@ -1,0 +1,137 @@
+// Whether a saved list covers its question, judged from the rows of the views alone.
+use format::Ending;
+use format::LINE_WORDS;
+use format::MOST_WORDS;
+use format::NO_ROOM;
+ghost use mathlib.Core.Path.{_≡_};
+ghost use mathlib.Core.List.{map, []};
+ghost use Prim.Native.Nat.{ℕ, _*_, _≤_, _<_};
+ghost use lib.IntN.{pos};
+ghost use lib.ListN.{length, getD, take};
+ghost use Rattle.format.specs.Line.{wordLines};
+ghost use Rattle.format.specs.Cause.{refusalOf};
+ghost use Rattle.sheet.specs.Parts.{Wrote};
+ghost use Rattle.verdicts.specs.Verdict.{Sheet};
+ghost use Rattle.verdicts.specs.Sheets.{sheetOf};
+ghost use Rattle.search.specs.Parts.{Ready, Found};
+ghost use Rattle.judge.specs.Judged.{judgement, HandedOver, Decided, Judged};
+ghost use Rattle.judge.specs.Parts.{SpareFreeIn};
+
+// The verdict, and with a refusal its number and line. Not covered: how many facts the case in the lent words has, and the missing answer.
+pub struct Judgement {
+    pub verdict: usize,
+    pub number: usize,
+    pub line: usize,
+    pub count: usize,
+    pub missing: [usize; 4],
+}
+
+pub const COVERED: usize = 0;
+
+pub const NOT_COVERED: usize = 1;
+
+pub const NO_LOG: usize = 2;
+
+pub const REFUSED: usize = 9;
+
+// So many words must be lent.
+pub const LEAST_ROOM: usize = 640;
+
+// The numbers of the facts of the largest case, five each.
+const NUMBERS: usize = 630;
+
+const FACT: usize = 5;
+
+// A judgement that hands nothing over.
+fn plain(verdict: usize, number: usize, line: usize) -> Judgement
+    ensures { λ r. ⌜ r ≡ judgement verdict number line 0 [] ⌝ }
+{
+    Judgement {
+        verdict,
+        number,
+        line,
+        count: 0,
+        missing: [0; 4],
+    }
+}
+
+// Facts in front of the lent words.
+fn put_facts(out: &mut [i32], facts: &[usize])
+    requires { ⌜ (length (now facts) ≤ length (now out)) × ((j : ℕ) → j < length (now facts) → getD (now facts) j 0 < 2147483648) ⌝ }
+    ensures { λ r. ⌜ Wrote (now (out .entry)) (now (out .exit)) 0 (length (now (facts .entry))) (map pos (now (facts .entry))) ⌝ }
+{
+    let mut i = 0;
+    while i < facts.len() {
+        out[i] = facts[i] as i32;
+        i += 1;
+    }
+}
+
+// The facts of a good state, in order and without any to spare, in front of the room; how many.
+fn spare_free(p: &[usize; 1184], st: &[usize], room: &mut [usize]) -> usize
+    requires { ⌜ (length (now room) ≡ 630) × ((x : Sheet) × Ready (now p) x × Found x x (now st)) ⌝ }
+    ensures { λ k. ⌜ (k ≤ 126) × ((x : Sheet) → Ready (now (p .entry)) x → Found x x (now (st .entry)) → SpareFreeIn (now (p .entry)) x (take (k * 5) (now (room .exit))) k) ⌝ }
+{
+    let n = state::facts(p, st, 0, room);
+    let m = order::arrange(room, n);
+    shrink::shrink(p, room, m)
+}
+
+// Hands the case of a good state over, with its least missing answer.
+fn hand_over(p: &[usize; 1184], st: &[usize], out: &mut [i32]) -> Judgement
+    requires { ⌜ (640 ≤ length (now out)) × ((x : Sheet) × Ready (now p) x × Found x x (now st)) ⌝ }
+    ensures { λ r. ⌜ ((x : Sheet) → Ready (now (p .entry)) x → Found x x (now (st .entry)) → HandedOver x (now (out .entry)) (now (out .exit)) r) ⌝ }
+{
+    let mut room = [0usize; NUMBERS];
+    let count = spare_free(p, st, &mut room);
+    let row = views::missing(p, &room[..count * FACT]);
+    put_facts(out, &room[..count * FACT]);
+    let missing = row.values;
+    Judgement {
+        verdict: NOT_COVERED,
+        number: 0,
+        line: 0,
+        count,
+        missing,
+    }
+}
+
+// The verdict of an accepted sheet: a case, else an agreeing log, else neither.
+fn decide(p: &[usize; 1184], out: &mut [i32]) -> Judgement
+    requires { ⌜ (640 ≤ length (now out)) × ((x : Sheet) × Ready (now p) x) ⌝ }
+    ensures { λ r. ⌜ ((x : Sheet) → Ready (now (p .entry)) x → Decided x (now (out .entry)) (now (out .exit)) r) ⌝ }
+{
+    let case = search::find(p, true);
+    if case.found {
+        let words = case.words;
+        return hand_over(p, &words, out);
+    }
+    let log = search::find(p, false);
+    if log.found {
+        return plain(COVERED, 0, 0);
+    }
+    plain(NO_LOG, 0, 0)
+}
+
+// The judgement of an accepted sheet's number form.
+fn judge_words(ws: &[i32], out: &mut [i32]) -> Judgement
+    requires { ⌜ refusalOf (wordLines (now ws)) .number ≡ 0 ⌝ }
+    ensures { λ r. ⌜ Decided (sheetOf (wordLines (now (ws .entry)))) (now (out .entry)) (now (out .exit)) r ⌝ }
+{
+    if out.len() < LEAST_ROOM {
+        return plain(REFUSED, NO_ROOM, 0);
+    }
+    let p = plan::plan(ws);
+    decide(&p, out)
+}
+
+// Judges a sheet.
+pub fn judge(sheet: &[u8], out: &mut [i32]) -> Judgement
+    ensures { λ r. ⌜ Judged (now (sheet .entry)) (now (out .entry)) (now (out .exit)) r ⌝ }
+{
+    let mut ws = [0i32; MOST_WORDS];
+    match sheet::read(sheet, &mut ws) {
+        Ending::Refused(number, line) => plain(REFUSED, number, line),
+        Ending::Done(lines) => judge_words(&ws[..lines * LINE_WORDS], out),
+    }
+}
