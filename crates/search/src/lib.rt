@@ -246,9 +246,9 @@ fn settle(p: &[usize; 1184], st: &mut [usize]) -> bool
     requires { ⌜ length (now st) ≡ 533 ⌝ }
     ensures { λ r. ⌜ ((x : Sheet) → Ready (now (p .entry)) x → (asked : Bool) → stateOf top (now (st .entry)) ≡ free top → HeadsBy r x (sheetBy asked x) (now (st .exit)) (rowCount (now (p .entry)))) ⌝ }
 {
-    let rows = row_count(p);
+    let listed = row_count(p);
     let mut i = 0;
-    while i < rows {
+    while i < listed {
         if !settle_row(p, st, i) {
             return false;
         }

@@ -20,10 +20,10 @@ use Rattle.search.proofs.row_count.Reads as row-count-reads
 use Rattle.search.proofs.settle_row.Reads as settle-row-reads
 
 abbrev Inv-loop : tie.InvT-loop
-Inv-loop p st₀ rows i₀ st i = (length st ≡ 533) × (i ≤ rows) × ((x : Sheet) → Ready p x → (asked : Bool) → stateOf top st₀ ≡ free top → Heads x (sheetBy asked x) st i)
+Inv-loop p st₀ listed i₀ st i = (length st ≡ 533) × (i ≤ listed) × ((x : Sheet) → Ready p x → (asked : Bool) → stateOf top st₀ ≡ free top → Heads x (sheetBy asked x) st i)
 
 abbrev μ-loop : tie.MeasureT-loop
-μ-loop p st₀ rows i₀ st i = rows - i
+μ-loop p st₀ listed i₀ st i = listed - i
 
 row-count-requires : tie.Need-row-count-requires Inv-loop μ-loop
 row-count-requires c κs = search needs
