@@ -6,6 +6,7 @@
 //     6, a value for each column of the question's head       the missing answer
 //     7, relation, a value for each column of it              a fact of the case, a line for each
 use format::FIELD_BYTES;
+use format::MOST_SHEET_BYTES;
 use judge::Judgement;
 use libc::STDIN_FILENO;
 use libc::STDOUT_FILENO;
@@ -14,7 +15,7 @@ ghost use Prim.Native.Nat.{_+_, _*_, _≤_};
 ghost use lib.ListN.{length};
 
 // What is read: one byte more than a sheet may have, so that a longer one is refused. The words that a verdict wants, and those of a fact.
-const READ: usize = 8193;
+const READ: usize = MOST_SHEET_BYTES + 1;
 
 const LENT: usize = 640;
 

@@ -3,16 +3,21 @@
 //     # TEXT                    a heading, printed as it stands
 //     BLOCK ROOM|SHEET|FACTS    evaluates the block BLOCK of SHEET on FACTS, with ROOM lent words
 //
-// In a SHEET "/" stands for byte 10, "," for seven blanks, ";" for six; any other byte stands for itself. FACTS are decimal words by single
-// blanks, with "/" after each fact, whose last zeros may be left out.
+// In a SHEET "/" stands for byte 10, "," for seven blanks, ";" for six, "\" with two hexadecimal digits for the byte of that number; any
+// other byte stands for itself. FACTS are decimal words by single blanks, with "/" after each fact, whose last zeros may be left out.
 //
 // What is printed: the number, the line and the count; "=" where the lent words after the answers are as they were lent, and "!" where they
 // are not; a bar; the answers, four words each, with "/" after each.
-mod input;
 mod output;
 
-use libc::STDOUT_FILENO;
+use stored::input;
+use stored::print;
 ghost use Prim.Native.Nat.{_≤_};
+
+// The words of a fact, and of an answer.
+const FACT: usize = 5;
+
+const ANSWER: usize = 4;
 
 // Runs every case: the count is one that no input reaches.
 fn main() {
@@ -30,15 +35,15 @@ fn run_next() -> bool {
         return false;
     }
     run(&line[0..n]);
-    output::byte(b'\n');
+    print::byte(b'\n');
     true
 }
 
 // Runs a case. A line without a bar is a heading.
 fn run(case: &[u8]) {
-    let bar = input::find(case, 0, b'|', b'|');
+    let bar = input::place(case, b'|');
     if bar == case.len() {
-        io::write_all(STDOUT_FILENO, case);
+        print::bytes(case);
         return;
     }
     run_parts(&case[0..bar], &case[bar + 1..]);
@@ -46,12 +51,12 @@ fn run(case: &[u8]) {
 
 // Takes a case's two numbers apart, and its two texts.
 fn run_parts(numbers: &[u8], texts: &[u8]) {
-    let gap = input::find(numbers, 0, b' ', b' ');
+    let gap = input::place(numbers, b' ');
     let block = input::number(&numbers[0..gap]);
     let room = input::number(&numbers[gap..]);
-    let bar = input::find(texts, 0, b'|', b'|');
+    let bar = input::place(texts, b'|');
     if bar == texts.len() {
-        output::byte(b'?');
+        print::byte(b'?');
         return;
     }
     call(&texts[0..bar], block, &texts[bar + 1..], room);
@@ -62,9 +67,9 @@ fn call(sheet: &[u8], block: usize, facts: &[u8], room: usize) {
     let mut bytes = [0u8; 8704];
     let n = input::bytes(sheet, &mut bytes);
     let mut words = [0i32; 704];
-    let m = input::words(facts, &mut words);
+    let m = input::words(facts, FACT, &mut words);
     let mut lent = [0i32; 8192];
-    output::mark(&mut lent);
+    print::put_marks(&mut lent);
     let k = least(room, 8192);
     show(&bytes[0..n], block, &words[0..m], &mut lent[0..k]);
 }
@@ -73,14 +78,18 @@ fn call(sheet: &[u8], block: usize, facts: &[u8], room: usize) {
 fn show(sheet: &[u8], block: usize, facts: &[i32], lent: &mut [i32]) {
     let ending = evaluate::evaluate(sheet, block, facts, lent);
     let done = least(words_of(output::count(ending)), lent.len());
-    output::ending(ending, output::are_marked(lent, done));
-    output::byte(b'|');
-    output::words(&lent[0..done]);
+    output::ending(ending, print::are_marked(lent, done));
+    print::byte(b'|');
+    print::words(&lent[0..done], ANSWER);
 }
 
 // How many words that many answers have. More than the program lends count as a hundred thousand.
 fn words_of(answers: usize) -> usize {
-    if answers < 25000 { answers * 4 } else { 100000 }
+    if answers < 25000 {
+        answers * ANSWER
+    } else {
+        100000
+    }
 }
 
 fn least(a: usize, b: usize) -> usize

@@ -12,12 +12,13 @@
 //
 // What is printed of reading and of writing: the number, the line and the count; "=" where the lent words or bytes after the count are as
 // they were lent, and "!" where they are not; a bar; the words or bytes written. Of a line: its length, a bar, its bytes.
-mod input;
 mod output;
 
 ghost use Prim.Native.Nat.{_≤_};
 ghost use lib.ListN.{length};
-use libc::STDOUT_FILENO;
+use format::LINE_WORDS;
+use stored::input;
+use stored::print;
 
 // Runs every case: the count is one that no input reaches.
 fn main() {
@@ -35,15 +36,15 @@ fn run_next() -> bool {
         return false;
     }
     run(&line[0..n]);
-    output::byte(b'\n');
+    print::byte(b'\n');
     true
 }
 
 // Runs a case. A line without a bar is a heading.
 fn run(case: &[u8]) {
-    let bar = input::find(case, 0, b'|', b'|');
+    let bar = input::place(case, b'|');
     if bar == case.len() {
-        io::write_all(STDOUT_FILENO, case);
+        print::bytes(case);
         return;
     }
     let number = input::number(&case[0..bar]);
@@ -56,7 +57,7 @@ fn call(name: u8, number: usize, text: &[u8]) {
         b'w' => call_write(number, text),
         b'l' => call_line(number, text),
         b'b' => call_both(number, text),
-        _ => output::byte(b'?'),
+        _ => print::byte(b'?'),
     }
 }
 
@@ -68,7 +69,11 @@ fn least(a: usize, b: usize) -> usize
 
 // How many words that many lines have. More lines than a sheet can have count as a thousand.
 fn words_of(lines: usize) -> usize {
-    if lines < 1000 { lines * 7 } else { 7000 }
+    if lines < 1000 {
+        lines * LINE_WORDS
+    } else {
+        7000
+    }
 }
 
 fn call_read(room: usize, text: &[u8]) {
@@ -86,14 +91,14 @@ fn read(given: &[u8], lent: &mut [i32]) -> usize
     let answer = sheet::read(given, lent);
     let done = least(words_of(output::count(answer)), lent.len());
     output::answer(answer, output::are_words(lent, done, 77777777));
-    output::byte(b'|');
-    output::words(&lent[0..done]);
+    print::byte(b'|');
+    print::words(&lent[0..done], LINE_WORDS);
     done
 }
 
 fn call_write(room: usize, text: &[u8]) {
     let mut given = [0i32; 704];
-    let n = input::words(text, &mut given);
+    let n = input::words(text, LINE_WORDS, &mut given);
     let mut lent = [35u8; 4352];
     let k = least(room, 4352);
     write(&given[0..n], &mut lent[0..k]);
@@ -103,7 +108,7 @@ fn write(given: &[i32], lent: &mut [u8]) {
     let answer = sheet::write(given, lent);
     let done = least(output::count(answer), lent.len());
     output::answer(answer, output::are_bytes(lent, done, 35));
-    output::byte(b'|');
+    print::byte(b'|');
     output::bytes(&lent[0..done]);
 }
 
@@ -115,7 +120,7 @@ fn call_line(number: usize, text: &[u8]) {
 
 fn line(given: &[u8], number: usize) {
     let back = sheet::line(given, number);
-    output::number(back.len(), b'|');
+    print::number(back.len(), b'|');
     output::bytes(back);
 }
 
