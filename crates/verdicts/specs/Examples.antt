@@ -1,4 +1,4 @@
--- The judged examples of the paper that are proved: each is an entry of one table, `examples`.
+-- The judged examples that are proved: each is an entry of one table, `examples`.
 use mathlib.Core.Path.{_≡_}
 use mathlib.Core.List.{List, [], _∷_, _++_}
 use Prim.Native.Nat.{ℕ}
@@ -44,7 +44,7 @@ Says (judge-any ws) = (q : Block) (ls : List Block) → NoLog (sheet q ls ws)
 Says (evaluate b log rs) = Answers log b rs
 Says (evaluate-any log rs) = (b : Block) (a : Atom) → In a (b .atoms) → Answers log b rs
 
--- ---- the sheet that the paper shows whole, line by line, and the same without its rows
+-- ---- the sheet that is shown whole in the README, line by line, and the same without its rows
 
 abbrev without-rows : List Line
 without-rows =
@@ -126,7 +126,7 @@ one-pause = block [] (pause (con 1 ∷ []) ∷ [])
 abbrev same-tick : Block
 same-tick = block (t ∷ []) (beat (con 7 ∷ t ∷ []) ∷ noise (con 7 ∷ t ∷ []) ∷ [])
 
--- ---- the table, in the paper's order
+-- ---- the table
 
 abbrev pub examples : List Entry
 examples =
