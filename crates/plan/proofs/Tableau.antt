@@ -36,12 +36,12 @@ term-fine (t ∷ ts) h (suc c) = term-fine ts (λ u m. h u (inr m)) c
 
 -- ---- the facts of the tableau
 
-tableau-length : (p : List ℕ) (s : State) (a n : ℕ) → length (tableauFacts p s a n) ≡ n * 5
+pub tableau-length : (p : List ℕ) (s : State) (a n : ℕ) → length (tableauFacts p s a n) ≡ n * 5
 unfolding tableauFacts
 tableau-length p s a zero = refl
 tableau-length p s a (suc n) = let e = tableau-length p s (suc a) n in omega arith
 
-tableau-relation : (p : List ℕ) (s : State) (a n i : ℕ) → i < n → getD (tableauFacts p s a n) (i * 5) 0 ≡ tableauAt p (a + i) 0
+pub tableau-relation : (p : List ℕ) (s : State) (a n i : ℕ) → i < n → getD (tableauFacts p s a n) (i * 5) 0 ≡ tableauAt p (a + i) 0
 unfolding tableauFacts
 tableau-relation p s a zero i h = absurd (omega arith)
 tableau-relation p s a (suc n) zero h = ap (λ y. tableauAt p y 0) (let e : a ≡ a + 0 = omega arith in e)
@@ -49,7 +49,7 @@ tableau-relation p s a (suc n) (suc i) h =
     let e : suc i * 5 ≡ suc (suc (suc (suc (suc (i * 5))))) = omega arith in
     ap (λ y. getD (tableauFacts p s a (suc n)) y 0) e ∙ tableau-relation p s (suc a) n i (omega arith) ∙ ap (λ y. tableauAt p y 0) (let e : suc a + i ≡ a + suc i = omega arith in e)
 
-tableau-term : (p : List ℕ) (s : State) (a n i c : ℕ) → i < n → c < 4 → getD (tableauFacts p s a n) (i * 5 + 1 + c) 0 ≡ slotValue s (getD p ((a + i) * 5 + 1 + c) 0)
+pub tableau-term : (p : List ℕ) (s : State) (a n i c : ℕ) → i < n → c < 4 → getD (tableauFacts p s a n) (i * 5 + 1 + c) 0 ≡ slotValue s (getD p ((a + i) * 5 + 1 + c) 0)
 unfolding tableauFacts
 tableau-term p s a zero i c h f = absurd (omega arith)
 tableau-term p s a (suc n) zero zero h f = ap (λ y. slotValue s (getD p y 0)) (let e : a * 5 + 1 ≡ (a + 0) * 5 + 1 + 0 = omega arith in e)
