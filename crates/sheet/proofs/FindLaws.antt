@@ -32,7 +32,7 @@ closed-at s at e le is lt =
     ∙ ap (λ n. take n t ∷ closed (drop (suc (before t)) t)) (let k : before t ≡ e - at = omega arith in k)
     ∙ ap (λ x. take (e - at) t ∷ closed x) (drop-drop (suc (before t)) at s ∙ ap (λ n. drop n s) (let q : at + suc (before t) ≡ e + 1 = omega arith in q))
 
-closed-open : (s : List ℕ) (at : ℕ) → at ≤ length s → at + before (drop at s) ≡ length s → closed (drop at s) ≡ []
+pub closed-open : (s : List ℕ) (at : ℕ) → at ≤ length s → at + before (drop at s) ≡ length s → closed (drop at s) ≡ []
 closed-open s at le h =
     let l = length-drop at s in
     let t = drop at s in

@@ -9,6 +9,7 @@ ghost use Rattle.format.specs.Line.{lineAt, lineOf, lineWords, lineBytes, bytes
 ghost use Rattle.format.specs.Cause.{refusalOf};
 ghost use Rattle.format.specs.Sheet.{readEnding, readWords, writeEnding, writeBytes};
 ghost use Rattle.sheet.specs.Parts.{before, Part, Wrote, Parsed};
+ghost use Rattle.sheet.specs.Start.{lineStart};
 use format::Ending;
 use format::FIELD_BYTES;
 use format::Field;
@@ -226,14 +227,14 @@ pub fn write(words: &[i32], out: &mut [u8]) -> Ending
 }
 
 // Where a part of the bytes starts and ends.
-struct Place {
-    start: usize,
-    end: usize,
+pub struct Place {
+    pub start: usize,
+    pub end: usize,
 }
 
-// Where a closed line stands, counted from 1; an empty part where there is none.
-fn find_line(s: &[u8], number: usize) -> Place
-    ensures { λ r. ⌜ Part (now (s .entry)) (r .start) (r .end) (lineAt (now (s .entry)) number) ⌝ }
+// Where a closed line stands, counted from 1; an empty part at 0 where there is none.
+pub fn find_line(s: &[u8], number: usize) -> Place
+    ensures { λ r. ⌜ (r .start ≡ lineStart (now (s .entry)) number) × Part (now (s .entry)) (r .start) (r .end) (lineAt (now (s .entry)) number) ⌝ }
 {
     let mut at = 0;
     let mut k = 1;

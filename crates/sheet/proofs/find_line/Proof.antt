@@ -6,18 +6,20 @@ use lib.ListN.{length}
 use Rattle.format.specs.Line.{lineAt}
 use Rattle.sheet.proofs.ParseLaws.{end-inside}
 use Rattle.sheet.proofs.FindLaws.{lineFrom, from-start, from-next, found-none, found-end, found-here}
+use Rattle.sheet.specs.Start.{lineStart}
+use Rattle.sheet.proofs.StartLaws.{startFrom, start-first, start-next, start-none, start-end, start-here}
 use Rattle.sheet.proofs.find_line.Statement.{statement}
 use Rattle.sheet.proofs.find_line.Tie as tie
 
 abbrev Inv-loop : tie.InvT-loop
-Inv-loop s number at₀ k₀ at k = (at ≤ length s) × (k ≤ at + 1) × (lineAt s number ≡ lineFrom s at k number)
+Inv-loop s number at₀ k₀ at k = (at ≤ length s) × (k ≤ at + 1) × (lineAt s number ≡ lineFrom s at k number) × (lineStart s number ≡ startFrom s at k number)
 
 abbrev μ-loop : tie.MeasureT-loop
 μ-loop s number at₀ k₀ at k = length s - at
 
 loop-holds : tie.Need-loop-holds Inv-loop μ-loop
 loop-holds c =
-    (omega arith, omega arith, from-start (c .before .args .s .now) (c .before .args .number))
+    (omega arith, omega arith, from-start (c .before .args .s .now) (c .before .args .number), start-first (c .before .args .s .now) (c .before .args .number))
 
 line-end-requires : tie.Need-line-end-requires Inv-loop μ-loop
 line-end-requires c κs = search needs
@@ -26,7 +28,8 @@ returns : tie.Need-returns Inv-loop μ-loop
 returns c =
     let l = c .before .before .before .loop in
     let a = c .before .before .before .before .before .args in
-    found-none (a .s .now) (l .at) (l .k) (a .number) (l .inv .0) (sym (c .before .line-end .ensures) ∙ c .if1 .taken) (l .inv .2)
+    let here = sym (c .before .line-end .ensures) ∙ c .if1 .taken in
+    (start-none (a .s .now) (l .at) (l .k) (a .number) (l .inv .0) here (l .inv .3), found-none (a .s .now) (l .at) (l .k) (a .number) (l .inv .0) here (l .inv .2))
 
 returns-2 : tie.Need-returns-2 Inv-loop μ-loop
 returns-2 c =
@@ -35,7 +38,7 @@ returns-2 c =
     let r = c .before .before .line-end in
     let i = c .before .if1 .left in
     let b = end-inside (a .s .now) (l .at) (r .result) (l .inv .0) (r .ensures) in
-    found-here (a .s .now) (l .at) (r .result) (l .k) (a .number) (l .inv .0) (r .ensures) (omega arith) (c .if2 .taken) (l .inv .2)
+    (start-here (a .s .now) (l .at) (r .result) (l .k) (a .number) (l .inv .0) (r .ensures) (omega arith) (c .if2 .taken) (l .inv .3), found-here (a .s .now) (l .at) (r .result) (l .k) (a .number) (l .inv .0) (r .ensures) (omega arith) (c .if2 .taken) (l .inv .2))
 
 add-at : tie.Need-add-at Inv-loop μ-loop
 add-at c =
@@ -71,11 +74,13 @@ loop-again c =
     let r = c .before .before .line-end in
     let i = c .before .if1 .left in
     let b = end-inside (a .s .now) (l .at) (r .result) (l .inv .0) (r .ensures) in
-    (omega arith, omega arith, from-next (a .s .now) (l .at) (r .result) (l .k) (a .number) (l .inv .0) (r .ensures) (omega arith) (c .if2 .left) (l .inv .2))
+    (omega arith, omega arith, from-next (a .s .now) (l .at) (r .result) (l .k) (a .number) (l .inv .0) (r .ensures) (omega arith) (c .if2 .left) (l .inv .2), start-next (a .s .now) (l .at) (r .result) (l .k) (a .number) (l .inv .0) (r .ensures) (omega arith) (c .if2 .left) (l .inv .3))
 
 returns-3 : tie.Need-returns-3 Inv-loop μ-loop
 returns-3 c =
-    let l = c .before .loop in let a = c .before .before .before .args in found-end (a .s .now) (l .at) (l .k) (a .number) (c .loop-test .left) (l .inv .2)
+    let l = c .before .loop in
+    let a = c .before .before .before .args in
+    (start-end (a .s .now) (l .at) (l .k) (a .number) (c .loop-test .left) (l .inv .3), found-end (a .s .now) (l .at) (l .k) (a .number) (c .loop-test .left) (l .inv .2))
 
 pub find-line-spec : {M : Type 1} → statement M
 find-line-spec =

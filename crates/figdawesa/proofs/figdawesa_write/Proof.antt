@@ -1,0 +1,22 @@
+use mathlib.Core.Path.{ap, _∙_}
+use borrow.Author.Needs.{needs}
+use Rattle.format.specs.Sheet.{returned}
+use Rattle.figdawesa.proofs.figdawesa_write.Statement.{statement}
+use Rattle.figdawesa.proofs.figdawesa_write.Tie as tie
+
+write-requires : tie.Need-write-requires
+write-requires c κs = search needs
+
+in-numbers-requires : tie.Need-in-numbers-requires
+in-numbers-requires c κs = search needs
+
+same-length : tie.Need-same-length
+same-length c = search needs
+
+returns : tie.Need-returns
+returns c =
+    let r = c .before .before .before .write in
+    (c .in-numbers .ensures ∙ ap returned (r .ensures .0), r .ensures .1)
+
+pub figdawesa-write-spec : {M : Type 1} → statement M
+figdawesa-write-spec = tie.close (tie.spec write-requires in-numbers-requires same-length returns)

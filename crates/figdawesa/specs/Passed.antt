@@ -1,0 +1,11 @@
+-- What is handed to C, as the definitions of the calls name it: field by field the same.
+use Rattle.format.specs.Sheet.{Returned}
+use Rattle.judge.specs.declared.Judgement.{Judgement}
+use Rattle.figdawesa.specs.declared.Ended.{Ended}
+use Rattle.figdawesa.specs.declared.Outcome.{Outcome}
+
+abbrev pub told : Ended → Returned
+told r = record { number = r .number; line = r .line; count = r .count }
+
+abbrev pub judgementOf : Outcome → Judgement
+judgementOf r = record { verdict = r .verdict; number = r .number; line = r .line; count = r .count; missing = r .missing }

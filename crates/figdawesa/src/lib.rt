@@ -1,0 +1,114 @@
+// The calls for programs in C and Rust. include/figdawesa.h describes them to those who call them.
+use format::Ending;
+ghost use mathlib.Core.Path.{_≡_};
+ghost use Prim.Native.Nat.{_+_, _≤_};
+ghost use lib.ListN.{length, take, drop};
+ghost use Rattle.format.specs.Line.{lineAt};
+ghost use Rattle.format.specs.Sheet.{returned, readEnding, readWords, writeEnding, writeBytes};
+ghost use Rattle.format.specs.declared.Ending.{Ending};
+ghost use Rattle.meaning.specs.Evaluate.{Evaluated};
+ghost use Rattle.sheet.specs.Start.{lineStart};
+ghost use Rattle.judge.specs.Judged.{Judged};
+ghost use Rattle.figdawesa.specs.Passed.{told, judgementOf};
+
+// How a call ended: a refusal's number and line, both 0 where nothing is refused, and the count of what was written.
+#[repr(C)]
+pub struct Ended {
+    pub number: usize,
+    pub line: usize,
+    pub count: usize,
+}
+
+// Where a part of the sheet stands.
+#[repr(C)]
+pub struct Stretch {
+    pub start: usize,
+    pub length: usize,
+}
+
+// A judgement: the verdict, a refusal's number and line, the count of facts, the missing answer.
+#[repr(C)]
+pub struct Outcome {
+    pub verdict: usize,
+    pub number: usize,
+    pub line: usize,
+    pub count: usize,
+    pub missing: [usize; 4],
+}
+
+// An ending in three numbers.
+fn in_numbers(e: Ending) -> Ended
+    ensures { λ r. ⌜ told r ≡ returned e ⌝ }
+{
+    match e {
+        Ending::Done(count) => Ended {
+            number: 0,
+            line: 0,
+            count,
+        },
+        Ending::Refused(number, line) => Ended {
+            number,
+            line,
+            count: 0,
+        },
+    }
+}
+
+// A sheet's bytes to its number form in the lent words.
+#[no_mangle]
+pub extern "C" fn figdawesa_read(sheet: &[u8], out: &mut [i32]) -> Ended
+    ensures { λ r. ⌜ (told r ≡ returned (readEnding (now (sheet .entry)) (length (now (out .entry))))) × (now (out .exit) ≡ readWords (now (sheet .entry)) (now (out .entry))) ⌝ }
+{
+    in_numbers(sheet::read(sheet, out))
+}
+
+// A number form to its sheet's bytes in the lent bytes.
+#[no_mangle]
+pub extern "C" fn figdawesa_write(words: &[i32], out: &mut [u8]) -> Ended
+    ensures { λ r. ⌜ (told r ≡ returned (writeEnding (now (words .entry)) (length (now (out .entry))))) × (now (out .exit) ≡ writeBytes (now (words .entry)) (now (out .entry))) ⌝ }
+{
+    in_numbers(sheet::write(words, out))
+}
+
+// Where a line's own bytes stand, without byte 10; the empty part at 0 where there is no such closed line.
+#[no_mangle]
+pub extern "C" fn figdawesa_line(sheet: &[u8], number: usize) -> Stretch
+    ensures { λ r. ⌜ (r .start ≡ lineStart (now (sheet .entry)) number) × (r .length ≡ length (lineAt (now (sheet .entry)) number)) ⌝ }
+    ensures { λ r. ⌜ (r .start + r .length ≤ length (now (sheet .entry))) × (take (r .length) (drop (r .start) (now (sheet .entry))) ≡ lineAt (now (sheet .entry)) number) ⌝ }
+{
+    let p = sheet::find_line(sheet, number);
+    let length = p.end - p.start;
+    Stretch {
+        start: p.start,
+        length,
+    }
+}
+
+// The answers that given facts give a block of a sheet: 1 the question, 2 the list, 2 + n view n.
+#[no_mangle]
+pub extern "C" fn figdawesa_evaluate(
+    sheet: &[u8],
+    block: usize,
+    facts: &[i32],
+    out: &mut [i32],
+) -> Ended
+    ensures { λ r. ⌜ ((e : Ending) × (told r ≡ returned e) × Evaluated (now (sheet .entry)) block (now (facts .entry)) (now (out .entry)) (now (out .exit)) e) ⌝ }
+{
+    in_numbers(evaluate::evaluate(sheet, block, facts, out))
+}
+
+// The verdict of a sheet; where the list does not cover, a case in the lent words.
+#[no_mangle]
+pub extern "C" fn figdawesa_judge(sheet: &[u8], out: &mut [i32]) -> Outcome
+    ensures { λ r. ⌜ Judged (now (sheet .entry)) (now (out .entry)) (now (out .exit)) (judgementOf r) ⌝ }
+{
+    let j = judge::judge(sheet, out);
+    let missing = j.missing;
+    Outcome {
+        verdict: j.verdict,
+        number: j.number,
+        line: j.line,
+        count: j.count,
+        missing,
+    }
+}

@@ -1,0 +1,135 @@
+/* Figdawesa from C: sheets read and written, their lines, evaluation, and the verdict on cover.
+ *
+ * Link target/staticlib/libfigdawesa.a, which `rt staticlib figdawesa` writes, for x86-64 Linux. Of the C library it needs memcpy and
+ * memset alone. README.md says what a sheet is, docs/PROMISES.md what each call promises.
+ *
+ * For every call:
+ *
+ *   - A pointer is followed by its length, which counts elements: bytes for uint8_t, words for int32_t. The caller sees to it that so
+ *     many elements can be read there, and can be written where the pointer is not const. Where a length is 0 the pointer is not used, and
+ *     may be null.
+ *   - What is written to (`out`) overlaps nothing else that is passed. Inputs may overlap each other; they are never written.
+ *   - No length and no content of what is passed is an error of the caller's: the answer is then a refusal.
+ *   - A refusal changes nothing. Otherwise the results stand at the front of `out`, and what follows them is as it was.
+ *   - Nothing is kept between calls, and nothing is allocated. Threads can call at the same time, each with an `out` of its own.
+ *   - Stack: a program that calls figdawesa_judge ran in 200 KiB on the hardest sheets that were tried. Give its thread 256 KiB or more.
+ */
+#ifndef FIGDAWESA_H
+#define FIGDAWESA_H
+
+#include <stddef.h>
+#include <stdint.h>
+
+#ifdef __cplusplus
+extern "C" {
+#endif
+
+/* ---- Sizes */
+
+#define FIGDAWESA_SHEET_BYTES 8192 /* a sheet's bytes, at most */
+#define FIGDAWESA_READ_WORDS 602   /* the words that figdawesa_read wants, and the number form's words, at most */
+#define FIGDAWESA_WRITE_BYTES 4214 /* the bytes that figdawesa_write wants */
+#define FIGDAWESA_JUDGE_WORDS 640  /* the words that figdawesa_judge wants */
+#define FIGDAWESA_FACTS 128        /* facts given to figdawesa_evaluate, at most */
+#define FIGDAWESA_LINE_WORDS 7     /* a line in the number form: its field count, then six fields, unused ones 0 */
+#define FIGDAWESA_FACT_WORDS 5     /* a fact: its relation, then four values, unused ones 0 */
+#define FIGDAWESA_ANSWER_WORDS 4   /* an answer: four values, unused ones 0 */
+
+/* A relation's number, name and columns:
+ *
+ *   1 Rower(rower, crew)            6 Noise(strap, tick)
+ *   2 Strap(strap)                  7 Pulse(strap, tick, rate)
+ *   3 Worn(strap, session, rower)   8 Coach(coach, crew)
+ *   4 Sig(strap, tick)              9 Seat(rower, session, boat, seat)
+ *   5 Beat(strap, tick)            10 Pause(session)
+ */
+
+/* ---- Refusals, by number; the line that is returned stands behind the colon.
+ *
+ * The first that holds is returned, in this order: 1; words not by sevens; line by line 2, 3, 4, 5, 6, 7, 9; a question or a list that
+ * is missing; 8, head by head; 10; the facts' word count; fact by fact 11, then 12; 13. */
+
+enum {
+    FIGDAWESA_DONE = 0,          /* nothing is refused */
+    FIGDAWESA_TOO_LONG = 1,      /* a sheet over 8,192 bytes, a number form over 602 words: line 0 */
+    FIGDAWESA_MALFORMED = 2,     /* a line or a field that is malformed, an unclosed last line: its line; words not by sevens: line 0 */
+    FIGDAWESA_MISPLACED = 3,     /* no kind, out of place, or a wrong field count: its line; question or list missing: line 0 */
+    FIGDAWESA_WRONG_COLUMNS = 4, /* no such relation, or its columns not met: the atom's line */
+    FIGDAWESA_OUT_OF_RANGE = 5,  /* a term out of range, a variable in a row: its line */
+    FIGDAWESA_TOO_MANY = 6,      /* one atom, view or row too many: its line */
+    FIGDAWESA_WRONG_LENGTH = 7,  /* the list's head unlike the question's in length, or a row unlike its head: its line */
+    FIGDAWESA_UNSAFE_HEAD = 8,   /* a block without atoms, a head variable in no atom of its block: the head's line */
+    FIGDAWESA_NOT_ABOVE = 9,     /* a row that is not above the one before: its line */
+    FIGDAWESA_NO_BLOCK = 10,     /* no such block: line 0 */
+    FIGDAWESA_WRONG_FACT = 11,   /* fact words not by fives; a fact with a wrong relation, value or unused word: line 0 */
+    FIGDAWESA_FACT_ORDER = 12,   /* over 128 facts, or not ascending: line 0 */
+    FIGDAWESA_NO_ROOM = 13       /* `out` is too short: line 0 */
+};
+
+/* How a call ended. Nothing refused: number and line are 0. Refused: the number, the line from 1, or 0 where none is named, and count 0. */
+struct figdawesa_ended {
+    size_t number;
+    size_t line;
+    size_t count;
+};
+
+/* A part of the sheet's bytes. */
+struct figdawesa_stretch {
+    size_t start;
+    size_t length;
+};
+
+/* ---- Verdicts */
+
+enum {
+    FIGDAWESA_COVERED = 0,     /* some log gives exactly the listed rows, and each such log gives the list every answer of the question */
+    FIGDAWESA_NOT_COVERED = 1, /* some such log gives the question an answer that it does not give the list */
+    FIGDAWESA_NO_LOG = 2,      /* no log gives exactly the listed rows */
+    FIGDAWESA_REFUSED = 9      /* the sheet is sent back, by number and line */
+};
+
+/* A judgement. Number and line are 0 unless the verdict is 9. Count and missing are 0 unless the verdict is 1: then `count` facts stand in
+ * `out`, and `missing` is the least answer that they give the question and not the list, in four numbers, unused ones 0. */
+struct figdawesa_outcome {
+    size_t verdict;
+    size_t number;
+    size_t line;
+    size_t count;
+    size_t missing[4];
+};
+
+/* ---- The calls */
+
+/* A sheet's bytes to its number form: `count` lines of seven words at the front of `out`. At most 602 words are written.
+ * Refused by 1 to 9, and then by 13 where out_words is below 602, however short the sheet is. */
+struct figdawesa_ended figdawesa_read(const uint8_t *sheet, size_t sheet_bytes, int32_t *out, size_t out_words);
+
+/* A number form to its sheet's bytes: `count` bytes at the front of `out`. At most 4,214 bytes are written.
+ * Refused by 1 to 9, and then by 13 where out_bytes is below 4,214, however short the form is. */
+struct figdawesa_ended figdawesa_write(const int32_t *words, size_t word_count, uint8_t *out, size_t out_bytes);
+
+/* Where line `number`, counted from 1, stands in the sheet: its own bytes, without the byte 10 that closes it. Start and length are 0
+ * where there is no such closed line. Bytes of any length and content are taken, a sheet or not. */
+struct figdawesa_stretch figdawesa_line(const uint8_t *sheet, size_t sheet_bytes, size_t number);
+
+/* The answers that given facts give a block of the sheet: `count` answers of four words at the front of `out`, ascending, each once, and
+ * no others. Block 1 is the question, 2 the list, 2 + n view n. Facts ascend, each once, with values from 0 to 1,000,999.
+ * Refused by 1 to 9, then by 10, then by 11 and 12, and then by 13 exactly where the answers do not fit. */
+struct figdawesa_ended figdawesa_evaluate(const uint8_t *sheet, size_t sheet_bytes, size_t block, const int32_t *facts, size_t fact_words,
+                                          int32_t *out, size_t out_words);
+
+/* Whether the sheet's list covers its question. Verdicts 0 and 2 write nothing. Verdict 1 writes `count` facts of five words at the front
+ * of `out`, ascending, each once: a log that gives exactly the listed rows, shows that the list does not cover, and has no fact to spare.
+ * There are at most 126 of them, so at most 630 words are written; each value stands in the sheet or lies in 1,000,000 to 1,000,999.
+ * Verdict 9: refused by 1 to 9, and then by 13 where out_words is below 640, whatever the verdict would be. */
+struct figdawesa_outcome figdawesa_judge(const uint8_t *sheet, size_t sheet_bytes, int32_t *out, size_t out_words);
+
+#ifdef __cplusplus
+}
+#endif
+
+#if defined(__STDC_VERSION__) && __STDC_VERSION__ >= 201112L
+_Static_assert(sizeof(size_t) == 8, "the archive is for x86-64");
+#endif
+
+#endif

@@ -1,0 +1,263 @@
+//! Whether a saved list covers a question, judged from the rows of lists alone; with sheets read and written, their lines, and evaluation.
+//!
+//! Each function is a call of the proved library, over slices that the caller lends. `docs/PROMISES.md` says what is proved of it. Every
+//! input is answered: what cannot be taken is [`Refused`], and then nothing lent is changed. Otherwise the results stand at the front
+//! of what was lent, and are handed back as that part; what follows them is as it was.
+//!
+//! What no proof covers is this file: the declarations of the calls in C's form, and that each is passed a slice's own pointer and length.
+use std::error::Error;
+use std::fmt;
+
+/// A sheet's bytes, at most.
+pub const SHEET_BYTES: usize = 8192;
+/// The words that [`read`] wants, and the number form's words, at most.
+pub const READ_WORDS: usize = 602;
+/// The bytes that [`write`] wants.
+pub const WRITE_BYTES: usize = 4214;
+/// The words that [`judge`] wants.
+pub const JUDGE_WORDS: usize = 640;
+/// The facts given to [`evaluate`], at most.
+pub const FACTS: usize = 128;
+/// A line in the number form: its field count, then six fields, unused ones 0.
+pub const LINE_WORDS: usize = 7;
+/// A fact: its relation, then four values, unused ones 0.
+pub const FACT_WORDS: usize = 5;
+/// An answer: four values, unused ones 0.
+pub const ANSWER_WORDS: usize = 4;
+
+/// The relations' names and columns, from relation 1 on.
+pub const RELATIONS: [(&str, usize); 10] = [
+    ("Rower", 2),
+    ("Strap", 1),
+    ("Worn", 3),
+    ("Sig", 2),
+    ("Beat", 2),
+    ("Noise", 2),
+    ("Pulse", 3),
+    ("Coach", 2),
+    ("Seat", 4),
+    ("Pause", 1),
+];
+
+/// The calls as C has them, declared as in `include/figdawesa.h`.
+mod c {
+    #[repr(C)]
+    pub struct Ended {
+        pub number: usize,
+        pub line: usize,
+        pub count: usize,
+    }
+
+    #[repr(C)]
+    pub struct Stretch {
+        pub start: usize,
+        pub length: usize,
+    }
+
+    #[repr(C)]
+    pub struct Outcome {
+        pub verdict: usize,
+        pub number: usize,
+        pub line: usize,
+        pub count: usize,
+        pub missing: [usize; 4],
+    }
+
+    extern "C" {
+        pub fn figdawesa_read(sheet: *const u8, sheet_bytes: usize, out: *mut i32, out_words: usize) -> Ended;
+        pub fn figdawesa_write(words: *const i32, word_count: usize, out: *mut u8, out_bytes: usize) -> Ended;
+        pub fn figdawesa_line(sheet: *const u8, sheet_bytes: usize, number: usize) -> Stretch;
+        pub fn figdawesa_evaluate(
+            sheet: *const u8,
+            sheet_bytes: usize,
+            block: usize,
+            facts: *const i32,
+            fact_words: usize,
+            out: *mut i32,
+            out_words: usize,
+        ) -> Ended;
+        pub fn figdawesa_judge(sheet: *const u8, sheet_bytes: usize, out: *mut i32, out_words: usize) -> Outcome;
+    }
+}
+
+/// Why something is sent back, by its number.
+#[derive(Clone, Copy, Debug, PartialEq, Eq, Hash)]
+pub enum Cause {
+    /// A sheet over 8,192 bytes, a number form over 602 words.
+    TooLong = 1,
+    /// A line or a field that is malformed, an unclosed last line, words not by sevens.
+    Malformed = 2,
+    /// A kind that is none, or out of place, or with a wrong field count; a question or a list that is missing.
+    Misplaced = 3,
+    /// No such relation, or its columns not met.
+    WrongColumns = 4,
+    /// A term out of range, a variable in a row.
+    OutOfRange = 5,
+    /// One atom, view or row too many.
+    TooMany = 6,
+    /// The list's head unlike the question's in length, or a row unlike its head.
+    WrongLength = 7,
+    /// A block without atoms, a head variable in no atom of its block.
+    UnsafeHead = 8,
+    /// A row that is not above the one before.
+    NotAbove = 9,
+    /// No such block.
+    NoBlock = 10,
+    /// Fact words not by fives; a fact with a wrong relation, value or unused word.
+    WrongFact = 11,
+    /// Over 128 facts, or not ascending.
+    FactOrder = 12,
+    /// What was lent is too short.
+    NoRoom = 13,
+}
+
+impl Cause {
+    /// Every cause, by its number from 1 on.
+    pub const ALL: [Cause; 13] = [
+        Cause::TooLong,
+        Cause::Malformed,
+        Cause::Misplaced,
+        Cause::WrongColumns,
+        Cause::OutOfRange,
+        Cause::TooMany,
+        Cause::WrongLength,
+        Cause::UnsafeHead,
+        Cause::NotAbove,
+        Cause::NoBlock,
+        Cause::WrongFact,
+        Cause::FactOrder,
+        Cause::NoRoom,
+    ];
+
+    pub fn number(self) -> usize {
+        self as usize
+    }
+
+    fn text(self) -> &'static str {
+        match self {
+            Cause::TooLong => "too long",
+            Cause::Malformed => "malformed",
+            Cause::Misplaced => "out of place, or a question or a list is missing",
+            Cause::WrongColumns => "no such relation, or not its columns",
+            Cause::OutOfRange => "a term out of range",
+            Cause::TooMany => "one atom, view or row too many",
+            Cause::WrongLength => "lengths differ",
+            Cause::UnsafeHead => "a block without atoms, or a head variable in none of them",
+            Cause::NotAbove => "a row that is not above the one before",
+            Cause::NoBlock => "no such block",
+            Cause::WrongFact => "a malformed fact",
+            Cause::FactOrder => "too many facts, or not ascending",
+            Cause::NoRoom => "too little room",
+        }
+    }
+}
+
+/// What is sent back: the cause, and the line, counted from 1, or 0 where none is named.
+#[derive(Clone, Copy, Debug, PartialEq, Eq, Hash)]
+pub struct Refused {
+    pub cause: Cause,
+    pub line: usize,
+}
+
+impl fmt::Display for Refused {
+    fn fmt(&self, f: &mut fmt::Formatter<'_>) -> fmt::Result {
+        write!(f, "refused by {} in line {}: {}", self.cause.number(), self.line, self.cause.text())
+    }
+}
+
+impl Error for Refused {}
+
+/// The refusal with this number.
+fn refused(number: usize, line: usize) -> Refused {
+    match number.checked_sub(1).and_then(|at| Cause::ALL.get(at)) {
+        Some(&cause) => Refused { cause, line },
+        None => unreachable!("no refusal has the number {number}"),
+    }
+}
+
+/// The count of a call that refused nothing.
+fn counted(ended: c::Ended) -> Result<usize, Refused> {
+    match ended.number {
+        0 => Ok(ended.count),
+        number => Err(refused(number, ended.line)),
+    }
+}
+
+/// What is judged of a sheet that is not refused.
+#[derive(Clone, Copy, Debug, PartialEq, Eq)]
+pub enum Verdict<'a> {
+    /// Some log gives exactly the listed rows, and each such log gives the list every answer that it gives the question.
+    Covered,
+    /// The facts are a log that gives exactly the listed rows, and gives the question the missing answer and not the list.
+    NotCovered {
+        /// The least missing answer: unused numbers are 0.
+        missing: [usize; ANSWER_WORDS],
+        /// Five words for each fact, ascending. No fact can be spared.
+        facts: &'a [i32],
+    },
+    /// No log gives exactly the listed rows.
+    NoLog,
+}
+
+/// A sheet's bytes to its number form, seven words for each line.
+///
+/// Refused by 1 to 9, and then by 13 where fewer than [`READ_WORDS`] are lent, however short the sheet is.
+pub fn read<'a>(sheet: &[u8], out: &'a mut [i32]) -> Result<&'a [i32], Refused> {
+    // SAFETY: both pointers are valid for their lengths, and the lent one is not shared.
+    let ended = unsafe { c::figdawesa_read(sheet.as_ptr(), sheet.len(), out.as_mut_ptr(), out.len()) };
+    Ok(&out[..counted(ended)? * LINE_WORDS])
+}
+
+/// A number form to its sheet's bytes.
+///
+/// Refused by 1 to 9, and then by 13 where fewer than [`WRITE_BYTES`] are lent, however short the form is.
+pub fn write<'a>(words: &[i32], out: &'a mut [u8]) -> Result<&'a [u8], Refused> {
+    // SAFETY: both pointers are valid for their lengths, and the lent one is not shared.
+    let ended = unsafe { c::figdawesa_write(words.as_ptr(), words.len(), out.as_mut_ptr(), out.len()) };
+    Ok(&out[..counted(ended)?])
+}
+
+/// A line's own bytes, counted from 1, without the byte 10 that closes it; none where there is no such closed line.
+pub fn line(sheet: &[u8], number: usize) -> &[u8] {
+    // SAFETY: the pointer is valid for its length.
+    let part = unsafe { c::figdawesa_line(sheet.as_ptr(), sheet.len(), number) };
+    &sheet[part.start..part.start + part.length]
+}
+
+/// The answers that facts give a block, four words for each, ascending, each once: 1 the question, 2 the list, 2 + n view n.
+///
+/// Facts ascend, each once, with values from 0 to 1,000,999. Refused by 1 to 9, then by 10, then by 11 and 12, and then by 13 exactly
+/// where the answers do not fit.
+pub fn evaluate<'a>(sheet: &[u8], block: usize, facts: &[i32], out: &'a mut [i32]) -> Result<&'a [i32], Refused> {
+    // SAFETY: each pointer is valid for its length, and the lent one is not shared.
+    let ended = unsafe {
+        c::figdawesa_evaluate(
+            sheet.as_ptr(),
+            sheet.len(),
+            block,
+            facts.as_ptr(),
+            facts.len(),
+            out.as_mut_ptr(),
+            out.len(),
+        )
+    };
+    Ok(&out[..counted(ended)? * ANSWER_WORDS])
+}
+
+/// Whether the sheet's list covers its question.
+///
+/// Refused by 1 to 9, and then by 13 where fewer than [`JUDGE_WORDS`] are lent, whatever the verdict would be.
+pub fn judge<'a>(sheet: &[u8], out: &'a mut [i32]) -> Result<Verdict<'a>, Refused> {
+    // SAFETY: both pointers are valid for their lengths, and the lent one is not shared.
+    let outcome = unsafe { c::figdawesa_judge(sheet.as_ptr(), sheet.len(), out.as_mut_ptr(), out.len()) };
+    match outcome.verdict {
+        0 => Ok(Verdict::Covered),
+        1 => Ok(Verdict::NotCovered {
+            missing: outcome.missing,
+            facts: &out[..outcome.count * FACT_WORDS],
+        }),
+        2 => Ok(Verdict::NoLog),
+        9 => Err(refused(outcome.number, outcome.line)),
+        verdict => unreachable!("no verdict has the number {verdict}"),
+    }
+}

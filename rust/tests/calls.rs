@@ -1,0 +1,129 @@
+//! Calls every function of the crate, to see that its declarations are those of the archive and that what it hands back is the right part.
+use figdawesa::*;
+
+const QUESTION: &str = "       1      -1      -2\n       4       4      -1      -2\n";
+const LIST: &str = "       2      -1      -2\n       4       5      -1      -2\n";
+const VIEW: &str = "       3      -1      -2\n       4       4      -1      -2\n";
+const ROWS: &str = "       5       7       1\n       5       7       2\n";
+const SIGNALS: &str = "       4       4      -1      -2\n";
+const NO_SUCH_RELATION: &str = "       3      -1      -2\n       4      11      -1      -2\n";
+/// A view with no columns has its one row, and another says that there are no beats.
+const CONTRARY: &str = "       3\n       4       5      -1      -2\n       5\n       3      -1      -2\n       4       5      -1      -2\n";
+const MARK: i32 = 119;
+
+fn sheet(parts: &[&str]) -> Vec<u8> {
+    parts.concat().into_bytes()
+}
+
+fn whole() -> Vec<u8> {
+    sheet(&[QUESTION, LIST, VIEW, ROWS])
+}
+
+fn refused<T>(cause: Cause, line: usize) -> Result<T, Refused> {
+    Err(Refused { cause, line })
+}
+
+#[test]
+fn reads_and_writes() {
+    let mut words = [MARK; READ_WORDS];
+    let form = read(&whole(), &mut words).unwrap().to_vec();
+    assert_eq!(form.len(), 8 * LINE_WORDS);
+    assert_eq!(form[..LINE_WORDS], [3, 1, -1, -2, 0, 0, 0]);
+    assert!(words[form.len()..].iter().all(|&word| word == MARK));
+    let mut bytes = [0; WRITE_BYTES];
+    assert_eq!(write(&form, &mut bytes), Ok(&whole()[..]));
+    assert_eq!(write(&form, &mut bytes[1..]), refused(Cause::NoRoom, 0));
+    assert_eq!(write(&form[1..], &mut bytes), refused(Cause::Malformed, 0));
+}
+
+#[test]
+fn sends_sheets_back() {
+    let mut words = [MARK; READ_WORDS];
+    let unclosed = &whole()[..whole().len() - 1];
+    assert_eq!(read(unclosed, &mut words), refused(Cause::Malformed, 8));
+    assert_eq!(read(&[0; SHEET_BYTES + 1], &mut words), refused(Cause::TooLong, 0));
+    assert_eq!(read(&[], &mut words), refused(Cause::Misplaced, 0));
+    assert_eq!(read(&[0; SHEET_BYTES], &mut words), refused(Cause::Malformed, 1));
+    assert_eq!(read(&whole(), &mut words[1..]), refused(Cause::NoRoom, 0));
+    assert_eq!(read(&whole(), &mut []), refused(Cause::NoRoom, 0));
+    let variable = "       3      -1     -13\n";
+    let shorter = "       2      -1\n       4       5      -1      -2\n";
+    let unbound = "       1      -3      -2\n";
+    let descending = "       5       7       2\n       5       7       1\n";
+    for (parts, cause, line) in [
+        (&[QUESTION, LIST, "       6\n"][..], Cause::Misplaced, 5),
+        (&[QUESTION, LIST, NO_SUCH_RELATION], Cause::WrongColumns, 6),
+        (&[QUESTION, LIST, variable, SIGNALS], Cause::OutOfRange, 5),
+        (&[QUESTION, &SIGNALS.repeat(6), LIST], Cause::TooMany, 8),
+        (&[QUESTION, shorter], Cause::WrongLength, 3),
+        (&[unbound, SIGNALS, LIST], Cause::UnsafeHead, 1),
+        (&[QUESTION, LIST, VIEW, descending], Cause::NotAbove, 8),
+    ] {
+        assert_eq!(read(&sheet(parts), &mut words), refused(cause, line));
+    }
+    assert!(words.iter().all(|&word| word == MARK));
+}
+
+#[test]
+fn hands_back_lines() {
+    let sheet = whole();
+    assert_eq!(line(&sheet, 1), &QUESTION.as_bytes()[..24]);
+    assert_eq!(line(&sheet, 8), b"       5       7       2");
+    assert_eq!(line(&sheet, 6), line(&sheet, 2));
+    assert_eq!(line(&sheet, 6).as_ptr(), sheet[141..].as_ptr());
+    assert_eq!(line(&sheet, 0), b"");
+    assert_eq!(line(&sheet, 9), b"");
+    assert_eq!(line(&sheet, usize::MAX), b"");
+    assert_eq!(line(&[], 1), b"");
+}
+
+#[test]
+fn evaluates() {
+    let facts = [4, 7, 1, 0, 0, 4, 7, 2, 0, 0, 5, 8, 3, 0, 0];
+    let mut room = [MARK; 12];
+    assert_eq!(evaluate(&whole(), 1, &facts, &mut room[..8]), Ok(&[7, 1, 0, 0, 7, 2, 0, 0][..]));
+    assert_eq!(evaluate(&whole(), 2, &facts, &mut room[8..]), Ok(&[8, 3, 0, 0][..]));
+    assert_eq!(evaluate(&whole(), 3, &[], &mut []), Ok(&[][..]));
+    assert_eq!(evaluate(&whole(), 3, &facts, &mut room[..7]), refused(Cause::NoRoom, 0));
+    assert_eq!(evaluate(&whole(), 4, &facts, &mut room), refused(Cause::NoBlock, 0));
+    assert_eq!(evaluate(&whole(), 1, &facts[..14], &mut room), refused(Cause::WrongFact, 0));
+    assert_eq!(
+        evaluate(&whole(), 1, &[facts, facts].concat(), &mut room),
+        refused(Cause::FactOrder, 0)
+    );
+    assert_eq!(room, [7, 1, 0, 0, 7, 2, 0, 0, 8, 3, 0, 0]);
+}
+
+#[test]
+fn judges() {
+    let mut room = [MARK; JUDGE_WORDS];
+    let case = Verdict::NotCovered {
+        missing: [7, 1, 0, 0],
+        facts: &[4, 7, 1, 0, 0, 4, 7, 2, 0, 0],
+    };
+    assert_eq!(judge(&sheet(&[QUESTION, LIST, VIEW]), &mut room), Ok(Verdict::Covered));
+    assert_eq!(judge(&sheet(&[QUESTION, LIST, CONTRARY]), &mut room), Ok(Verdict::NoLog));
+    assert_eq!(
+        judge(&sheet(&[QUESTION, LIST, NO_SUCH_RELATION]), &mut room),
+        refused(Cause::WrongColumns, 6)
+    );
+    assert_eq!(judge(&whole(), &mut room[1..]), refused(Cause::NoRoom, 0));
+    assert!(room.iter().all(|&word| word == MARK));
+    assert_eq!(judge(&whole(), &mut room), Ok(case));
+    assert!(room[10..].iter().all(|&word| word == MARK));
+}
+
+#[test]
+fn causes_have_their_numbers() {
+    for (at, cause) in Cause::ALL.iter().enumerate() {
+        assert_eq!(cause.number(), at + 1);
+    }
+    assert_eq!(
+        Refused {
+            cause: Cause::NoRoom,
+            line: 0
+        }
+        .to_string(),
+        "refused by 13 in line 0: too little room"
+    );
+}

@@ -1,0 +1,221 @@
+/* Calls every function of include/figdawesa.h, to see that the declarations there are those of the archive: each argument at its
+ * place, each number at its place, refusals that change nothing, and not a word written outside what was lent. */
+#include <stdio.h>
+#include <stdlib.h>
+#include <string.h>
+
+#include "figdawesa.h"
+
+#define QUESTION "       1      -1      -2\n       4       4      -1      -2\n"
+#define LIST "       2      -1      -2\n       4       5      -1      -2\n"
+#define VIEW "       3      -1      -2\n       4       4      -1      -2\n"
+#define ROWS "       5       7       1\n       5       7       2\n"
+#define SHEET QUESTION LIST VIEW ROWS
+#define SIGNALS "       4       4      -1      -2\n"
+#define BEATS "       4       5      -1      -2\n"
+
+/* Sheets that are sent back, by 3 to 9. */
+#define NO_LIST QUESTION
+#define NO_SUCH_KIND QUESTION LIST "       6\n"
+#define NO_SUCH_RELATION QUESTION LIST "       3      -1      -2\n       4      11      -1      -2\n"
+#define NO_SUCH_VARIABLE QUESTION LIST "       3      -1     -13\n" SIGNALS
+#define SEVENTH_ATOM QUESTION SIGNALS SIGNALS SIGNALS SIGNALS SIGNALS SIGNALS LIST
+#define SHORTER_LIST QUESTION "       2      -1\n" BEATS
+#define UNBOUND_HEAD "       1      -3      -2\n" SIGNALS LIST
+#define ROWS_DESCEND QUESTION LIST VIEW "       5       7       2\n       5       7       1\n"
+
+/* A view with no columns has its one row, and another says that there are no beats. */
+#define CONTRARY QUESTION LIST "       3\n" BEATS "       5\n       3      -1      -2\n" BEATS
+
+/* What is lent stands between margins, and all of it holds a mark before each call. */
+#define MARGIN 16
+#define ROOM 5000
+#define MARK 119
+
+static int32_t words[MARGIN + ROOM + MARGIN];
+static uint8_t bytes[MARGIN + ROOM + MARGIN];
+static uint8_t too_long[FIGDAWESA_SHEET_BYTES + 1];
+static int32_t *const lent_words = words + MARGIN;
+static uint8_t *const lent_bytes = bytes + MARGIN;
+
+static int checks, failures;
+
+static void check(int holds, const char *what, int line)
+{
+    checks++;
+    if (!holds) {
+        failures++;
+        printf("tests/interface.c:%d: %s\n", line, what);
+    }
+}
+
+#define CHECK(holds) check(holds, #holds, __LINE__)
+
+static void mark(void)
+{
+    for (size_t i = 0; i < MARGIN + ROOM + MARGIN; i++) {
+        words[i] = MARK;
+        bytes[i] = MARK;
+    }
+}
+
+/* The words, or bytes, before what was lent and after the first n of it are as they were. */
+static int words_kept(size_t n)
+{
+    for (size_t i = 0; i < MARGIN + ROOM + MARGIN; i++)
+        if ((i < MARGIN || MARGIN + n <= i) && words[i] != MARK)
+            return 0;
+    return 1;
+}
+
+static int bytes_kept(size_t n)
+{
+    for (size_t i = 0; i < MARGIN + ROOM + MARGIN; i++)
+        if ((i < MARGIN || MARGIN + n <= i) && bytes[i] != MARK)
+            return 0;
+    return 1;
+}
+
+static int are(const int32_t *expected, size_t n)
+{
+    return memcmp(lent_words, expected, n * sizeof *expected) == 0;
+}
+
+static const uint8_t *of(const char *text) { return (const uint8_t *)text; }
+
+static int ended(struct figdawesa_ended r, size_t number, size_t line, size_t count)
+{
+    return r.number == number && r.line == line && r.count == count;
+}
+
+static int outcome(struct figdawesa_outcome r, size_t verdict, size_t number, size_t line, size_t count, size_t first, size_t second)
+{
+    return r.verdict == verdict && r.number == number && r.line == line && r.count == count && r.missing[0] == first
+        && r.missing[1] == second && r.missing[2] == 0 && r.missing[3] == 0;
+}
+
+static int stands(struct figdawesa_stretch r, size_t start, size_t length) { return r.start == start && r.length == length; }
+
+static struct figdawesa_ended read(const char *sheet, size_t room)
+{
+    mark();
+    return figdawesa_read(of(sheet), strlen(sheet), lent_words, room);
+}
+
+static struct figdawesa_ended evaluate(size_t block, const int32_t *facts, size_t n, size_t room)
+{
+    mark();
+    return figdawesa_evaluate(of(SHEET), strlen(SHEET), block, facts, n, lent_words, room);
+}
+
+static struct figdawesa_outcome judge(const char *sheet, size_t room)
+{
+    mark();
+    return figdawesa_judge(of(sheet), strlen(sheet), lent_words, room);
+}
+
+static void reading(void)
+{
+    static const int32_t first[] = {3, 1, -1, -2, 0, 0, 0, 4, 4, 4, -1, -2, 0, 0};
+    CHECK(ended(read(SHEET, FIGDAWESA_READ_WORDS), FIGDAWESA_DONE, 0, 8) && are(first, 14) && words_kept(56));
+    CHECK(ended(read(SHEET, FIGDAWESA_READ_WORDS - 1), FIGDAWESA_NO_ROOM, 0, 0) && words_kept(0));
+    CHECK(ended(read(NO_LIST, ROOM), FIGDAWESA_MISPLACED, 0, 0) && words_kept(0));
+    CHECK(ended(read(NO_SUCH_KIND, ROOM), FIGDAWESA_MISPLACED, 5, 0) && words_kept(0));
+    CHECK(ended(read(NO_SUCH_RELATION, ROOM), FIGDAWESA_WRONG_COLUMNS, 6, 0) && words_kept(0));
+    CHECK(ended(read(NO_SUCH_VARIABLE, ROOM), FIGDAWESA_OUT_OF_RANGE, 5, 0) && words_kept(0));
+    CHECK(ended(read(SEVENTH_ATOM, ROOM), FIGDAWESA_TOO_MANY, 8, 0) && words_kept(0));
+    CHECK(ended(read(SHORTER_LIST, ROOM), FIGDAWESA_WRONG_LENGTH, 3, 0) && words_kept(0));
+    CHECK(ended(read(UNBOUND_HEAD, ROOM), FIGDAWESA_UNSAFE_HEAD, 1, 0) && words_kept(0));
+    CHECK(ended(read(ROWS_DESCEND, ROOM), FIGDAWESA_NOT_ABOVE, 8, 0) && words_kept(0));
+    CHECK(ended(read(NO_SUCH_RELATION, 0), FIGDAWESA_WRONG_COLUMNS, 6, 0) && words_kept(0));
+    mark();
+    CHECK(ended(figdawesa_read(of(SHEET), strlen(SHEET) - 1, lent_words, ROOM), FIGDAWESA_MALFORMED, 8, 0) && words_kept(0));
+    CHECK(ended(figdawesa_read(too_long, FIGDAWESA_SHEET_BYTES + 1, lent_words, ROOM), FIGDAWESA_TOO_LONG, 0, 0) && words_kept(0));
+    CHECK(ended(figdawesa_read(too_long, FIGDAWESA_SHEET_BYTES, lent_words, ROOM), FIGDAWESA_MALFORMED, 1, 0) && words_kept(0));
+    CHECK(ended(figdawesa_read(NULL, 0, lent_words, ROOM), FIGDAWESA_MISPLACED, 0, 0) && words_kept(0));
+    CHECK(ended(figdawesa_read(of(SHEET), strlen(SHEET), NULL, 0), FIGDAWESA_NO_ROOM, 0, 0));
+}
+
+static void writing(void)
+{
+    int32_t form[56];
+    read(SHEET, FIGDAWESA_READ_WORDS);
+    memcpy(form, lent_words, sizeof form);
+    mark();
+    CHECK(ended(figdawesa_write(form, 56, lent_bytes, FIGDAWESA_WRITE_BYTES), FIGDAWESA_DONE, 0, strlen(SHEET)));
+    CHECK(memcmp(lent_bytes, SHEET, strlen(SHEET)) == 0 && bytes_kept(strlen(SHEET)));
+    mark();
+    CHECK(ended(figdawesa_write(form, 56, lent_bytes, FIGDAWESA_WRITE_BYTES - 1), FIGDAWESA_NO_ROOM, 0, 0) && bytes_kept(0));
+    CHECK(ended(figdawesa_write(form, 55, lent_bytes, ROOM), FIGDAWESA_MALFORMED, 0, 0) && bytes_kept(0));
+    CHECK(ended(figdawesa_write(words, FIGDAWESA_READ_WORDS + 1, lent_bytes, ROOM), FIGDAWESA_TOO_LONG, 0, 0) && bytes_kept(0));
+    CHECK(ended(figdawesa_write(words, FIGDAWESA_READ_WORDS, lent_bytes, ROOM), FIGDAWESA_MALFORMED, 1, 0) && bytes_kept(0));
+    CHECK(ended(figdawesa_write(NULL, 0, lent_bytes, ROOM), FIGDAWESA_MISPLACED, 0, 0) && bytes_kept(0));
+    CHECK(ended(figdawesa_write(form, 56, NULL, 0), FIGDAWESA_NO_ROOM, 0, 0));
+    form[24] = -13;
+    CHECK(ended(figdawesa_write(form, 56, lent_bytes, ROOM), FIGDAWESA_OUT_OF_RANGE, 4, 0) && bytes_kept(0));
+}
+
+static void lines(void)
+{
+    CHECK(stands(figdawesa_line(of(SHEET), strlen(SHEET), 1), 0, 24));
+    CHECK(stands(figdawesa_line(of(SHEET), strlen(SHEET), 2), 25, 32));
+    CHECK(stands(figdawesa_line(of(SHEET), strlen(SHEET), 6), 141, 32));
+    CHECK(stands(figdawesa_line(of(SHEET), strlen(SHEET), 8), 199, 24));
+    CHECK(stands(figdawesa_line(of(SHEET), strlen(SHEET) - 1, 8), 0, 0));
+    CHECK(stands(figdawesa_line(of(SHEET), strlen(SHEET), 0), 0, 0));
+    CHECK(stands(figdawesa_line(of(SHEET), strlen(SHEET), 9), 0, 0));
+    CHECK(stands(figdawesa_line(of(SHEET), strlen(SHEET), SIZE_MAX), 0, 0));
+    CHECK(stands(figdawesa_line(of("a\n\nbc\n"), 6, 2), 2, 0));
+    CHECK(stands(figdawesa_line(of("a\n\nbc\n"), 6, 3), 3, 2));
+    CHECK(stands(figdawesa_line(NULL, 0, 1), 0, 0));
+}
+
+static void evaluation(void)
+{
+    static const int32_t facts[] = {4, 7, 1, 0, 0, 4, 7, 2, 0, 0, 5, 8, 3, 0, 0};
+    static const int32_t reversed[] = {4, 7, 2, 0, 0, 4, 7, 1, 0, 0};
+    static const int32_t signals[] = {7, 1, 0, 0, 7, 2, 0, 0};
+    static const int32_t beats[] = {8, 3, 0, 0};
+    CHECK(ended(evaluate(1, facts, 15, 8), FIGDAWESA_DONE, 0, 2) && are(signals, 8) && words_kept(8));
+    CHECK(ended(evaluate(2, facts, 15, ROOM), FIGDAWESA_DONE, 0, 1) && are(beats, 4) && words_kept(4));
+    CHECK(ended(evaluate(3, facts, 5, ROOM), FIGDAWESA_DONE, 0, 1) && are(signals, 4) && words_kept(4));
+    CHECK(ended(evaluate(2, facts, 10, ROOM), FIGDAWESA_DONE, 0, 0) && words_kept(0));
+    CHECK(ended(evaluate(1, facts, 15, 7), FIGDAWESA_NO_ROOM, 0, 0) && words_kept(0));
+    CHECK(ended(evaluate(0, facts, 15, ROOM), FIGDAWESA_NO_BLOCK, 0, 0) && words_kept(0));
+    CHECK(ended(evaluate(4, facts, 15, ROOM), FIGDAWESA_NO_BLOCK, 0, 0) && words_kept(0));
+    CHECK(ended(evaluate(SIZE_MAX, facts, 15, ROOM), FIGDAWESA_NO_BLOCK, 0, 0) && words_kept(0));
+    CHECK(ended(evaluate(1, facts, 14, ROOM), FIGDAWESA_WRONG_FACT, 0, 0) && words_kept(0));
+    CHECK(ended(evaluate(1, reversed, 10, ROOM), FIGDAWESA_FACT_ORDER, 0, 0) && words_kept(0));
+    CHECK(ended(evaluate(1, words, (FIGDAWESA_FACTS + 1) * FIGDAWESA_FACT_WORDS, 0), FIGDAWESA_FACT_ORDER, 0, 0) && words_kept(0));
+    CHECK(ended(evaluate(1, words, FIGDAWESA_FACTS * FIGDAWESA_FACT_WORDS, 0), FIGDAWESA_WRONG_FACT, 0, 0) && words_kept(0));
+    CHECK(ended(evaluate(1, NULL, 0, ROOM), FIGDAWESA_DONE, 0, 0) && words_kept(0));
+    mark();
+    const char *bad = NO_SUCH_RELATION;
+    CHECK(ended(figdawesa_evaluate(of(bad), strlen(bad), 0, facts, 1, lent_words, 0), FIGDAWESA_WRONG_COLUMNS, 6, 0) && words_kept(0));
+    CHECK(ended(figdawesa_evaluate(of(SHEET), strlen(SHEET), 1, facts, 15, NULL, 0), FIGDAWESA_NO_ROOM, 0, 0));
+    CHECK(ended(figdawesa_evaluate(NULL, 0, 1, facts, 15, lent_words, ROOM), FIGDAWESA_MISPLACED, 0, 0) && words_kept(0));
+}
+
+static void judging(void)
+{
+    static const int32_t facts[] = {4, 7, 1, 0, 0, 4, 7, 2, 0, 0};
+    CHECK(outcome(judge(SHEET, FIGDAWESA_JUDGE_WORDS), FIGDAWESA_NOT_COVERED, 0, 0, 2, 7, 1) && are(facts, 10) && words_kept(10));
+    CHECK(outcome(judge(QUESTION LIST VIEW, FIGDAWESA_JUDGE_WORDS), FIGDAWESA_COVERED, 0, 0, 0, 0, 0) && words_kept(0));
+    CHECK(outcome(judge(CONTRARY, ROOM), FIGDAWESA_NO_LOG, 0, 0, 0, 0, 0) && words_kept(0));
+    CHECK(outcome(judge(SHEET, FIGDAWESA_JUDGE_WORDS - 1), FIGDAWESA_REFUSED, FIGDAWESA_NO_ROOM, 0, 0, 0, 0) && words_kept(0));
+    CHECK(outcome(judge(NO_SUCH_RELATION, ROOM), FIGDAWESA_REFUSED, FIGDAWESA_WRONG_COLUMNS, 6, 0, 0, 0) && words_kept(0));
+    mark();
+    CHECK(outcome(figdawesa_judge(NULL, 0, lent_words, ROOM), FIGDAWESA_REFUSED, FIGDAWESA_MISPLACED, 0, 0, 0, 0) && words_kept(0));
+    CHECK(outcome(figdawesa_judge(of(SHEET), strlen(SHEET), NULL, 0), FIGDAWESA_REFUSED, FIGDAWESA_NO_ROOM, 0, 0, 0, 0));
+}
+
+int main(void)
+{
+    reading();
+    writing();
+    lines();
+    evaluation();
+    judging();
+    printf("C: %d checks, %d failed\n", checks, failures);
+    return failures == 0 ? EXIT_SUCCESS : EXIT_FAILURE;
+}
