@@ -1,0 +1,182 @@
+//! The proved library: called in this process where its archive is linked, otherwise the program cover is run.
+//!
+//! Either way a run is a process of its own with a time limit and 256 KiB of stack, so that neither a hang nor an overflow stops
+//! the benchmark.
+
+use std::io::{Read, Write};
+use std::path::PathBuf;
+use std::process::{Command, Stdio};
+use std::sync::mpsc;
+use std::time::{Duration, Instant};
+
+pub const STACK: usize = 256 * 1024;
+
+/// How a run of the library ended.
+pub enum Run {
+    /// What the program cover prints or would print, and the time of one judgement.
+    Done(String, Duration),
+    Hang,
+    /// It stopped without an answer, as it does when the stack is not enough.
+    Crash,
+}
+
+/// What the library says of a sheet: verdict, number, line, count, and the missing answer's four numbers.
+#[repr(C)]
+#[derive(Default)]
+pub struct Outcome {
+    verdict: usize,
+    number: usize,
+    line: usize,
+    count: usize,
+    missing: [usize; 4],
+}
+
+/// Judges a sheet in this process; the words are lent. The only place that knows how the library is called to judge.
+#[cfg(judges)]
+pub fn library_judge(sheet: &[u8], words: &mut [i32]) -> Outcome {
+    extern "C" {
+        fn figdawesa_judge(sheet: *const u8, sheet_bytes: usize, out: *mut i32, out_words: usize) -> Outcome;
+    }
+    unsafe { figdawesa_judge(sheet.as_ptr(), sheet.len(), words.as_mut_ptr(), words.len()) }
+}
+
+#[cfg(not(judges))]
+pub fn library_judge(_: &[u8], _: &mut [i32]) -> Outcome {
+    unreachable!("the library is not linked")
+}
+
+/// What the program cover prints for an outcome.
+fn printed(sheet: &[u8], outcome: &Outcome, words: &[i32]) -> String {
+    let line = |numbers: &[i64]| numbers.iter().map(|n| format!("{n:>8}")).collect::<String>() + "\n";
+    match outcome.verdict {
+        9 => line(&[9, outcome.number as i64, outcome.line as i64]),
+        1 => {
+            let columns = crate::sheet::read(sheet).map_or(0, |s| s.question.head.len());
+            let mut out = line(&[1, outcome.count as i64]);
+            let mut six = vec![6];
+            six.extend(outcome.missing[..columns].iter().map(|n| *n as i64));
+            out += &line(&six);
+            for fact in words.chunks(5).take(outcome.count) {
+                let mut seven = vec![7];
+                let columns = crate::sheet::COLUMNS.get(fact[0] as usize).map_or(0, |c| *c);
+                seven.extend(fact[..1 + columns].iter().map(|n| *n as i64));
+                out += &line(&seven);
+            }
+            out
+        }
+        verdict => line(&[verdict as i64]),
+    }
+}
+
+/// MB/s of reading and of writing a sheet; None where the library is not linked.
+#[cfg(reads)]
+pub fn speeds(sheet: &[u8]) -> Option<(f64, f64)> {
+    #[repr(C)]
+    struct Ended {
+        number: usize,
+        line: usize,
+        count: usize,
+    }
+    extern "C" {
+        fn figdawesa_read(sheet: *const u8, sheet_bytes: usize, out: *mut i32, out_words: usize) -> Ended;
+        fn figdawesa_write(words: *const i32, word_count: usize, out: *mut u8, out_bytes: usize) -> Ended;
+    }
+    let (mut words, mut bytes) = ([0i32; 602], [0u8; 4214]);
+    let lines = sheet.iter().filter(|b| **b == 10).count();
+    let speed = |run: &mut dyn FnMut() -> Ended, count: usize| {
+        let ended = run();
+        assert_eq!((ended.number, ended.line, ended.count), (0, 0, count));
+        let (start, mut runs) = (Instant::now(), 0);
+        while start.elapsed() < Duration::from_millis(300) {
+            for _ in 0..100 {
+                run();
+            }
+            runs += 100;
+        }
+        (runs * sheet.len()) as f64 / start.elapsed().as_secs_f64() / 1e6
+    };
+    let read = speed(&mut || unsafe { figdawesa_read(sheet.as_ptr(), sheet.len(), words.as_mut_ptr(), words.len()) }, lines);
+    let write = speed(&mut || unsafe { figdawesa_write(words.as_ptr(), 7 * lines, bytes.as_mut_ptr(), bytes.len()) }, sheet.len());
+    assert_eq!(&bytes[..sheet.len()], sheet, "what was read is written again");
+    Some((read, write))
+}
+
+#[cfg(not(reads))]
+pub fn speeds(_: &[u8]) -> Option<(f64, f64)> {
+    None
+}
+
+pub fn is_linked() -> bool {
+    cfg!(judges)
+}
+
+/// What a run of the program in this process prints: the nanoseconds of the fastest of some judgements, and the last answer.
+pub fn run_here() {
+    let mut sheet = Vec::new();
+    std::io::stdin().read_to_end(&mut sheet).unwrap();
+    let judged = move || {
+        let (mut words, mut best, start) = ([0i32; 640], Duration::MAX, Instant::now());
+        loop {
+            let one = Instant::now();
+            let outcome = library_judge(&sheet, &mut words);
+            best = best.min(one.elapsed());
+            if start.elapsed() > Duration::from_millis(20) {
+                return (best, outcome, words, sheet);
+            }
+        }
+    };
+    let (best, outcome, words, sheet) = std::thread::Builder::new().stack_size(STACK).spawn(judged).unwrap().join().unwrap();
+    print!("{}\n{}", best.as_nanos(), printed(&sheet, &outcome, &words));
+}
+
+/// The program cover: what COVER names, or the one that is built at the repository's root.
+pub fn program() -> PathBuf {
+    let root = PathBuf::from(env!("CARGO_MANIFEST_DIR")).join("..");
+    std::env::var("COVER").map_or(root.join("target/bin/cover"), PathBuf::from)
+}
+
+/// Runs the library on a sheet. Without the linked library the time is that of a process, and `floor` is taken off.
+pub fn run(sheet: &[u8], limit: Duration, floor: Duration) -> Run {
+    let mut command = if is_linked() {
+        let mut command = Command::new(std::env::current_exe().unwrap());
+        command.arg("library");
+        command
+    } else {
+        let mut command = Command::new("/bin/sh");
+        command.arg("-c").arg(format!("ulimit -s {}; exec \"$0\"", STACK / 1024)).arg(program()).env_clear();
+        command
+    };
+    let start = Instant::now();
+    let mut child = command.stdin(Stdio::piped()).stdout(Stdio::piped()).stderr(Stdio::null()).spawn().expect("a process");
+    let (mut stdin, mut stdout) = (child.stdin.take().unwrap(), child.stdout.take().unwrap());
+    let _ = stdin.write_all(sheet);
+    drop(stdin);
+    let (tell, told) = mpsc::channel();
+    std::thread::spawn(move || {
+        let mut text = String::new();
+        let _ = stdout.read_to_string(&mut text);
+        let _ = tell.send((text, start.elapsed()));
+    });
+    let Ok((text, time)) = told.recv_timeout(limit) else {
+        let _ = child.kill();
+        let _ = child.wait();
+        return Run::Hang;
+    };
+    if !child.wait().is_ok_and(|status| status.success()) || text.is_empty() {
+        return Run::Crash;
+    }
+    if !is_linked() {
+        return Run::Done(text, time.saturating_sub(floor));
+    }
+    let (nanos, answer) = text.split_once('\n').unwrap_or(("0", ""));
+    Run::Done(answer.to_string(), Duration::from_nanos(nanos.parse().unwrap_or(0)))
+}
+
+/// The time of a process that has next to nothing to judge.
+pub fn floor(sheet: &[u8]) -> Duration {
+    let once = || match run(sheet, Duration::from_secs(5), Duration::ZERO) {
+        Run::Done(_, time) => time,
+        _ => panic!("{} does not run", program().display()),
+    };
+    if is_linked() { Duration::ZERO } else { (0..20).map(|_| once()).min().unwrap() }
+}
