@@ -6,3 +6,4 @@ pub mod ReadyLaws
 pub mod NodeLaws
 pub mod Levels
 pub mod Copies
+pub mod Marks
