@@ -24,7 +24,7 @@ within-set (x ∷ a) zero (suc j) e = e
 within-set (x ∷ a) (suc k) zero e = e
 within-set (x ∷ a) (suc k) (suc j) e = within-set a k j e
 
-set-there : (a : List Bool) (k : ℕ) → getD (set a k true) k true ≡ true
+pub set-there : (a : List Bool) (k : ℕ) → getD (set a k true) k true ≡ true
 set-there [] k = refl
 set-there (x ∷ a) zero = refl
 set-there (x ∷ a) (suc k) = set-there a k

@@ -1,3 +1,4 @@
 pub mod Laws
+pub mod Writes
 pub mod Relaxed
 pub mod Jumps

@@ -3,8 +3,9 @@
 use mathlib.Core.Path.{_≡_}
 use mathlib.Core.Bool.{Bool, true, false, cond}
 use mathlib.Core.List.{List}
-use Prim.Native.Nat.{ℕ, _+_, _*_, _<_, _≤_}
+use Prim.Native.Nat.{ℕ, _+_, _-_, _*_, _<_, _≤_}
 use lib.ListN.{length, getD}
+use Rattle.meaning.specs.Meaning.{In}
 use Rattle.verdicts.specs.Verdict.{Sheet}
 use Rattle.verdicts.specs.Sheets.{top}
 use Rattle.verdicts.specs.Tableau.{State}
@@ -53,3 +54,40 @@ pub record SlotMarked (ws lv : List ℕ) (t : ℕ) (old marks : List Bool) : Typ
 pub record FactMarked (p ws lv : List ℕ) (i n : ℕ) (old marks : List Bool) : Type 0 where
   pub more : Within old marks
   pub slots : (c : ℕ) → c < n → getD p (i * 5 + 1 + c) 0 < 533 → Held ws lv marks (getD p (i * 5 + 1 + c) 0)
+
+-- ---- the choice that a slot belongs to
+
+-- the slot of a made-up value was given to choice b
+pub record SlotAssigned (lv lw : List ℕ) (v b : ℕ) : Type 0 where
+  pub same : length lw ≡ length lv
+  pub slot : (n : ℕ) → v ≡ top + n → n < length lv → getD lw n 0 ≡ b
+  pub others : (n : ℕ) → (v ≡ top + n → ⊥) → getD lw n 0 ≡ getD lv n 0
+
+-- so were the slots of a row's made-up values
+pub record Assigned (lv lw u : List ℕ) (b : ℕ) : Type 0 where
+  pub same : length lw ≡ length lv
+  pub slots : (n : ℕ) → In (top + n) u → n < length lv → getD lw n 0 ≡ b
+  pub others : (n : ℕ) → (In (top + n) u → ⊥) → getD lw n 0 ≡ getD lv n 0
+
+-- ---- marks
+
+-- what is marked in a second list was marked besides, but for one choice
+pub record MarksAdded (old others : List Bool) (skip : ℕ) (marks : List Bool) : Type 0 where
+  pub same : length marks ≡ length old
+  pub more : Within old marks
+  pub added : (k : ℕ) → (k ≡ skip → ⊥) → getD others k true ≡ true → getD marks k true ≡ true
+
+-- what is marked there, and nothing else
+pub record MarksPut (old others marks : List Bool) : Type 0 where
+  pub same : length marks ≡ length old
+  pub each : (k : ℕ) → k < length old → getD marks k true ≡ getD others k true
+
+-- nothing
+pub record Cleared (old marks : List Bool) : Type 0 where
+  pub same : length marks ≡ length old
+  pub each : (k : ℕ) → k < length old → getD marks k true ≡ false
+
+-- the last of the first n choices that is marked, or 0
+pub record LastMarked (marks : List Bool) (n r : ℕ) : Type 0 where
+  pub inside : 0 < n → r < n
+  pub later : (k : ℕ) → r < k → k < n → getD marks k true ≡ false

@@ -33,7 +33,8 @@ use Rattle.search.proofs.Heads.{inside}
 use Rattle.search.proofs.Fresh.{proper-value, copy-small}
 use Rattle.search.proofs.Node.{Task, nth-in, head-refuted, kept-row, fine-row}
 use Rattle.search.proofs.ReadyLaws.{ready-task, ready-facts}
-use Rattle.search.proofs.Levels.{own-proper, proper-own, zero-small, stood-after, row-constants, job-plain, copy-kept}
+use Rattle.reasons.proofs.Jumps.{rests-more}
+use Rattle.search.proofs.Levels.{relaxed-all, own-proper, proper-own, zero-small, stood-after, row-constants, job-plain, copy-kept}
 
 -- ---- copies by their numbers
 
@@ -200,9 +201,10 @@ module _ (p : List ℕ) (x : Sheet) (r : Ready p x) where
   }
 
   -- what the search below says of all
-  pub found-by : (asked : Bool) (b : Bool) (ws out : List ℕ) (i : ℕ) → Heads x (sheetBy asked x) ws i → SoughtBy b x (sheetBy asked x) ws out → FoundBy b x (sheetBy asked x) out
-  found-by asked true ws out i h s = s
-  found-by asked false ws out i h (none-good, kept) = h .back none-good
+  pub found-by : (asked : Bool) (b : Bool) (ws lv out lw : List ℕ) (marks : List Bool) (i : ℕ) → Heads x (sheetBy asked x) ws i → SoughtBy b x (sheetBy asked x) ws lv out lw marks → FoundBy b x (sheetBy asked x) out
+  found-by asked true ws lv out lw marks i h s = s
+  found-by asked false ws lv out lw marks i h s =
+      h .back (subst (Refuted top (sheetBy asked x)) (relaxed-all ws lv) (rests-more ws lv (h .proper .size) (h .proper .each) (sheetBy asked x) marks [] (λ k e. refl) (s .rests)))
 
 -- a row's head was made the row, or not
 pub heads-yes : (x y : Sheet) (b : Bool) (ws : List ℕ) (i : ℕ) → b ≡ true → HeadsBy b x y ws i → Heads x y ws i

@@ -1,12 +1,12 @@
 -- One level of the search: a listed row is taken for a stray row, and what is found below is said of the state above.
-use mathlib.Core.Path.{_≡_, refl, sym, ap, _∙_, subst}
-use mathlib.Core.Bool.{Bool, true, false, true≢false}
+use mathlib.Core.Path.{_≡_, refl, sym, ap, _∙_, subst, fun-ext}
+use mathlib.Core.Bool.{Bool, true, false, cond, true≢false}
 use mathlib.Core.List.{List, [], _∷_, _++_, map}
 use mathlib.Core.Logic.{_⊎_, inl, inr, ⊎-elim}
 use Prim.Native.Nat.{ℕ, zero, suc, _+_, _-_, _*_, _<_, _≤_}
 use native.Mathlib.Omega.{arith}
 use borrow.Author.Count.{below-more}
-use lib.ListN.{length, getD, replicate}
+use lib.ListN.{length, getD, replicate, List·getD-eq-default}
 use Rattle.meaning.specs.Meaning.{Block, In}
 use Rattle.meaning.specs.Blocks.{View, nth}
 use Rattle.numbers.specs.Numbers.{padded}
@@ -17,13 +17,16 @@ use Rattle.verdicts.specs.Accepted.{Fine, Accepted}
 use Rattle.verdicts.specs.Tableau.{Job, Copy, State, jobs, numbered, copy, Meets, bare}
 use Rattle.verdicts.specs.Search.{Keeps, Clash, equations, _≈_, Met, after, Refuted, RefutedBy}
 use Rattle.verdicts.specs.Words.{stateOf}
-use Rattle.verdicts.proofs.Decide.{same?, in?}
+use Rattle.verdicts.proofs.Decide.{less?, same?, in?}
 use Rattle.verdicts.proofs.Tableau.{numbered-job, of-listed, copy-block, job-is}
 use Rattle.verdicts.proofs.Refute.{unified, clashed}
 use Rattle.plan.specs.Plan.{rowAt, rowValues, rowCount, viewCount}
 use Rattle.state.specs.State.{made-up, Fresh, Constants, Equated, EquatedBy}
 use Rattle.state.specs.Parts.{Own}
-use Rattle.search.specs.Parts.{Ready, sheetBy, Proper, Settled, NodeBy, Stood, Fitting, Opened, Taken, Passed, TakenBy, Tried, Begins, SoughtBy}
+use Rattle.reasons.specs.Reasons.{kept, relaxed, Rests, Within, Assigned, MarksAdded, MarksPut}
+use Rattle.reasons.proofs.Laws.{within-same, within-trans}
+use Rattle.reasons.proofs.Jumps.{relaxed-plain, rests-more, jump, refuted-below}
+use Rattle.search.specs.Parts.{Ready, sheetBy, Proper, Settled, NodeBy, Stood, Fitting, Found, Levelled, SameLevels, Lost, Opened, Taken, Passed, TakenBy, GivenTo, JumpsBy, Tried, Going, Begins, SoughtBy}
 use Rattle.search.proofs.Heads.{inside}
 use Rattle.search.proofs.Node.{Task, nth-in, in-nth, meets-kept}
 use Rattle.search.proofs.ReadyLaws.{ready-task}
@@ -60,29 +63,53 @@ in-left v [] k le m = let z = zero-small k v m in absurd (omega arith)
 in-left v (a ∷ t) k le (inl e) = inl e
 in-left v (a ∷ t) k le (inr m) = inr (in-left v t k le m)
 
+-- the value of a slot whose made-up value stood in u is a number of the row
+taken-value : (x : Sheet) (ws out u r : List ℕ) → length ws ≡ 533 → Fresh ws u → Constants r → (f : Fitting x u r) → Equated ws out u r → (n : ℕ) → n < 533 → In (top + n) u
+    → (w : ℕ) × In w (f .right) × (w < top) × (getD out n 0 ≡ w)
+taken-value x ws out u r size fresh cs f q n lt m =
+    let z = in-left (top + n) (f .left) (4 - length (f .left)) (omega arith) (subst (λ l. In (top + n) l) (f .left-is) m) in
+    let rights : r ≡ f .right ++ replicate (4 - length (f .left)) 0 = f .right-is ∙ ap (λ k. f .right ++ replicate (4 - k) 0) (sym (f .same)) in
+    let met = subst (λ l. Met (q .by) (equations (padded (f .left)) l)) rights (subst (λ l. Met (q .by) (equations l r)) (f .left-is) (q .unifier .met)) in
+    let (w, i, e) = partner (q .by) (top + n) (f .left) (f .right) (replicate (4 - length (f .left)) 0) (f .same) met z in
+    let small = cs w (subst (λ l. In w l) (sym (f .right-is)) (in-front w (f .right) (replicate (4 - length (f .right)) 0) i)) in
+    let before : stateOf top ws n ≡ top + n = own n (fresh (top + n) m) in
+    (w, i, small, inside out n 0 (top + n) (let l = q .same in omega arith) ∙ (λ j. q .state j n) ∙ ap (q .by) before ∙ e ∙ q .unifier .keeps w small)
+  where
+    in-front : (v : ℕ) (l k : List ℕ) → In v l → In v (l ++ k)
+    in-front v (a ∷ l) k (inl e) = inl e
+    in-front v (a ∷ l) k (inr m) = inr (in-front v l k m)
+
+    own : (n : ℕ) → (top + n < top) ⊎ ((top ≤ top + n) × (top + n < top + length ws) × (getD ws (top + n - top) 0 ≡ top + n)) → stateOf top ws n ≡ top + n
+    own n (inl lt) = absurd (omega arith)
+    own n (inr (a, b, c)) = inside ws n (top + n) 0 (omega arith) ∙ ap (λ k. getD ws k 0) (let e : n ≡ top + n - top = omega arith in e) ∙ c
+
 -- a step leaves numbers of the sheet, or own made-up values
 pub stood-after : (x : Sheet) (ws out u r : List ℕ) → length ws ≡ 533 → Stood x ws → Fresh ws u → Constants r → Fitting x u r → Equated ws out u r → Stood x out
 stood-after x ws out u r size st fresh cs f q = record { each = λ n lt. go n lt (in? same? (top + n) u) }
   where
     go : (n : ℕ) → n < 533 → Dec (In (top + n) u) → Stands x (getD out n 0) ⊎ (getD out n 0 ≡ top + n)
     go n lt (no out-of) = subst (λ w. Stands x w ⊎ (w ≡ top + n)) (sym (q .others n out-of)) (st .each n lt)
-    go n lt (yes m) =
-        let z = in-left (top + n) (f .left) (4 - length (f .left)) (omega arith) (subst (λ l. In (top + n) l) (f .left-is) m) in
-        let rights : r ≡ f .right ++ replicate (4 - length (f .left)) 0 = f .right-is ∙ ap (λ k. f .right ++ replicate (4 - k) 0) (sym (f .same)) in
-        let met = subst (λ l. Met (q .by) (equations (padded (f .left)) l)) rights (subst (λ l. Met (q .by) (equations l r)) (f .left-is) (q .unifier .met)) in
-        let (w, i, e) = partner (q .by) (top + n) (f .left) (f .right) (replicate (4 - length (f .left)) 0) (f .same) met z in
-        let small = cs w (subst (λ l. In w l) (sym (f .right-is)) (in-front w (f .right) (replicate (4 - length (f .right)) 0) i)) in
-        let before : stateOf top ws n ≡ top + n = own n (fresh (top + n) m) in
-        let there : getD out n 0 ≡ w = inside out n 0 (top + n) (let l = q .same in omega arith) ∙ (λ j. q .state j n) ∙ ap (q .by) before ∙ e ∙ q .unifier .keeps w small in
-        inl (subst (Stands x) (sym there) (f .stands w i))
-      where
-        in-front : (v : ℕ) (l k : List ℕ) → In v l → In v (l ++ k)
-        in-front v (a ∷ l) k (inl e) = inl e
-        in-front v (a ∷ l) k (inr m) = inr (in-front v l k m)
+    go n lt (yes m) = let (w, i, small, e) = taken-value x ws out u r size fresh cs f q n lt m in inl (subst (Stands x) (sym e) (f .stands w i))
 
-        own : (n : ℕ) → (top + n < top) ⊎ ((top ≤ top + n) × (top + n < top + length ws) × (getD ws (top + n - top) 0 ≡ top + n)) → stateOf top ws n ≡ top + n
-        own n (inl lt) = absurd (omega arith)
-        own n (inr (a, b, c)) = inside ws n (top + n) 0 (omega arith) ∙ ap (λ k. getD ws k 0) (let e : n ≡ top + n - top = omega arith in e) ∙ c
+-- ---- levels
+
+-- a relaxed state depends on the choices of bound slots alone
+relaxed-same : (ws lv lw : List ℕ) → Proper ws → SameLevels ws lv lw → (s : List Bool) → relaxed ws lw s ≡ relaxed ws lv s
+unfolding relaxed
+relaxed-same ws lv lw pr e s = fun-ext (λ n. go n (relaxed-plain ws lv (pr .size) (pr .each) [] n))
+  where
+    free : (n : ℕ) → stateOf top ws n ≡ top + n → (b : Bool) → cond b (stateOf top ws n) (top + n) ≡ top + n
+    free n q true = q
+    free n q false = refl
+
+    go : (n : ℕ) → (stateOf top ws n < top) ⊎ (stateOf top ws n ≡ top + n) → cond (kept lw s n) (stateOf top ws n) (top + n) ≡ cond (kept lv s n) (stateOf top ws n) (top + n)
+    go n (inl lt) = ap (λ k. cond (getD s k true) (stateOf top ws n) (top + n)) (e .each n lt)
+    go n (inr q) = free n q (kept lw s n) ∙ sym (free n q (kept lv s n))
+
+-- with all choices marked it is the state
+pub relaxed-all : (ws lv : List ℕ) → relaxed ws lv [] ≡ stateOf top ws
+unfolding relaxed
+relaxed-all ws lv = refl
 
 module _ (p : List ℕ) (x : Sheet) (r : Ready p x) where
   -- listed rows are made of constants
@@ -118,70 +145,214 @@ module _ (p : List ℕ) (x : Sheet) (r : Ready p x) where
   pub settled-after : (asked : Bool) (h : ℕ → ℕ) (s : State) → Keeps top h → Settled (sheetBy asked x) s → Settled (sheetBy asked x) (after h s)
   settled-after asked h s k st c m = copy-kept asked h s c m k (st c m)
 
-  module _ (asked : Bool) (ws : List ℕ) (left : ℕ) (b : Begins x (sheetBy asked x) ws left) (view : ℕ) (u : List ℕ) (o : Opened p x (sheetBy asked x) ws view u) where
-    -- ---- a row taken
+  -- ---- a stray row, and the rows tried for it
+
+  module _ (asked : Bool) (ws lv : List ℕ) (next left : ℕ) (b : Begins x (sheetBy asked x) ws left) (g : Levelled ws lv next) (view : ℕ) (u st lw : List ℕ) (marks : List Bool) (n : ℕ)
+      (here : Going p x (sheetBy asked x) ws lv st lw marks view u n) (few : n < rowCount p) where
+    abbrev y : Sheet
+    y = sheetBy asked x
+
+    abbrev o : Opened p x y ws lv marks view u
+    o = here .opened
 
     -- the words changed are numbers of the row
-    taken-stood : (i : ℕ) → i < rowCount p → (out : List ℕ) → Taken p view i ws out u → Stood x out
-    taken-stood i lt out t = stood-after x ws out u (rowValues p i) (b .proper .size) (b .stood) (o .fresh) (row-constants i lt) (o .fits i lt (t .view-is)) (t .step)
+    taken-stood : (out : List ℕ) → Taken p view n ws out u → Stood x out
+    taken-stood out t = stood-after x ws out u (rowValues p n) (b .proper .size) (b .stood) (o .fresh) (row-constants n few) (o .fits n few (t .view-is)) (t .step)
 
-    pub taken-begins : (i : ℕ) → i < rowCount p → (out : List ℕ) → Taken p view i ws out u → Begins x (sheetBy asked x) out (left - 1)
-    taken-begins i lt out t = record {
+    taken-begins : (out : List ℕ) → Taken p view n ws out u → Begins x y out (left - 1)
+    taken-begins out t = record {
       proper = proper-own out (t .step .same ∙ b .proper .size) (t .own);
-      stood = taken-stood i lt out t;
-      settled = subst (Settled (sheetBy asked x)) (sym (t .step .state)) (settled-after asked (t .step .by) (stateOf top ws) (t .step .unifier .keeps) (b .settled));
-      room = let h = b .room in ⊎-elim (λ e. absurd (o .other i lt (t .view-is) e)) (λ f. omega arith) (t .step .fewer);
+      stood = taken-stood out t;
+      settled = subst (Settled y) (sym (t .step .state)) (settled-after asked (t .step .by) (stateOf top ws) (t .step .unifier .keeps) (b .settled));
+      room = let h = b .room in ⊎-elim (λ e. absurd (o .other n few (t .view-is) e)) (λ f. omega arith) (t .step .fewer);
     }
-
-    -- below it nothing is good
-    pub tried-taken : (i : ℕ) (out : List ℕ) → Taken p view i ws out u → Refuted top (sheetBy asked x) (stateOf top out) → Tried p (sheetBy asked x) ws view u i → Tried p (sheetBy asked x) ws view u (i + 1)
-    tried-taken i out t none d = record { each = below-more _ i (d .each) (λ e. unified (t .step .unifier) (subst (Refuted top (sheetBy asked x)) (t .step .state) none)) }
 
     -- ---- a row that the stray row cannot become
 
-    pub tried-passed : (i : ℕ) (out : List ℕ) → Passed p view i ws out u → Tried p (sheetBy asked x) ws view u i → Tried p (sheetBy asked x) ws view u (i + 1)
-    tried-passed i out t d = record { each = below-more _ i (d .each) (λ e. clashed (t .clash e)) }
+    tried-passed : (out : List ℕ) → Passed p view n ws out u → Tried p y ws lv marks view u (n + 1)
+    tried-passed out t = record { each = λ s w. below-more _ n (here .tried .each s w) (λ e. clashed (t .clash e)) }
 
-    -- all rows tried
-    pub tried-all : (n : ℕ) → n ≡ rowCount p → Tried p (sheetBy asked x) ws view u n → Refuted top (sheetBy asked x) (stateOf top ws)
-    tried-all n e d = o .refuted (λ i lt. d .each i (omega arith))
+    -- ---- one that it becomes: the slots of the stray row belong to choice c
 
-    -- ---- the same in the words of the code: `st` are the words before a row is taken, `out` after it, `res` whether it was
+    module _ (out : List ℕ) (t : Taken p view n ws out u) (lx : List ℕ) (c deeper : ℕ) (size : length lw ≡ 533) (a : Assigned lw lx u c) where
+      fresh-slot : (k : ℕ) → In (top + k) u → (k < 533) × (stateOf top ws k ≡ top + k)
+      fresh-slot k m = go (o .fresh (top + k) m)
+        where
+          go : (top + k < top) ⊎ ((top ≤ top + k) × (top + k < top + length ws) × (getD ws (top + k - top) 0 ≡ top + k)) → (k < 533) × (stateOf top ws k ≡ top + k)
+          go (inl lt) = absurd (omega arith)
+          go (inr (le, lt, e)) = let z = b .proper .size in (omega arith, inside ws k (top + k) 0 (omega arith) ∙ ap (λ q. getD ws q 0) (let f : k ≡ top + k - top = omega arith in f) ∙ e)
 
-    abbrev Take : ℕ → Bool → List ℕ → List ℕ → Type 0
-    Take i res st out = Own st → Fresh st u → Constants (rowValues p i) → TakenBy res p view i st out u
+      -- slots of other choices stay
+      other-slot : (k : ℕ) → (In (top + k) u → ⊥) → stateOf top out k ≡ stateOf top ws k
+      other-slot k m = let z = b .proper .size in let w = t .step .same in ⊎-elim
+          (λ lt. inside out k (top + k) 0 (omega arith) ∙ t .step .others k m ∙ inside ws k 0 (top + k) (omega arith))
+          (λ le. List·getD-eq-default out (top + k) (omega arith) ∙ sym (List·getD-eq-default ws (top + k) (omega arith)))
+          (less? k 533)
 
-    at-words : (i : ℕ) → i < rowCount p → (res : Bool) (st out : List ℕ) → st ≡ ws → Take i res st out → TakenBy res p view i ws out u
-    at-words i lt res st out e take = subst (λ l. Take i res l out) e take (own-proper ws (b .proper)) (o .fresh) (row-constants i lt)
+      levelled : c < deeper → next ≤ deeper → Levelled out lx deeper
+      levelled lt le = record { each = λ k bound. go k bound (in? same? (top + k) u) }
+        where
+          go : (k : ℕ) → stateOf top out k < top → Dec (In (top + k) u) → getD lx k 0 < deeper
+          go k bound (yes m) = let (small, e) = fresh-slot k m in let f = a .slots k m (omega arith) in omega arith
+          go k bound (no m) =
+              let e = other-slot k m in
+              let h : stateOf top ws k < top = omega arith in
+              let f = a .others k m in
+              let q = here .levels .each k h in
+              let z = g .each k h in
+              omega arith
 
-    pub took : (i : ℕ) → i < rowCount p → (res : Bool) (st out : List ℕ) → st ≡ ws → Take i res st out → res ≡ true → Taken p view i ws out u
-    took i lt true st out e take q = at-words i lt true st out e take
-    took i lt false st out e take q = absurd (true≢false (sym q))
+      -- after the search below, the bound slots belong to the choices that they belonged to
+      levels-back : (ly : List ℕ) → SameLevels out lx ly → SameLevels ws lv ly
+      levels-back ly s = record { each = λ k bound. go k bound (in? same? (top + k) u) }
+        where
+          go : (k : ℕ) → stateOf top ws k < top → Dec (In (top + k) u) → getD ly k 0 ≡ getD lv k 0
+          go k bound (yes m) = let (small, e) = fresh-slot k m in absurd (omega arith)
+          go k bound (no m) = s .each k (subst (λ v. v < top) (sym (other-slot k m)) bound) ∙ a .others k m ∙ here .levels .each k bound
+
+      out-size : length out ≡ 533
+      out-size = t .step .same ∙ b .proper .size
+
+      out-own : (k : ℕ) → k < 533 → (getD out k 0 < top) ⊎ (getD out k 0 ≡ top + k)
+      out-own k lt = let z = out-size in t .own k (omega arith)
+
+      slot-levels : (k : ℕ) → In (top + k) u → getD lx k 0 ≡ c
+      slot-levels k m = let (small, e) = fresh-slot k m in a .slots k m (omega arith)
+
+      -- a failure below that does not rest on the choice
+      rests-jump : (below : List Bool) → getD below c true ≡ false → Rests y out lx below → Rests y ws lv below
+      rests-jump below e rests =
+          subst (Refuted top y) (relaxed-same ws lv lw (b .proper) (here .levels) below)
+          (jump ws lw (b .proper .size) (b .proper .each) out lx u (rowValues p n) c out-size out-own slot-levels (a .others) (λ k m. fresh-slot k m .1) other-slot y below e rests)
+
+      -- a failure below, and what it rests on besides the choice is marked
+      tried-taken : (below more : List Bool) → MarksAdded marks below next more → Rests y out lx below → Tried p y ws lv more view u (n + 1)
+      tried-taken below more d rests = record {
+        each = λ s w. below-more _ n (here .tried .each s (within-trans marks more s (d .more) w))
+            (λ e. subst (λ (z : State). RefutedBy top y z (equations u (rowValues p n))) (relaxed-same ws lv lw (b .proper) (here .levels) s)
+            (refuted-below ws lw (b .proper .size) (b .proper .each) out lx u (rowValues p n) c out-size out-own slot-levels (a .others) (λ k m. fresh-slot k m .1) other-slot y below s (among s w) bound rests));
+      }
+        where
+          among : (s : List Bool) → Within more s → (k : ℕ) → (In (top + k) u → ⊥) → stateOf top ws k < top → kept lw below k ≡ true → kept lw s k ≡ true
+          among s w k m h e =
+              let q = here .levels .each k h in
+              let z = g .each k h in
+              w (getD lw k 0) (d .added (getD lw k 0) (λ same. omega arith) e)
+
+          bound : (k : ℕ) → In (top + k) u → (h : ℕ → ℕ) → Keeps top h → Met h (equations u (rowValues p n)) → h (top + k) ≡ stateOf top out k
+          bound k m h keeps met =
+              let (small, e) = fresh-slot k m in
+              let there : stateOf top out k ≡ t .step .by (top + k) = (λ j. t .step .state j k) ∙ ap (t .step .by) e in
+              let (w, i, constant, f) = taken-value x ws out u (rowValues p n) (b .proper .size) (o .fresh) (row-constants n few) (o .fits n few (t .view-is)) (t .step) k small m in
+              let v = inside out k 0 (top + k) (let z = out-size in omega arith) in
+              sym (t .step .unifier .general h keeps met (top + k)) ∙ ap h (sym there) ∙ keeps (stateOf top out k) (omega arith)
+
+    -- more marks
+    opened-more : (from more : List Bool) → Within from more → Opened p x y ws lv from view u → Opened p x y ws lv more view u
+    opened-more from more w k = record {
+      fresh = k .fresh;
+      fits = k .fits;
+      other = k .other;
+      refuted = λ s v each. k .refuted s (within-trans from more s w v) each;
+    }
+
+    put-within : (old below last : List Bool) → MarksPut old below last → Within below last
+    put-within old below last put k e = ⊎-elim
+        (λ lt. put .each k lt ∙ e)
+        (λ far. List·getD-eq-default last true (let z = put .same in omega arith))
+        (less? k (length old))
+
+    -- ---- the same in the words of the code: `out` are the words after a row was taken, `res` whether it was
+
+    abbrev Take : Bool → List ℕ → Type 0
+    Take res out = Own st → Fresh st u → Constants (rowValues p n) → TakenBy res p view n st out u
+
+    at-words : (res : Bool) (out : List ℕ) → Take res out → TakenBy res p view n ws out u
+    at-words res out take = subst (λ l. (Own l → Fresh l u → Constants (rowValues p n) → TakenBy res p view n l out u) → TakenBy res p view n ws out u) (sym (here .same)) (λ f. f (own-proper ws (b .proper)) (o .fresh) (row-constants n few)) take
+
+    took : (res : Bool) (out : List ℕ) → Take res out → res ≡ true → Taken p view n ws out u
+    took true out take e = at-words true out take
+    took false out take e = absurd (true≢false (sym e))
 
     -- the row was not taken
-    pub again-passed : (i : ℕ) → i < rowCount p → (res : Bool) (st out : List ℕ) → Take i res st out → res ≡ false → (st ≡ ws) × Tried p (sheetBy asked x) ws view u i → (out ≡ ws) × Tried p (sheetBy asked x) ws view u (i + 1)
-    again-passed i lt true st out take q (e, d) = absurd (true≢false q)
-    again-passed i lt false st out take q (e, d) = let t = at-words i lt false st out e take in (t .kept, tried-passed i out t d)
+    pub going-passed : (res : Bool) (out lx : List ℕ) (c : ℕ) → Take res out → GivenTo res lw lx u c → res ≡ false → Going p x y ws lv out lx marks view u (n + 1)
+    going-passed true out lx c take to e = absurd (true≢false e)
+    going-passed false out lx c take to e =
+        let t = at-words false out take in
+        record { same = t .kept; levels = subst (SameLevels ws lv) (sym to) (here .levels); opened = o; tried = tried-passed out t }
 
-    -- it was, nothing below it is good, and it is given back
-    pub again-taken : (i : ℕ) → i < rowCount p → (res found : Bool) (st out below back : List ℕ) → Take i res st out → res ≡ true → found ≡ false
-        → (Begins x (sheetBy asked x) out (left - 1) → SoughtBy found x (sheetBy asked x) out below)
-        → ((l : List ℕ) → Fresh l u → length l ≡ length below → ((n : ℕ) → (In (top + n) u → ⊥) → getD below n 0 ≡ getD l n 0) → back ≡ l)
-        → (st ≡ ws) × Tried p (sheetBy asked x) ws view u i → (back ≡ ws) × Tried p (sheetBy asked x) ws view u (i + 1)
-    again-taken i lt res true st out below back take q f seek release (e, d) = absurd (true≢false f)
-    again-taken i lt res false st out below back take q f seek release (e, d) =
-        let t = took i lt res st out e take q in
-        let (none-good, kept) = seek (taken-begins i lt out t) in
-        (release ws (o .fresh) (sym (t .step .same) ∙ sym (ap length kept)) (λ n m. ap (λ l. getD l n 0) kept ∙ t .step .others n m), tried-taken i out t none-good d)
+    given-yes : (res : Bool) (lx : List ℕ) (c : ℕ) → res ≡ true → GivenTo res lw lx u c → Assigned lw lx u c
+    given-yes true lx c e to = to
+    given-yes false lx c e to = absurd (true≢false (sym e))
 
-    -- it was, and something good was found
-    pub found-below : (i : ℕ) → i < rowCount p → (res found : Bool) (st out below : List ℕ) → Take i res st out → res ≡ true → found ≡ true → (st ≡ ws)
-        → (Begins x (sheetBy asked x) out (left - 1) → SoughtBy found x (sheetBy asked x) out below) → SoughtBy true x (sheetBy asked x) ws below
-    found-below i lt res true st out below take q f e seek = seek (taken-begins i lt out (took i lt res st out e take q))
-    found-below i lt res false st out below take q f e seek = absurd (true≢false (sym f))
+    -- it was, and its slots belong to choice c
+    module _ (res : Bool) (out : List ℕ) (take : Take res out) (yes : res ≡ true) (lx : List ℕ) (c deeper : ℕ) (size : length lw ≡ 533) (to : GivenTo res lw lx u c) (above : c < deeper) (le : next ≤ deeper)
+        (found : Bool) (end ly : List ℕ) (below : List Bool) (sought : Begins x y out (left - 1) → Levelled out lx deeper → SoughtBy found x y out lx end ly below) where
+      taken : Taken p view n ws out u
+      taken = took res out take yes
 
-pub tried-none : (p : List ℕ) (y : Sheet) (ws : List ℕ) (view : ℕ) (u : List ℕ) → Tried p y ws view u 0
-tried-none p y ws view u = record { each = λ i lt. absurd (omega arith) }
+      a : Assigned lw lx u c
+      a = given-yes res lx c yes to
+
+      below-said : SoughtBy found x y out lx end ly below
+      below-said = sought (taken-begins out taken) (levelled out taken lx c deeper size a above le)
+
+      -- something good was found
+      pub going-found : found ≡ true → Found x y end
+      going-found e = go found e below-said
+        where
+          go : (f : Bool) → f ≡ true → SoughtBy f x y out lx end ly below → Found x y end
+          go true e s = s
+          go false e s = absurd (true≢false (sym e))
+
+      lost : found ≡ false → Lost y out lx end ly below
+      lost e = go found e below-said
+        where
+          go : (f : Bool) → f ≡ false → SoughtBy f x y out lx end ly below → Lost y out lx end ly below
+          go true e s = absurd (true≢false e)
+          go false e s = s
+
+      -- nothing was, and the row is given back
+      module _ (none : found ≡ false) (back : List ℕ)
+          (release : (l : List ℕ) → Fresh l u → length l ≡ length end → ((k : ℕ) → (In (top + k) u → ⊥) → getD end k 0 ≡ getD l k 0) → back ≡ l) where
+        back-is : back ≡ ws
+        back-is =
+            let e = lost none .kept in
+            release ws (o .fresh) (sym (taken .step .same) ∙ sym (ap length e)) (λ k m. ap (λ l. getD l k 0) e ∙ taken .step .others k m)
+
+        -- that does not rest on the choice
+        pub going-jumped : getD below c true ≡ false → (old last : List Bool) → MarksPut old below last → Lost y ws lv back ly last
+        going-jumped e old last put = record {
+          rests = rests-more ws lv (b .proper .size) (b .proper .each) y below last (put-within old below last put) (rests-jump out taken lx c deeper size a below e (lost none .rests));
+          kept = back-is;
+          levels = levels-back out taken lx c deeper size a ly (lost none .levels);
+        }
+
+        -- it may: the next row is tried
+        pub going-taken : (more : List Bool) → MarksAdded marks below next more → Going p x y ws lv back ly more view u (n + 1)
+        going-taken more d = record {
+          same = back-is;
+          levels = levels-back out taken lx c deeper size a ly (lost none .levels);
+          opened = opened-more marks more (d .more) o;
+          tried = tried-taken out taken lx c deeper size a below more d (lost none .rests);
+        }
+
+-- all rows tried
+pub going-all : (p : List ℕ) (x y : Sheet) (ws lv st lw : List ℕ) (marks : List Bool) (view : ℕ) (u : List ℕ) (n : ℕ) → n ≡ rowCount p → Going p x y ws lv st lw marks view u n → Lost y ws lv st lw marks
+going-all p x y ws lv st lw marks view u n e here = record {
+  rests = here .opened .refuted marks (within-same marks) (λ i lt. here .tried .each marks (within-same marks) i (omega arith));
+  kept = here .same;
+  levels = here .levels;
+}
+
+-- none tried yet
+pub going-first : (p : List ℕ) (x y : Sheet) (ws lv : List ℕ) (marks : List Bool) (view : ℕ) (u : List ℕ) → Opened p x y ws lv marks view u → Going p x y ws lv ws lv marks view u 0
+going-first p x y ws lv marks view u o = record {
+  same = refl;
+  levels = record { each = λ n lt. refl };
+  opened = o;
+  tried = record { each = λ s w i lt. absurd (omega arith) };
+}
 
 -- ---- taking a row
 
@@ -194,11 +365,32 @@ passed-other p view i ws u ne = record { clash = λ e. absurd (ne e); kept = ref
 
 -- ---- what a state was found to be
 
-pub done-by : (p : List ℕ) (x y : Sheet) (ws : List ℕ) (view : ℕ) (u : List ℕ) (left : ℕ) (done good : Bool) → done ≡ true → Begins x y ws left → NodeBy done good p x y ws view u → SoughtBy good x y ws ws
-done-by p x y ws view u left true true e b n = record { good = n (b .settled); size = b .proper .size; stood = b .stood }
-done-by p x y ws view u left true false e b n = (n, refl)
-done-by p x y ws view u left false good e b n = absurd (true≢false (sym e))
+pub done-by : (p : List ℕ) (x y : Sheet) (ws lv : List ℕ) (marks : List Bool) (view : ℕ) (u : List ℕ) (left : ℕ) (done good : Bool) → done ≡ true → Begins x y ws left → NodeBy done good p x y ws lv marks view u
+    → SoughtBy good x y ws lv ws lv marks
+done-by p x y ws lv marks view u left true true e b n = record { good = n (b .settled); size = b .proper .size; stood = b .stood }
+done-by p x y ws lv marks view u left true false e b n = record { rests = n; kept = refl; levels = record { each = λ k lt. refl } }
+done-by p x y ws lv marks view u left false good e b n = absurd (true≢false (sym e))
 
-pub open-by : (p : List ℕ) (x y : Sheet) (ws : List ℕ) (view : ℕ) (u : List ℕ) (done good : Bool) → done ≡ false → NodeBy done good p x y ws view u → Opened p x y ws view u
-open-by p x y ws view u true good e n = absurd (true≢false e)
-open-by p x y ws view u false good e n = n
+pub open-by : (p : List ℕ) (x y : Sheet) (ws lv : List ℕ) (marks : List Bool) (view : ℕ) (u : List ℕ) (done good : Bool) → done ≡ false → NodeBy done good p x y ws lv marks view u → Opened p x y ws lv marks view u
+open-by p x y ws lv marks view u true good e n = absurd (true≢false e)
+open-by p x y ws lv marks view u false good e n = n
+
+-- ---- whether a failure jumps
+
+pub jumps-yes : (r : Bool) (old below : List Bool) (b next : ℕ) (marks : List Bool) → r ≡ true → JumpsBy r old below b next marks → JumpsBy true old below b next marks
+jumps-yes true old below b next marks e j = j
+jumps-yes false old below b next marks e j = absurd (true≢false (sym e))
+
+pub jumps-no : (r : Bool) (old below : List Bool) (b next : ℕ) (marks : List Bool) → r ≡ false → JumpsBy r old below b next marks → MarksAdded old below next marks
+jumps-no true old below b next marks e j = absurd (true≢false e)
+jumps-no false old below b next marks e j = j
+
+-- ---- before the first choice
+
+zeros-at : (k n : ℕ) → getD (replicate {A = ℕ} k 0) n 0 ≡ 0
+zeros-at zero n = refl
+zeros-at (suc k) zero = refl
+zeros-at (suc k) (suc n) = zeros-at k n
+
+pub levelled-first : (ws : List ℕ) (k : ℕ) → Levelled ws (replicate k 0) 1
+levelled-first ws k = record { each = λ n lt. let z = zeros-at k n in omega arith }

@@ -21,15 +21,11 @@ use Rattle.views.specs.Views.{GivenAt, StrayAt}
 use Rattle.reasons.specs.Reasons.{relaxed, Within, Held, AtomHeld, Marked, HeadMarked}
 use Rattle.reasons.proofs.Laws.{held-more}
 use Rattle.reasons.proofs.Relaxed.{relaxed-held, given-held}
-use Rattle.search.specs.Parts.{Ready, sheetBy, fromBy, Proper}
+use Rattle.search.specs.Parts.{Ready, sheetBy, fromBy, numbersOf, Proper, GivenBy, askedRow, Shut, ByStrays, NodeBy}
 use Rattle.search.proofs.Heads.{block-at}
 use Rattle.search.proofs.Node.{stray-refuted}
-use Rattle.search.proofs.ReadyLaws.{ready-task, ready-facts}
-use Rattle.search.proofs.NodeLaws.{shut}
-
--- the facts of a state, in numbers
-abbrev pub numbersOf : Bool → List ℕ → State → List ℕ
-numbersOf asked p s = tableauFacts p s (fromBy asked p) (tableauSize p - fromBy asked p)
+use Rattle.search.proofs.ReadyLaws.{ready-task, ready-facts, opened}
+use Rattle.search.proofs.NodeLaws.{shut, closed}
 
 module _ (p : List ℕ) (x : Sheet) (r : Ready p x) (asked : Bool) (ws lv : List ℕ) (pr : Proper ws) where
   -- more marks hold no less
@@ -79,3 +75,28 @@ module _ (p : List ℕ) (x : Sheet) (r : Ready p x) (ws lv : List ℕ) (pr : Pro
   shut-still at old mid marks w m h =
       shut p x r (relaxed ws lv marks) (numbersOf true p (relaxed ws lv marks)) (ready-facts p x r true (relaxed ws lv marks))
       (subst (GivenAt p 1 (numbersOf true p (relaxed ws lv marks))) (head-still mid marks h) (given-still p x r true ws lv pr 1 _ at old mid w m marks (h .more)))
+
+-- ---- what a state is found to be
+
+module _ (p : List ℕ) (x : Sheet) (r : Ready p x) (asked : Bool) (ws lv : List ℕ) (marks : List Bool) (pr : Proper ws) where
+  -- so stray rows decide, where the list is not given the head
+  pub found : (from : ℕ) (ns : List ℕ) → from ≡ fromBy asked p → ns ≡ numbersOf asked p (stateOf top ws) → (asked ≡ true → GivenAt p 1 ns (askedRow p ws) → ⊥)
+      → (done good : Bool) (v : ℕ) (u : List ℕ) → ByStrays done good p ns ws lv from marks v u → NodeBy done good p x (sheetBy asked x) ws lv marks v u
+  found from ns e f lacks true true v u clean = λ st. closed p x r asked (stateOf top ws) ns (subst (λ l. FactNumbers l (logOf (sheetBy asked x) (stateOf top ws))) (sym f) (ready-facts p x r asked (stateOf top ws))) lacks clean st
+  found from ns e f lacks true false v u b = absurd b
+  found from ns e f lacks false good v u (st, g) =
+      let here = subst (λ l. StrayAt p l v u) f st in
+      opened p x r asked ws lv marks pr (numbersOf asked p (stateOf top ws)) (ready-facts p x r asked (stateOf top ws)) v u here
+      (λ s w each. stray-still p x r asked ws lv pr v u (g .at) (g .old) marks here
+      (subst (λ l. WitnessAt (blockNumbers p (2 + v)) (min (blockSize p (2 + v)) 6) l u (g .at)) f (g .witness))
+      (subst (λ k. Marked p ws lv k (g .at) (min (blockSize p (2 + v)) 6) (g .old) marks) e (g .marked)) s w each)
+
+  -- the list is given the head
+  pub shut-by : asked ≡ true → (ns : List ℕ) → ns ≡ numbersOf asked p (stateOf top ws) → Shut p ns ws lv marks → (done good : Bool) → done ≡ true → good ≡ false → (v : ℕ) (u : List ℕ)
+      → NodeBy done good p x (sheetBy asked x) ws lv marks v u
+  shut-by e ns f h done good a b v u =
+      subst (λ d. NodeBy d good p x (sheetBy asked x) ws lv marks v u) (sym a)
+      (subst (λ d. NodeBy true d p x (sheetBy asked x) ws lv marks v u) (sym b)
+      (subst (λ k. Refuted top (sheetBy k x) (relaxed ws lv marks)) (sym e)
+      (shut-still p x r ws lv pr (h .given .at) (h .given .old) (h .mid) marks
+      (subst (λ l. WitnessAt (blockNumbers p 1) (min (blockSize p 1) 6) l (askedRow p ws) (h .given .at)) (f ∙ ap (λ k. numbersOf k p (stateOf top ws)) e) (h .given .witness)) (h .given .marked) (h .head))))

@@ -3,7 +3,7 @@ use mathlib.Core.Path.{_≡_, refl, sym, ap, _∙_, subst}
 use mathlib.Core.Bool.{Bool, true, false, not, true≢false}
 use mathlib.Core.List.{List, [], _∷_}
 use mathlib.Core.Logic.{_⊎_, inl, inr, ⊎-elim}
-use Prim.Native.Nat.{ℕ, zero, suc, _+_, _-_, _*_, _<_, _≤_, min}
+use Prim.Native.Nat.{ℕ, zero, suc, _+_, _-_, _*_, _/_, _<_, _≤_, min}
 use native.Mathlib.Omega.{arith}
 use lib.ListN.{length, length-map}
 use Rattle.meaning.specs.Meaning.{Block, In, row, Answer}
@@ -15,13 +15,13 @@ use Rattle.verdicts.specs.Accepted.{width}
 use Rattle.verdicts.specs.Sheets.{top}
 use Rattle.verdicts.specs.Tableau.{State, logOf, headOf, copy, Good, bare}
 use Rattle.verdicts.specs.Search.{Refuted}
-use Rattle.verdicts.specs.Words.{stateOf}
 use Rattle.plan.specs.Plan.{Plan, viewCount, blockNumbers, blockSize, tableauSize, tableauFacts}
-use Rattle.views.specs.Views.{GivenAt, SafePlan, NoStray}
+use Rattle.views.specs.Views.{GivenAt, SafePlan, StrayAt, NoStray, StrayBy}
 use Rattle.views.specs.Walks as walks
-use Rattle.search.specs.Parts.{Ready, sheetBy, fromBy, Settled, Proper, ByStrays, NodeBy}
+use Rattle.plan.proofs.Tableau.{tableau-length}
+use Rattle.search.specs.Parts.{Ready, sheetBy, fromBy, numbersOf, Settled, ByStrays, askedRow, Shut, ShutBy}
 use Rattle.search.proofs.Node.{list-refuted, list-lacks, good-state}
-use Rattle.search.proofs.ReadyLaws.{ready-task, ready-facts, opened}
+use Rattle.search.proofs.ReadyLaws.{ready-task, ready-facts}
 
 safe-at : {blk : List ℕ} {n : ℕ} {b : Block} → BlockNumbers blk n b → Safe blk n → Safe blk (min n 6)
 safe-at {blk} {n} bn s = subst (λ m. Safe blk m) (let f = bn .few in let e : n ≡ min n 6 = omega arith in e) s
@@ -81,26 +81,51 @@ module _ (p : List ℕ) (x : Sheet) (r : Ready p x) where
       (λ k m. subst (λ b. Answer (logOf x s) b (headOf x s) → ⊥) (sym (only-saved k m)) (list-lacks p x x (r .plan) (ready-task p x r true) s ns fn l sh (r .plan .list) (λ g. lacks refl (subst (GivenAt p 1 ns) (sym (asked-head s)) g))))
   closed false s ns fn lacks clean st = good-state p x (bare x) (r .plan) (ready-task p x r false) s ns fn st clean (λ k m. absurd m)
 
-  -- so stray rows decide what a state is found to be, where the list is not given the head
-  pub found : (asked : Bool) (ws ns : List ℕ) → Proper ws → FactNumbers ns (logOf (sheetBy asked x) (stateOf top ws))
-      → (asked ≡ true → GivenAt p 1 ns (headRow (λ z. stateOf top ws (0 * 13 + z)) (blockNumbers p 0)) → ⊥)
-      → (done good : Bool) (v : ℕ) (u : List ℕ) → ByStrays done good p ns v u → NodeBy done good p x (sheetBy asked x) ws v u
-  found asked ws ns pr fn lacks true true v u clean = λ st. closed asked (stateOf top ws) ns fn lacks clean st
-  found asked ws ns pr fn lacks true false v u b = absurd b
-  found asked ws ns pr fn lacks false good v u b = opened p x r asked ws pr ns fn v u b
-
-  pub shut-by : (asked : Bool) → asked ≡ true → (ws ns : List ℕ) → FactNumbers ns (logOf (sheetBy asked x) (stateOf top ws))
-      → GivenAt p 1 ns (headRow (λ z. stateOf top ws (0 * 13 + z)) (blockNumbers p 0))
-      → (done good : Bool) → done ≡ true → good ≡ false → (v : ℕ) (u : List ℕ) → NodeBy done good p x (sheetBy asked x) ws v u
-  shut-by asked e ws ns fn g done good a b v u =
-      subst (λ d. NodeBy d good p x (sheetBy asked x) ws v u) (sym a)
-      (subst (λ d. NodeBy true d p x (sheetBy asked x) ws v u) (sym b)
-      (subst (λ k. FactNumbers ns (logOf (sheetBy k x) (stateOf top ws)) → Refuted top (sheetBy k x) (stateOf top ws)) (sym e) (λ f. shut (stateOf top ws) ns f g) fn))
-
   pub from-few : (asked : Bool) → fromBy asked p ≤ tableauSize p
   from-few true = omega arith
   from-few false = r .plan .asked
 
+  pub numbers-by : (asked : Bool) (s : State) (ns : List ℕ) (from n : ℕ) → from ≡ fromBy asked p → n ≡ tableauSize p - from → ns ≡ tableauFacts p s from n → ns ≡ numbersOf asked p s
+  numbers-by asked s ns from n e f g = g ∙ ap (λ k. tableauFacts p s from k) f ∙ ap (λ k. tableauFacts p s k (tableauSize p - k)) e
+
   pub facts-by : (asked : Bool) (s : State) (ns : List ℕ) (from n : ℕ) → from ≡ fromBy asked p → n ≡ tableauSize p - from → ns ≡ tableauFacts p s from n → FactNumbers ns (logOf (sheetBy asked x) s)
-  facts-by asked s ns from n e f g =
-      subst (λ l. FactNumbers l (logOf (sheetBy asked x) s)) (sym (g ∙ ap (λ k. tableauFacts p s from k) f ∙ ap (λ k. tableauFacts p s k (tableauSize p - k)) e)) (ready-facts p x r asked s)
+  facts-by asked s ns from n e f g = subst (λ l. FactNumbers l (logOf (sheetBy asked x) s)) (sym (numbers-by asked s ns from n e f g)) (ready-facts p x r asked s)
+
+  -- the facts of a state are few
+  pub room-for : (asked : Bool) (s : State) (from : ℕ) (ns : List ℕ) → from ≡ fromBy asked p → ns ≡ numbersOf asked p s → from + length ns / 5 ≤ 126
+  room-for asked s from ns e f =
+      let l = ap length f ∙ tableau-length p s (fromBy asked p) (tableauSize p - fromBy asked p) in
+      let few = from-few asked in
+      let size = r .plan .few in
+      omega arith
+
+-- ---- what the calls of a state's judging say, by their results
+
+module _ (p ns : List ℕ) where
+  pub stray-is : (b : Bool) (v : ℕ) (u : List ℕ) → b ≡ true → StrayBy b p ns v u → StrayAt p ns v u
+  stray-is true v u e s = s
+  stray-is false v u e s = absurd (true≢false (sym e))
+
+  pub lacks-by : (b : Bool) (u : List ℕ) → b ≡ false → walks.GivesAtBy b p 1 ns u → GivenAt p 1 ns u → ⊥
+  lacks-by true u e g = absurd (true≢false e)
+  lacks-by false u e g = g
+
+  pub gives-by : (b : Bool) (u : List ℕ) → b ≡ true → walks.GivesAtBy b p 1 ns u → GivenAt p 1 ns u
+  gives-by true u e g = g
+  gives-by false u e g = absurd (true≢false (sym e))
+
+  module _ (ws lv : List ℕ) where
+    pub none-left : (from : ℕ) (marks : List Bool) (b : Bool) (v : ℕ) (u : List ℕ) → b ≡ false → StrayBy b p ns v u → (done good : Bool) → done ≡ true → good ≡ true → (w : ℕ) (t : List ℕ)
+        → ByStrays done good p ns ws lv from marks w t
+    none-left from marks true v u e s done good d g w t = absurd (true≢false e)
+    none-left from marks false v u e s done good d g w t =
+        subst (λ a. ByStrays a good p ns ws lv from marks w t) (sym d) (subst (λ a. ByStrays true a p ns ws lv from marks w t) (sym g) s)
+
+    module _ (marks : List Bool) where
+      pub shut-yes : (b : Bool) → b ≡ true → ShutBy b p ns ws lv marks → Shut p ns ws lv marks
+      shut-yes true e s = s
+      shut-yes false e s = absurd (true≢false (sym e))
+
+      pub shut-no : (b : Bool) → b ≡ false → ShutBy b p ns ws lv marks → GivenAt p 1 ns (askedRow p ws) → ⊥
+      shut-no true e s = absurd (true≢false e)
+      shut-no false e s = s

@@ -23,8 +23,9 @@ use Rattle.verdicts.proofs.Judge.{bare-accepted}
 use Rattle.plan.specs.Plan.{Plan, tableauFacts, tableauSize, askedSize, rowAt, rowValues, rowCount, viewCount, blockNumbers, blockSize}
 use Rattle.views.specs.Views.{GivenAt, Listed, StrayAt, NoStray}
 use Rattle.state.specs.State.{Fresh}
+use Rattle.reasons.specs.Reasons.{relaxed, Rests, Within}
 use Rattle.search.specs.Parts.{Ready, sheetBy, fromBy, Proper, Opened}
-use Rattle.search.proofs.Node.{Task, log-plain, shaped-log, stray-refuted, nth-in}
+use Rattle.search.proofs.Node.{Task, log-plain, shaped-log, nth-in}
 use Rattle.search.proofs.Fresh.{fresh-answer}
 
 numbered-at : (js : List Job) (k : ℕ) (d : Job) → k < length js → In (record { number = k; job = getD js k d }) (numbered js)
@@ -76,8 +77,10 @@ module _ (p : List ℕ) (x : Sheet) (r : Ready p x) where
   jobs-few false = let c = r .plan .copies in let f = r .plan .rows-few in omega arith
 
   -- a stray row opens the state
-  pub opened : (asked : Bool) (ws : List ℕ) → Proper ws → (ns : List ℕ) → FactNumbers ns (logOf (sheetBy asked x) (stateOf top ws)) → (v : ℕ) (u : List ℕ) → StrayAt p ns v u → Opened p x (sheetBy asked x) ws v u
-  opened asked ws pr ns fn v u st =
+  pub opened : (asked : Bool) (ws lv : List ℕ) (marks : List Bool) → Proper ws → (ns : List ℕ) → FactNumbers ns (logOf (sheetBy asked x) (stateOf top ws)) → (v : ℕ) (u : List ℕ) → StrayAt p ns v u
+      → ((s : List Bool) → Within marks s → ((i : ℕ) → i < rowCount p → rowAt p i 0 ≡ v → RefutedBy top (sheetBy asked x) (relaxed ws lv s) (equations u (rowValues p i))) → Rests (sheetBy asked x) ws lv s)
+      → Opened p x (sheetBy asked x) ws lv marks v u
+  opened asked ws lv marks pr ns fn v u st decide =
       let y = sheetBy asked x in
       let task = ready-task asked in
       let lt = st .view in
@@ -102,5 +105,5 @@ module _ (p : List ℕ) (x : Sheet) (r : Ready p x) where
               stands = λ n i. in-row w m (h .row) k i;
             };
         other = λ i li e f. st .stray (i, li, e, sym f);
-        refuted = λ each. stray-refuted p x y (r .plan) task (stateOf top ws) ns fn v u st each;
+        refuted = decide;
       }

@@ -3,7 +3,7 @@ use mathlib.Core.Path.{_≡_}
 use mathlib.Core.Bool.{Bool, true, false}
 use mathlib.Core.List.{List, [], _∷_}
 use mathlib.Core.Logic.{_⊎_}
-use Prim.Native.Nat.{ℕ, _+_, _<_, _≤_}
+use Prim.Native.Nat.{ℕ, _+_, _-_, _*_, _<_, _≤_, min}
 use lib.ListN.{length, getD}
 use Rattle.meaning.specs.Meaning.{Block, In}
 use Rattle.meaning.specs.Blocks.{nth}
@@ -15,10 +15,13 @@ use Rattle.verdicts.specs.Accepted.{Accepted}
 use Rattle.verdicts.specs.Tableau.{State, Copy, jobs, numbered, copy, Meets, Good, bare}
 use Rattle.verdicts.specs.Search.{free, equations, Clash, Refuted, RefutedBy}
 use Rattle.verdicts.specs.Words.{stateOf}
-use Rattle.plan.specs.Plan.{Plan, viewCount, askedSize, rowCount, rowAt, rowValues}
+use Rattle.joins.specs.Joins.{headRow}
+use Rattle.answers.specs.Answers.{WitnessAt}
+use Rattle.plan.specs.Plan.{Plan, viewCount, askedSize, rowCount, rowAt, rowValues, blockNumbers, blockSize, tableauSize, tableauFacts}
 use Rattle.state.specs.State.{made-up, Fresh, Equated}
 use Rattle.state.specs.Parts.{Own}
-use Rattle.views.specs.Views.{StrayAt, NoStray}
+use Rattle.views.specs.Views.{GivenAt, StrayAt, NoStray}
+use Rattle.reasons.specs.Reasons.{relaxed, Rests, Within, Marked, HeadMarked, Assigned, MarksAdded, MarksPut}
 
 -- a plan of an accepted sheet
 pub record Ready (p : List ℕ) (x : Sheet) : Type 0 where
@@ -37,6 +40,10 @@ sheetBy false x = bare x
 abbrev pub fromBy : Bool → List ℕ → ℕ
 fromBy true p = 0
 fromBy false p = askedSize p
+
+-- the facts of a state, in numbers
+abbrev pub numbersOf : Bool → List ℕ → State → List ℕ
+numbersOf asked p s = tableauFacts p s (fromBy asked p) (tableauSize p - fromBy asked p)
 
 -- each word is a constant, or the own made-up value of its slot
 pub record Proper (ws : List ℕ) : Type 0 where
@@ -60,34 +67,70 @@ pub record Fitting (x : Sheet) (u r : List ℕ) : Type 0 where
 abbrev pub Settled : Sheet → State → Type 0
 Settled y s = (c : Copy) → In c (numbered (jobs y)) → Meets (copy s (c .number)) (c .job)
 
--- a good state was found, and stands in the words; or nothing below the state is good, and the words are as they were
+-- a good state was found, and stands in the words
 pub record Found (x y : Sheet) (out : List ℕ) : Type 0 where
   pub good : Good y (stateOf top out)
   pub size : length out ≡ 533
   pub stood : Stood x out
 
-abbrev pub SoughtBy : Bool → Sheet → Sheet → List ℕ → List ℕ → Type 0
-SoughtBy true x y ws out = Found x y out
-SoughtBy false x y ws out = Refuted top y (stateOf top ws) × (out ≡ ws)
+-- the choices that bound slots are numbered below `next`
+pub record Levelled (ws lv : List ℕ) (next : ℕ) : Type 0 where
+  pub each : (n : ℕ) → stateOf top ws n < top → getD lv n 0 < next
 
--- a state that is neither good nor refuted yet: a stray row, which is none of its view's listed rows, and whose alternatives decide
-pub record Opened (p : List ℕ) (x y : Sheet) (ws : List ℕ) (view : ℕ) (u : List ℕ) : Type 0 where
+-- the bound slots belong to the same choices
+pub record SameLevels (ws lv lw : List ℕ) : Type 0 where
+  pub each : (n : ℕ) → stateOf top ws n < top → getD lw n 0 ≡ getD lv n 0
+
+-- nothing below the state is good, and that rests on the choices marked; the words are as they were
+pub record Lost (y : Sheet) (ws lv out lw : List ℕ) (marks : List Bool) : Type 0 where
+  pub rests : Rests y ws lv marks
+  pub kept : out ≡ ws
+  pub levels : SameLevels ws lv lw
+
+abbrev pub SoughtBy : Bool → Sheet → Sheet → List ℕ → List ℕ → List ℕ → List ℕ → List Bool → Type 0
+SoughtBy true x y ws lv out lw marks = Found x y out
+SoughtBy false x y ws lv out lw marks = Lost y ws lv out lw marks
+
+-- a state that is neither good nor refuted yet: a stray row, which is none of its view's listed rows, and whose alternatives decide, whatever
+-- the choices that are not marked
+pub record Opened (p : List ℕ) (x y : Sheet) (ws lv : List ℕ) (marks : List Bool) (view : ℕ) (u : List ℕ) : Type 0 where
   pub fresh : Fresh ws u
   pub fits : (i : ℕ) → i < rowCount p → rowAt p i 0 ≡ view → Fitting x u (rowValues p i)
   pub other : (i : ℕ) → i < rowCount p → rowAt p i 0 ≡ view → u ≡ rowValues p i → ⊥
-  pub refuted : ((i : ℕ) → i < rowCount p → rowAt p i 0 ≡ view → RefutedBy top y (stateOf top ws) (equations u (rowValues p i))) → Refuted top y (stateOf top ws)
+  pub refuted : (s : List Bool) → Within marks s → ((i : ℕ) → i < rowCount p → rowAt p i 0 ≡ view → RefutedBy top y (relaxed ws lv s) (equations u (rowValues p i))) → Rests y ws lv s
 
 -- what a state is found to be: done and good, done and refuted, or open
-abbrev pub NodeBy : Bool → Bool → List ℕ → Sheet → Sheet → List ℕ → ℕ → List ℕ → Type 0
-NodeBy true true p x y ws view u = Settled y (stateOf top ws) → Good y (stateOf top ws)
-NodeBy true false p x y ws view u = Refuted top y (stateOf top ws)
-NodeBy false good p x y ws view u = Opened p x y ws view u
+abbrev pub NodeBy : Bool → Bool → List ℕ → Sheet → Sheet → List ℕ → List ℕ → List Bool → ℕ → List ℕ → Type 0
+NodeBy true true p x y ws lv marks view u = Settled y (stateOf top ws) → Good y (stateOf top ws)
+NodeBy true false p x y ws lv marks view u = Rests y ws lv marks
+NodeBy false good p x y ws lv marks view u = Opened p x y ws lv marks view u
 
--- what stray rows alone say: one, or none
-abbrev pub ByStrays : Bool → Bool → List ℕ → List ℕ → ℕ → List ℕ → Type 0
-ByStrays true true p ns view u = NoStray p ns
-ByStrays true false p ns view u = ⊥
-ByStrays false good p ns view u = StrayAt p ns view u
+-- block b is given a row by facts whose choices are marked
+pub record GivenBy (p ns ws lv : List ℕ) (from : ℕ) (marks : List Bool) (b : ℕ) (u : List ℕ) : Type 0 where
+  pub at : List ℕ
+  pub witness : WitnessAt (blockNumbers p b) (min (blockSize p b) 6) ns u at
+  pub old : List Bool
+  pub marked : Marked p ws lv from at (min (blockSize p b) 6) old marks
+
+-- the question's head
+abbrev pub askedRow : List ℕ → List ℕ → List ℕ
+askedRow p ws = headRow (λ z. stateOf top ws (0 * 13 + z)) (blockNumbers p 0)
+
+-- the list is given the question's head, and the choices of the facts and of the head are marked
+pub record Shut (p ns ws lv : List ℕ) (marks : List Bool) : Type 0 where
+  pub mid : List Bool
+  pub given : GivenBy p ns ws lv 0 mid 1 (askedRow p ws)
+  pub head : HeadMarked p ws lv 4 mid marks
+
+abbrev pub ShutBy : Bool → List ℕ → List ℕ → List ℕ → List ℕ → List Bool → Type 0
+ShutBy true p ns ws lv marks = Shut p ns ws lv marks
+ShutBy false p ns ws lv marks = GivenAt p 1 ns (askedRow p ws) → ⊥
+
+-- what stray rows alone say: one, whose facts' choices are marked, or none
+abbrev pub ByStrays : Bool → Bool → List ℕ → List ℕ → List ℕ → List ℕ → ℕ → List Bool → ℕ → List ℕ → Type 0
+ByStrays true true p ns ws lv from marks view u = NoStray p ns
+ByStrays true false p ns ws lv from marks view u = ⊥
+ByStrays false good p ns ws lv from marks view u = StrayAt p ns view u × GivenBy p ns ws lv from marks (2 + view) u
 
 -- a listed row was taken for a stray row of a view: the row is the view's, and the values of u were made its own; or it cannot be
 pub record Taken (p : List ℕ) (view i : ℕ) (ws out u : List ℕ) : Type 0 where
@@ -103,9 +146,26 @@ abbrev pub TakenBy : Bool → List ℕ → ℕ → ℕ → List ℕ → List ℕ
 TakenBy true p view i ws out u = Taken p view i ws out u
 TakenBy false p view i ws out u = Passed p view i ws out u
 
--- the first n rows of the view are refuted as what the stray row u becomes
-pub record Tried (p : List ℕ) (y : Sheet) (ws : List ℕ) (view : ℕ) (u : List ℕ) (n : ℕ) : Type 0 where
-  pub each : (i : ℕ) → i < n → rowAt p i 0 ≡ view → RefutedBy top y (stateOf top ws) (equations u (rowValues p i))
+-- the slots of a row that was taken belong to choice b
+abbrev pub GivenTo : Bool → List ℕ → List ℕ → List ℕ → ℕ → Type 0
+GivenTo true lv lw u b = Assigned lv lw u b
+GivenTo false lv lw u b = lw ≡ lv
+
+-- a failure below does not rest on choice b, and its marks stand for the state above; or they are added, but for those of the next choice
+abbrev pub JumpsBy : Bool → List Bool → List Bool → ℕ → ℕ → List Bool → Type 0
+JumpsBy true old below b next marks = (getD below b true ≡ false) × MarksPut old below marks
+JumpsBy false old below b next marks = MarksAdded old below next marks
+
+-- the first n rows of the view are refuted as what the stray row u becomes, whatever the choices that are not marked
+pub record Tried (p : List ℕ) (y : Sheet) (ws lv : List ℕ) (marks : List Bool) (view : ℕ) (u : List ℕ) (n : ℕ) : Type 0 where
+  pub each : (s : List Bool) → Within marks s → (i : ℕ) → i < n → rowAt p i 0 ≡ view → RefutedBy top y (relaxed ws lv s) (equations u (rowValues p i))
+
+-- where a search stands with a stray row: the words as they were, and the first n rows tried
+pub record Going (p : List ℕ) (x y : Sheet) (ws lv st lw : List ℕ) (marks : List Bool) (view : ℕ) (u : List ℕ) (n : ℕ) : Type 0 where
+  pub same : st ≡ ws
+  pub levels : SameLevels ws lv lw
+  pub opened : Opened p x y ws lv marks view u
+  pub tried : Tried p y ws lv marks view u n
 
 -- a state from which a search may go on: proper, settled, with fewer made-up values than choices left
 pub record Begins (x y : Sheet) (ws : List ℕ) (left : ℕ) : Type 0 where

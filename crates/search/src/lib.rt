@@ -1,20 +1,19 @@
 // The search for a case.
 ghost use mathlib.Core.Path.{_≡_};
 ghost use mathlib.Core.Bool.{Bool, true, false};
-ghost use Prim.Native.Nat.{ℕ, _+_, _*_, _-_, _≤_, _<_};
+ghost use Prim.Native.Nat.{ℕ, _+_, _*_, _/_, _-_, _≤_, _<_};
 ghost use lib.ListN.{length, getD, take};
 ghost use Rattle.joins.specs.Joins.{valueOf, headRow};
 ghost use Rattle.verdicts.specs.Sheets.{top};
 ghost use Rattle.verdicts.specs.Search.{free};
 ghost use Rattle.verdicts.specs.Words.{stateOf};
-ghost use Rattle.plan.specs.Plan.{blockNumbers, rowAt, rowValues, rowCount};
+ghost use Rattle.plan.specs.Plan.{blockNumbers, rowAt, rowValues, rowCount, viewCount};
 ghost use Rattle.state.specs.State.{Fresh, Constants};
 ghost use Rattle.state.specs.Parts.{Own};
+ghost use Rattle.views.specs.Views.{GivenAt};
 ghost use Rattle.views.specs.Walks as walks;
-ghost use Rattle.search.specs.Parts.{Ready, Proper, sheetBy, fromBy, NodeBy, ByStrays, TakenBy, Begins, SoughtBy, Counted, Heads, HeadsBy, FoundBy};
+ghost use Rattle.search.specs.Parts.{Ready, Proper, sheetBy, fromBy, numbersOf, NodeBy, GivenBy, ShutBy, ByStrays, TakenBy, GivenTo, JumpsBy, Begins, Levelled, SoughtBy, Counted, Heads, HeadsBy, FoundBy};
 ghost use Rattle.verdicts.specs.Verdict.{Sheet};
-ghost use Rattle.verdicts.specs.Tableau.{logOf};
-ghost use Rattle.numbers.specs.Numbers.{FactNumbers};
 
 // The places of a plan's parts.
 const ROWS: usize = 630;
@@ -41,6 +40,12 @@ const MOST_VIEWS: usize = 8;
 
 // A search goes no deeper than there are slots.
 const DEPTH: usize = 534;
+
+// So many choices are told apart: 0 is for what is settled first, and the later ones share numbers.
+const CHOICES: usize = 64;
+
+// Where the sizes of the blocks stand.
+const SIZES: usize = 1170;
 
 // Column c of the head of block b, under the valuation of copy k.
 fn head_value(p: &[usize; 1184], st: &[usize], b: usize, k: usize, c: usize) -> usize
@@ -84,69 +89,117 @@ fn row_of(p: &[usize; 1184], i: usize) -> [usize; 4]
     [p[at + 1], p[at + 2], p[at + 3], p[at + 4]]
 }
 
-// What a state is found to be: done and good, done and refuted, or open, with a stray row of a view.
+// What a state is found to be: done and good, done and refuted, or open, with a stray row of a view and how many listed rows fit it.
 struct Finding {
     done: bool,
     good: bool,
     view: usize,
     values: [usize; 4],
+    fit: usize,
 }
 
-// A state that is refuted.
-fn refuted() -> Finding
-    ensures { λ r. ⌜ (r .done ≡ true) × (r .good ≡ false) ⌝ }
+// A state that is done.
+fn ended(good: bool) -> Finding
+    ensures { λ r. ⌜ (r .done ≡ true) × (r .good ≡ good) ⌝ }
 {
     Finding {
         done: true,
-        good: false,
+        good,
         view: 0,
         values: [0; 4],
+        fit: 0,
     }
 }
 
-// What stray rows say of a state.
-fn by_strays(p: &[usize; 1184], facts: &[usize]) -> Finding
-    ensures { λ r. ⌜ (walks.Ready (now (p .entry)) → ByStrays (r .done) (r .good) (now (p .entry)) (now (facts .entry)) (r .view) (r .values)) ⌝ }
+// Marks the choices of facts by which block b is given a row.
+fn mark_given(
+    p: &[usize; 1184],
+    st: &[usize],
+    lv: &[usize],
+    from: usize,
+    b: usize,
+    facts: &[usize],
+    row: [usize; 4],
+    marks: &mut [bool],
+)
+    requires { ⌜ (length (now st) ≡ 533) × (length (now lv) ≡ 533) × (b < 10) ⌝ }
+    ensures { λ r. ⌜ (walks.Ready (now (p .entry)) → b < 2 + viewCount (now (p .entry)) → from + length (now (facts .entry)) / 5 ≤ 126 → GivenAt (now (p .entry)) b (now (facts .entry)) row → GivenBy (now (p .entry)) (now (facts .entry)) (now (st .entry)) (now (lv .entry)) from (now (marks .exit)) b row) ⌝ }
+{
+    let at = views::witness(p, b, facts, row);
+    reasons::mark_facts(p, st, lv, from, at, p[SIZES + b], marks);
+}
+
+// What stray rows say of a state; of one, the choices are marked.
+fn by_strays(
+    p: &[usize; 1184],
+    st: &[usize],
+    lv: &[usize],
+    from: usize,
+    facts: &[usize],
+    marks: &mut [bool],
+) -> Finding
+    requires { ⌜ (length (now st) ≡ 533) × (length (now lv) ≡ 533) ⌝ }
+    ensures { λ r. ⌜ (walks.Ready (now (p .entry)) → from + length (now (facts .entry)) / 5 ≤ 126 → ByStrays (r .done) (r .good) (now (p .entry)) (now (facts .entry)) (now (st .entry)) (now (lv .entry)) from (now (marks .exit)) (r .view) (r .values)) ⌝ }
 {
     let s = views::stray(p, facts);
-    if s.some {
-        let values = s.values;
-        return Finding {
-            done: false,
-            good: false,
-            view: s.view,
-            values: values,
-        };
+    if !s.some {
+        return ended(true);
     }
+    let view = s.view;
+    let values = s.values;
+    if MOST_VIEWS <= view {
+        return ended(false);
+    }
+    mark_given(p, st, lv, from, 2 + view, facts, values, marks);
     Finding {
-        done: true,
-        good: true,
-        view: 0,
-        values: [0; 4],
+        done: false,
+        good: false,
+        view,
+        values,
+        fit: s.fit,
     }
 }
 
-// Whether the list is given the question's head.
-fn is_shut(p: &[usize; 1184], st: &[usize], facts: &[usize]) -> bool
-    requires { ⌜ length (now st) ≡ 533 ⌝ }
-    ensures { λ r. ⌜ (walks.Ready (now (p .entry)) → walks.GivesAtBy r (now (p .entry)) 1 (now (facts .entry)) (headRow (λ x. stateOf top (now (st .entry)) (0 * 13 + x)) (blockNumbers (now (p .entry)) 0))) ⌝ }
+// Whether the list is given the question's head; if so, the choices of that are marked.
+fn is_shut(
+    p: &[usize; 1184],
+    st: &[usize],
+    lv: &[usize],
+    facts: &[usize],
+    marks: &mut [bool],
+) -> bool
+    requires { ⌜ (length (now st) ≡ 533) × (length (now lv) ≡ 533) ⌝ }
+    ensures { λ r. ⌜ (walks.Ready (now (p .entry)) → length (now (facts .entry)) / 5 ≤ 126 → ShutBy r (now (p .entry)) (now (facts .entry)) (now (st .entry)) (now (lv .entry)) (now (marks .exit))) ⌝ }
 {
     let row = head_of(p, st, 0, 0);
-    views::list_gives(p, facts, row)
+    if !views::list_gives(p, facts, row) {
+        return false;
+    }
+    mark_given(p, st, lv, 0, 1, facts, row, marks);
+    reasons::mark_head(p, st, lv, marks);
+    true
 }
 
 // What a state is found to be by its facts, with the question or without.
-fn by_facts(p: &[usize; 1184], st: &[usize], asked: bool, facts: &[usize]) -> Finding
-    requires { ⌜ length (now st) ≡ 533 ⌝ }
-    ensures { λ r. ⌜ ((x : Sheet) → Ready (now (p .entry)) x → Proper (now (st .entry)) → FactNumbers (now (facts .entry)) (logOf (sheetBy asked x) (stateOf top (now (st .entry)))) → NodeBy (r .done) (r .good) (now (p .entry)) x (sheetBy asked x) (now (st .entry)) (r .view) (r .values)) ⌝ }
+fn by_facts(
+    p: &[usize; 1184],
+    st: &[usize],
+    lv: &[usize],
+    asked: bool,
+    from: usize,
+    facts: &[usize],
+    marks: &mut [bool],
+) -> Finding
+    requires { ⌜ (length (now st) ≡ 533) × (length (now lv) ≡ 533) ⌝ }
+    ensures { λ r. ⌜ ((x : Sheet) → Ready (now (p .entry)) x → Proper (now (st .entry)) → from ≡ fromBy asked (now (p .entry)) → now (facts .entry) ≡ numbersOf asked (now (p .entry)) (stateOf top (now (st .entry))) → NodeBy (r .done) (r .good) (now (p .entry)) x (sheetBy asked x) (now (st .entry)) (now (lv .entry)) (now (marks .exit)) (r .view) (r .values)) ⌝ }
 {
     if !asked {
-        return by_strays(p, facts);
+        return by_strays(p, st, lv, from, facts, marks);
     }
-    if is_shut(p, st, facts) {
-        return refuted();
+    if is_shut(p, st, lv, facts, marks) {
+        return ended(false);
     }
-    by_strays(p, facts)
+    by_strays(p, st, lv, from, facts, marks)
 }
 
 // Where a state's facts start in the tableau.
@@ -159,18 +212,25 @@ fn start(p: &[usize; 1184], asked: bool) -> usize
     p[ASKED]
 }
 
-// What a state is found to be, with the question or without.
-fn judge_state(p: &[usize; 1184], st: &[usize], asked: bool) -> Finding
-    requires { ⌜ length (now st) ≡ 533 ⌝ }
-    ensures { λ r. ⌜ ((x : Sheet) → Ready (now (p .entry)) x → Proper (now (st .entry)) → NodeBy (r .done) (r .good) (now (p .entry)) x (sheetBy asked x) (now (st .entry)) (r .view) (r .values)) ⌝ }
+// What a state is found to be, with the question or without. The choices that this rests on are marked.
+fn judge_state(
+    p: &[usize; 1184],
+    st: &[usize; 533],
+    lv: &[usize; 533],
+    asked: bool,
+    marks: &mut [bool; 64],
+) -> Finding
+    requires { ⌜ (length (now st) ≡ 533) × (length (now lv) ≡ 533) ⌝ }
+    ensures { λ r. ⌜ ((x : Sheet) → Ready (now (p .entry)) x → Proper (now (st .entry)) → NodeBy (r .done) (r .good) (now (p .entry)) x (sheetBy asked x) (now (st .entry)) (now (lv .entry)) (now (marks .exit)) (r .view) (r .values)) ⌝ }
 {
+    reasons::clear(marks);
     let mut room = [0; 630];
     let from = start(p, asked);
     let n = state::facts(p, st, from, &mut room);
     if MOST_FACTS < n {
-        return refuted();
+        return ended(false);
     }
-    by_facts(p, st, asked, &room[..n * 5])
+    by_facts(p, st, lv, asked, from, &room[..n * 5], marks)
 }
 
 // How many rows are listed.
@@ -184,45 +244,117 @@ fn row_count(p: &[usize; 1184]) -> usize
     n
 }
 
-// Takes listed row i for the stray row u of a view, if it is a row of the view and u can become it.
-fn take(p: &[usize; 1184], st: &mut [usize], view: usize, u: [usize; 4], i: usize) -> bool
-    requires { ⌜ i < 40 ⌝ }
-    ensures { λ r. ⌜ (Own (now (st .entry)) → Fresh (now (st .entry)) u → Constants (rowValues (now (p .entry)) i) → TakenBy r (now (p .entry)) view i (now (st .entry)) (now (st .exit)) u) ⌝ }
+// Makes the stray row u of a view listed row i, if it is a row of the view and u can become it.
+fn become_row(p: &[usize; 1184], st: &mut [usize], view: usize, u: &[usize; 4], i: usize) -> bool
+    requires { ⌜ (i < 40) × (length (now u) ≡ 4) ⌝ }
+    ensures { λ r. ⌜ (Own (now (st .entry)) → Fresh (now (st .entry)) (now (u .entry)) → Constants (rowValues (now (p .entry)) i) → TakenBy r (now (p .entry)) view i (now (st .entry)) (now (st .exit)) (now (u .entry))) ⌝ }
 {
     if view_of(p, i) != view {
         return false;
     }
     let row = row_of(p, i);
-    state::equate(st, u, row)
+    state::equate(st, u, &row)
 }
 
-// Looks below a settled state for a good one, at most so many choices deep. True: it stands in the words. False: there is none, and the words are
-// as they were.
-fn seek(p: &[usize; 1184], st: &mut [usize], asked: bool, left: usize) -> bool
-    requires { ⌜ length (now st) ≡ 533 ⌝ }
-    ensures { λ r. ⌜ ((x : Sheet) → Ready (now (p .entry)) x → Begins x (sheetBy asked x) (now (st .entry)) left → SoughtBy r x (sheetBy asked x) (now (st .entry)) (now (st .exit))) ⌝ }
+// Takes listed row i for the stray row u of a view, if it can; the slots bound so belong to choice b.
+fn take(
+    p: &[usize; 1184],
+    st: &mut [usize; 533],
+    lv: &mut [usize; 533],
+    view: usize,
+    u: &[usize; 4],
+    i: usize,
+    b: usize,
+) -> bool
+    requires { ⌜ (i < 40) × (length (now u) ≡ 4) ⌝ }
+    ensures { λ r. ⌜ (Own (now (st .entry)) → Fresh (now (st .entry)) (now (u .entry)) → Constants (rowValues (now (p .entry)) i) → TakenBy r (now (p .entry)) view i (now (st .entry)) (now (st .exit)) (now (u .entry))) ⌝ }
+    ensures { λ r. ⌜ GivenTo r (now (lv .entry)) (now (lv .exit)) (now (u .entry)) b ⌝ }
+    ensures { λ r. ⌜ (length (now (st .exit)) ≡ length (now (st .entry))) × (length (now (lv .exit)) ≡ length (now (lv .entry))) ⌝ }
+{
+    if !become_row(p, st, view, u, i) {
+        return false;
+    }
+    reasons::assign(lv, u, b);
+    true
+}
+
+// What a failure below choice b says of the state above it: that it fails too, or what the other rows' failures are added to.
+fn jumps(marks: &mut [bool; 64], below: &[bool; 64], b: usize, next: usize) -> bool
+    ensures { λ r. ⌜ JumpsBy r (now (marks .entry)) (now (below .entry)) b next (now (marks .exit)) ⌝ }
+{
+    if reasons::is_marked(below, b) {
+        reasons::add(marks, below, next);
+        return false;
+    }
+    reasons::put(marks, below);
+    true
+}
+
+// The number of the choice that takes a row for a stray row: its own where several rows fit and there is one left, else the last one that the
+// stray row rests on.
+fn choice(fit: usize, next: usize, marks: &[bool]) -> usize
+    requires { ⌜ (0 < next) × (next ≤ 64) ⌝ }
+    ensures { λ r. ⌜ r < 64 ⌝ }
+{
+    if 1 < fit {
+        if next < CHOICES {
+            return next;
+        }
+    }
+    reasons::last(marks, next)
+}
+
+// The next number for a choice below one.
+fn following(b: usize, next: usize) -> usize
+    requires { ⌜ (b < 64) × (next ≤ 64) ⌝ }
+    ensures { λ r. ⌜ (b < r) × (next ≤ r) × (r ≤ 64) ⌝ }
+{
+    if b < next {
+        return next;
+    }
+    b + 1
+}
+
+// Looks below a settled state for a good one, at most so many choices deep. True: it stands in the words. False: there is none, the words are
+// as they were, and the choices that this rests on are marked.
+fn seek(
+    p: &[usize; 1184],
+    st: &mut [usize; 533],
+    lv: &mut [usize; 533],
+    asked: bool,
+    next: usize,
+    left: usize,
+    marks: &mut [bool; 64],
+) -> bool
+    requires { ⌜ (length (now st) ≡ 533) × (length (now lv) ≡ 533) × (0 < next) × (next ≤ 64) ⌝ }
+    ensures { λ r. ⌜ ((x : Sheet) → Ready (now (p .entry)) x → Begins x (sheetBy asked x) (now (st .entry)) left → Levelled (now (st .entry)) (now (lv .entry)) next → SoughtBy r x (sheetBy asked x) (now (st .entry)) (now (lv .entry)) (now (st .exit)) (now (lv .exit)) (now (marks .exit))) ⌝ }
+    ensures { λ r. ⌜ (length (now (st .exit)) ≡ length (now (st .entry))) × (length (now (lv .exit)) ≡ length (now (lv .entry))) ⌝ }
 {
     if left == 0 {
         return false;
     }
-    let f = judge_state(p, st, asked);
+    let f = judge_state(p, st, lv, asked, marks);
     if f.done {
         return f.good;
     }
-    let view = f.view;
-    let u = f.values;
+    let b = choice(f.fit, next, marks);
+    let deeper = following(b, next);
     let rows = row_count(p);
+    let mut below = [false; CHOICES];
     let mut i = 0;
     while i < rows {
         let k = i;
         i += 1;
-        if !take(p, st, view, u, k) {
+        if !take(p, st, lv, f.view, &f.values, k, b) {
             continue;
         }
-        if seek(p, st, asked, left - 1) {
+        if seek(p, st, lv, asked, deeper, left - 1, &mut below) {
             return true;
         }
-        state::release(st, u);
+        state::release(st, &f.values);
+        if jumps(marks, &below, b, next) {
+            return false;
+        }
     }
     false
 }
@@ -238,7 +370,7 @@ fn settle_row(p: &[usize; 1184], st: &mut [usize], i: usize) -> bool
     }
     let u = head_of(p, st, 2 + v, i + 1);
     let row = row_of(p, i);
-    state::equate(st, u, row)
+    state::equate(st, &u, &row)
 }
 
 // Makes the head of each listed row's copy the row. False where that cannot be.
@@ -274,6 +406,8 @@ pub fn find(p: &[usize; 1184], asked: bool) -> Outcome
             words,
         };
     }
-    let found = seek(p, &mut words, asked, DEPTH);
+    let mut levels = [0; 533];
+    let mut marks = [false; CHOICES];
+    let found = seek(p, &mut words, &mut levels, asked, 1, DEPTH, &mut marks);
     Outcome { found, words }
 }

@@ -54,8 +54,8 @@ fn free_slot(st: &mut [usize], v: usize)
 }
 
 // Gives the slots of the made-up values of u their own values back.
-pub fn release(st: &mut [usize], u: [usize; 4])
-    ensures { λ x. ⌜ ((ws : List ℕ) → Fresh ws u → length ws ≡ length (now (st .entry)) → ((n : ℕ) → (In (top + n) u → ⊥) → getD (now (st .entry)) n 0 ≡ getD ws n 0) → now (st .exit) ≡ ws) ⌝ }
+pub fn release(st: &mut [usize], u: &[usize; 4])
+    ensures { λ x. ⌜ (length (now (u .entry)) ≡ 4 → (ws : List ℕ) → Fresh ws (now (u .entry)) → length ws ≡ length (now (st .entry)) → ((n : ℕ) → (In (top + n) (now (u .entry)) → ⊥) → getD (now (st .entry)) n 0 ≡ getD ws n 0) → now (st .exit) ≡ ws) ⌝ }
 {
     let mut c = 0;
     while c < COLUMNS {
@@ -90,8 +90,8 @@ fn join(st: &mut [usize], v: usize, w: usize) -> bool
 }
 
 // Makes the values of u those of r, from the last column on, as far as that can be.
-fn join_all(st: &mut [usize], u: [usize; 4], r: [usize; 4]) -> bool
-    ensures { λ b. ⌜ (Own (now (st .entry)) → Fresh (now (st .entry)) u → Constants r → MetBy b (now (st .entry)) (now (st .exit)) u r) ⌝ }
+fn join_all(st: &mut [usize], u: &[usize; 4], r: &[usize; 4]) -> bool
+    ensures { λ b. ⌜ (length (now (u .entry)) ≡ 4 → length (now (r .entry)) ≡ 4 → Own (now (st .entry)) → Fresh (now (st .entry)) (now (u .entry)) → Constants (now (r .entry)) → MetBy b (now (st .entry)) (now (st .exit)) (now (u .entry)) (now (r .entry))) ⌝ }
 {
     let mut c = COLUMNS;
     while 0 < c {
@@ -104,8 +104,8 @@ fn join_all(st: &mut [usize], u: [usize; 4], r: [usize; 4]) -> bool
 }
 
 // Makes the values of u those of r: made-up values are replaced. False, with nothing changed, where that cannot be.
-pub fn equate(st: &mut [usize], u: [usize; 4], r: [usize; 4]) -> bool
-    ensures { λ b. ⌜ (Own (now (st .entry)) → Fresh (now (st .entry)) u → Constants r → EquatedBy b (now (st .entry)) (now (st .exit)) u r × Own (now (st .exit))) ⌝ }
+pub fn equate(st: &mut [usize], u: &[usize; 4], r: &[usize; 4]) -> bool
+    ensures { λ b. ⌜ (length (now (u .entry)) ≡ 4 → length (now (r .entry)) ≡ 4 → Own (now (st .entry)) → Fresh (now (st .entry)) (now (u .entry)) → Constants (now (r .entry)) → EquatedBy b (now (st .entry)) (now (st .exit)) (now (u .entry)) (now (r .entry)) × Own (now (st .exit))) ⌝ }
 {
     if join_all(st, u, r) {
         return true;

@@ -47,14 +47,14 @@ same-length c = search needs
 
 returns-2 : tie.Need-returns-2
 returns-2 c = λ x r asked lt h.
-    let s = c .before .before .before .before .before .before .before .before .before .before in
-    let v = c .before .before .before .before .before .before .before .before .view-of .ensures in
-    let u = c .before .before .before .before .before .head-of in
-    let e = c .before .before .before .before .row-of .ensures in
+    let s = c .before .before .before .before .before .before .before .before .before .before .before .before in
+    let v = c .before .before .before .before .before .before .before .before .before .before .view-of .ensures in
+    let u = c .before .before .before .before .before .before .before .head-of in
+    let e = c .before .before .before .before .before .before .row-of .ensures in
     let q = c .before .before .equate in
     settled-by (s .args .p .now) x r asked (s .args .st .now) (s .args .i) lt h (q .result) (u .result) (q .last .0)
     (u .ensures ∙ head-numbers (s .args .p .now) x r asked (s .args .st .now) (s .args .i) lt h _ _ (omega arith) (ap (λ n. 2 + n) v))
-    (subst (λ w. Own (s .args .st .now) → Fresh (s .args .st .now) (u .result) → Constants w → EquatedBy (q .result) (s .args .st .now) (q .last .0) (u .result) w × Own (q .last .0)) e (q .ensures))
+    (subst (λ w. Own (s .args .st .now) → Fresh (s .args .st .now) (u .result) → Constants w → EquatedBy (q .result) (s .args .st .now) (q .last .0) (u .result) w × Own (q .last .0)) e (q .ensures (ap length (u .ensures)) (ap length e)))
 
 pub settle-row-spec : {M : Type 1} → statement M
 settle-row-spec =

@@ -1,50 +1,36 @@
-use mathlib.Core.Path.{_≡_, refl, sym, ap, _∙_, subst}
+use Rattle.search.specs.Parts.{TakenBy}
+use mathlib.Core.Path.{subst}
+use borrow.Author.Tests.{not-true, not-false}
+use mathlib.Core.Path.{_≡_, refl, sym, ap, _∙_}
 use mathlib.Core.Logic.{⊎-elim}
 use Prim.Native.Nat.{ℕ, _≤_, _<_, _-_, _%_, _+_, _*_}
 use native.Mathlib.Omega.{arith}
 use lib.ListN.{length, getD}
 use borrow.Author.Needs.{needs}
-use Rattle.search.proofs.Levels.{taken-by, passed-other}
-use Rattle.state.specs.State.{Constants, EquatedBy}
-use Rattle.state.specs.Parts.{Own}
 use Rattle.search.proofs.take.Statement.{statement}
 use Rattle.search.proofs.take.Tie as tie
 use Rattle.search.proofs.take.Reads as reads
 use Rattle.search.proofs.take.Lts as lts
-use Rattle.search.proofs.row_of.Reads as row-of-reads
-use Rattle.search.proofs.view_of.Reads as view-of-reads
-use Rattle.state.proofs.equate.Reads as equate-reads
+use Rattle.reasons.proofs.assign.Reads as assign-reads
+use Rattle.search.proofs.become_row.Reads as become-row-reads
 
--- src/lib.rt:188:8
-view-of-requires : tie.Need-view-of-requires
-view-of-requires c κs = search needs
+-- src/lib.rt:261:9
+become-row-requires : tie.Need-become-row-requires
+become-row-requires c κs = search needs
 
--- src/lib.rt:189:9
+-- src/lib.rt:262:9
 returns : tie.Need-returns
-returns c = λ own fresh cs. passed-other _ _ _ _ _ (λ e. c .if1 .taken (c .before .view-of .ensures ∙ e))
+returns c = let t = c .before .become-row in
+    (λ own fresh cs. subst (λ b. TakenBy b (c .before .before .before .args .p .now) (c .before .before .before .args .view) (c .before .before .before .args .i) (c .before .before .before .args .st .now) (t .last .1 .0) (c .before .before .before .args .u .now)) (not-true (t .result) (c .if1 .taken)) (t .ensures own fresh cs), (refl, (t .kept .1 .0, refl)))
 
--- src/lib.rt:191:9
-row-of-requires : tie.Need-row-of-requires
-row-of-requires c κs = search needs
+-- src/lib.rt:264:5
+assign-requires : tie.Need-assign-requires
+assign-requires c κs = search needs
 
--- src/lib.rt:192:5
-equate-requires : tie.Need-equate-requires
-equate-requires c κs = search needs
-
--- src/lib.rt:184:1
-same-length : tie.Need-same-length
-same-length c = search needs
-
--- src/lib.rt:184:1
+-- src/lib.rt:248:1
 returns-2 : tie.Need-returns-2
-returns-2 c = λ own fresh cs.
-    let s = c .before .before .before .before .before .before .before .before in
-    let e = c .before .before .before .before .row-of .ensures in
-    let q = c .before .before .equate in
-    taken-by (q .result) (s .args .p .now) (s .args .view) (s .args .i) (s .args .st .now) (q .last .0) (s .args .u) (sym (c .before .before .before .before .before .before .view-of .ensures) ∙ c .before .before .before .before .before .if1 .left)
-    (subst (λ w. EquatedBy (q .result) (s .args .st .now) (q .last .0) (s .args .u) w × Own (q .last .0)) e (q .ensures own fresh (subst Constants (sym e) cs)))
+returns-2 c = let t = c .before .before .before .become-row in
+    (λ own fresh cs. subst (λ b. TakenBy b (c .before .before .before .before .before .args .p .now) (c .before .before .before .before .before .args .view) (c .before .before .before .before .before .args .i) (c .before .before .before .before .before .args .st .now) (t .last .1 .0) (c .before .before .before .before .before .args .u .now)) (not-false (t .result) (c .before .before .if1 .left)) (t .ensures own fresh cs), (c .assign .ensures (c .before .before .before .before .before .pre .1), (t .kept .1 .0, c .assign .kept .0)))
 
 pub take-spec : {M : Type 1} → statement M
-take-spec =
-    tie.close
-    (tie.spec view-of-requires returns row-of-requires equate-requires same-length returns-2)
+take-spec = tie.close (tie.spec become-row-requires returns assign-requires returns-2)

@@ -18,7 +18,7 @@ returns : tie.Need-returns
 returns c =
     let j = c .before .before .before .join-all in
     let a = c .before .before .before .before .before .before .args in
-    λ o f k. subst (λ (b : Bool). MetBy b (a .st .now) (j .last .0) (a .u) (a .r)) (c .if1 .taken) (j .ensures o f k)
+    λ four also o f k. subst (λ (b : Bool). MetBy b (a .st .now) (j .last .0) (a .u .now) (a .r .now)) (c .if1 .taken) (j .ensures four also o f k)
 
 release-requires : tie.Need-release-requires
 release-requires c κs = search needs
@@ -31,9 +31,9 @@ returns-2 c =
     let d = c .before .before .before .before in
     let j = d .before .before .before .join-all in
     let a = d .before .before .before .before .before .before .args in
-    λ o f k.
-    let m = subst (λ (b : Bool). MetBy b (a .st .now) (j .last .0) (a .u) (a .r)) (d .if1 .left) (j .ensures o f k) in
-    let e = c .before .before .release .ensures (a .st .now) f (sym (m .1)) (m .2) in
+    λ four also o f k.
+    let m = subst (λ (b : Bool). MetBy b (a .st .now) (j .last .0) (a .u .now) (a .r .now)) (d .if1 .left) (j .ensures four also o f k) in
+    let e = c .before .before .release .ensures four (a .st .now) f (sym (m .1)) (m .2) in
     ((m .0, e), subst (λ (l : List ℕ). Own l) (sym e) o)
 
 pub equate-spec : {M : Type 1} → statement M

@@ -1,0 +1,358 @@
+//! One input of a call: made, given to the library and to this implementation, and compared.
+
+use crate::generate::{self, Known};
+use crate::library::{self, Lent};
+use crate::meaning::{self, Judgement};
+use crate::random::Random;
+use crate::sheet::{self, Taken};
+use crate::slips::{is, Slip};
+use std::time::{Duration, Instant};
+
+pub const CALLS: [&str; 5] = ["read", "write", "line", "evaluate", "judge"];
+
+/// What came of one input.
+pub struct Outcome {
+    /// What kind of input it was.
+    pub input: &'static str,
+    /// How the library answered.
+    pub result: String,
+    /// How the verdict was known here; nothing for the other calls.
+    pub known: &'static str,
+    /// What makes a verdict hard to come by without the rows or without values that are made up.
+    pub notes: Vec<&'static str>,
+    /// The input and both answers, where they differ or are asked for.
+    pub shown: Option<String>,
+    pub differs: bool,
+    pub took: Duration,
+}
+
+pub fn one(call: usize, seed: u64, index: u64, show: bool) -> Outcome {
+    let mut random = Random::new(seed, call as u64 + 1, index);
+    match call {
+        0 => read(&mut random, show),
+        1 => write(&mut random, show),
+        2 => line(&mut random, show),
+        3 => evaluate(&mut random, show),
+        _ => judge(&mut random, show),
+    }
+}
+
+/// A length to lend where `wanted` is asked for: mostly that, or one less, or more.
+fn lent(random: &mut Random, wanted: usize) -> usize {
+    match random.below(20) {
+        0 => wanted.saturating_sub(1),
+        1 => 0,
+        2 => random.below(wanted + 1),
+        3..=6 => wanted + random.below(60),
+        7 => wanted + 1,
+        _ => wanted,
+    }
+}
+
+fn word(drawn: u64) -> i32 {
+    drawn as i32
+}
+
+fn byte(drawn: u64) -> u8 {
+    drawn as u8
+}
+
+fn named(number: usize) -> String {
+    if number == 0 {
+        "done".into()
+    } else {
+        format!("refused by {number}")
+    }
+}
+
+/// Compares how a call ended and what it left in what was lent. Each of the counted is `per` elements.
+fn ended<T: Copy + PartialEq + std::fmt::Debug>(
+    input: (&'static str, &dyn Fn() -> String),
+    told: library::Ended,
+    out: &Lent<T>,
+    ours: Taken<Vec<T>>,
+    per: usize,
+    show: bool,
+) -> Outcome {
+    let (number, line, front) = match ours {
+        Ok(front) => (0, 0, front),
+        Err(refusal) => (refusal.number, refusal.line, vec![]),
+    };
+    let per = if is(Slip::LinesCountedAsBytes) { 9 } else { per };
+    let same = (told.number, told.line, told.count) == (number, line, front.len() / per) && out.is(&front);
+    let text = || {
+        format!(
+            "{}\nlent {}\nlibrary: number {} line {} count {}{}\nhere:    number {number} line {line} count {}",
+            input.1(),
+            out.length(),
+            told.number,
+            told.line,
+            told.count,
+            if out.is(&front) { "" } else { ", what was lent is not as expected" },
+            front.len() / per,
+        ) + &if out.is(&front) { String::new() } else { format!("\nlent afterwards {:?}\nexpected front {front:?}", out.after()) }
+    };
+    Outcome {
+        input: input.0,
+        result: named(told.number),
+        known: "",
+        notes: vec![],
+        shown: (show || !same).then(text),
+        differs: !same,
+        took: Duration::ZERO,
+    }
+}
+
+fn read(random: &mut Random, show: bool) -> Outcome {
+    let (name, bytes) = generate::sheet(random);
+    let mut out = Lent::new(lent(random, 602), random, word);
+    let told = library::read(&bytes, &mut out);
+    let ours = sheet::read(&bytes, out.length());
+    ended((name, &|| format!("sheet b\"{}\"", bytes.escape_ascii())), told, &out, ours, 7, show)
+}
+
+fn write(random: &mut Random, show: bool) -> Outcome {
+    let (name, words) = generate::form(random);
+    let mut out = Lent::new(lent(random, 4214), random, byte);
+    let told = library::write(&words, &mut out);
+    let ours = sheet::write(&words, out.length());
+    ended((name, &|| format!("words {words:?}")), told, &out, ours, 1, show)
+}
+
+fn line(random: &mut Random, show: bool) -> Outcome {
+    let (name, bytes) = match random.below(10) {
+        0..=4 => generate::sheet(random),
+        5..=8 => ("random bytes", generate::random_bytes(random, 400)),
+        _ => ("more bytes than a sheet's", generate::random_bytes(random, 9_000)),
+    };
+    let closed = bytes.iter().filter(|b| **b == 10).count();
+    let number = match random.below(12) {
+        0 => 0,
+        1 => closed + 1,
+        2 => closed + 2,
+        3 => closed,
+        4 => random.pick(&[usize::MAX, 1 << 32, 1 << 63, 87]),
+        _ => random.between(1, closed.max(1)),
+    };
+    let told = library::line(&bytes, number);
+    let ours = sheet::line(&bytes, number);
+    let same = told == ours;
+    let text = || format!("line {number} of b\"{}\"\nlibrary: {told:?}\nhere:    {ours:?}", bytes.escape_ascii());
+    let result = match told {
+        (0, 0) if number == 0 || number > closed => "no such line",
+        (_, 0) => "an empty line",
+        _ => "a line",
+    };
+    Outcome {
+        input: name,
+        result: result.into(),
+        known: "",
+        notes: vec![],
+        shown: (show || !same).then(text),
+        differs: !same,
+        took: Duration::ZERO,
+    }
+}
+
+fn evaluate(random: &mut Random, show: bool) -> Outcome {
+    let (name, bytes, block, facts) = generate::evaluation(random);
+    let wanted = meaning::evaluate(&bytes, block, &facts, usize::MAX).map_or(4, |found| found.len());
+    let mut out = Lent::new(lent(random, wanted), random, word);
+    let told = library::evaluate(&bytes, block, &facts, &mut out);
+    let ours = meaning::evaluate(&bytes, block, &facts, out.length());
+    let text = || format!("sheet b\"{}\"\nblock {block}\nfacts {facts:?}", bytes.escape_ascii());
+    let mut outcome = ended((name, &text), told, &out, ours, 4, show);
+    if outcome.result == "done" {
+        outcome.result = if wanted == 0 { "done, no answer".into() } else { "done, answers".into() };
+    }
+    outcome
+}
+
+/// A sheet to judge, how its verdict is known, and the log that it is known by.
+fn to_judge(random: &mut Random, lent: usize) -> (&'static str, Vec<u8>, Known, Vec<meaning::Fact>) {
+    if random.percent(25) {
+        let (name, bytes) = generate::sheet(random);
+        if lent < 640 || sheet::of_bytes(&bytes).is_err() {
+            return (name, bytes, Known::Searched, vec![]);
+        }
+    }
+    match random.below(100) {
+        0..=7 => {
+            let (lines, log) = generate::pinned(random);
+            ("all relations listed whole", sheet::bytes_of(&lines), Known::Pinned, log)
+        }
+        8..=11 => {
+            let (lines, log) = generate::planted(random);
+            let case = generate::taken(&lines).is_some_and(|s| meaning::is_case(&s, &log));
+            ("rows of a log", sheet::bytes_of(&lines), Known::Planted(case), log)
+        }
+        12..=17 => {
+            let mut lines = generate::small(random);
+            generate::damage_lines(random, &mut lines);
+            match generate::taken(&lines) {
+                Some(s) if meaning::cost(&s) > 60_000 && !generate::deep() => {
+                    ("small", sheet::bytes_of(&generate::small(random)), Known::Searched, vec![])
+                }
+                _ => ("small, damaged", sheet::bytes_of(&lines), Known::Searched, vec![]),
+            }
+        }
+        _ => ("small", sheet::bytes_of(&generate::small(random)), Known::Searched, vec![]),
+    }
+}
+
+/// The verdicts that are right here, and how they are known.
+fn verdicts(sheet: &sheet::Sheet, known: Known, log: &[meaning::Fact]) -> Result<(Vec<usize>, &'static str), String> {
+    match known {
+        Known::Pinned if !meaning::agrees(sheet, log) => Ok((vec![2], "by the only log")),
+        Known::Pinned => Ok((vec![!meaning::missing(sheet, log).is_empty() as usize], "by the only log")),
+        Known::Planted(true) => Ok((vec![1], "by a planted case")),
+        Known::Planted(false) => match meaning::verdict(sheet, true, if generate::deep() { 300_000 } else { 3_000 }) {
+            Some(2) => Err("no log here, where a log agrees".into()),
+            Some(verdict) => Ok((vec![verdict], "by valuations, cut")),
+            None => Ok((vec![0, 1], "only that a log agrees")),
+        },
+        Known::Searched => {
+            let cost = meaning::cost(sheet);
+            if cost > 400 {
+                let found = meaning::verdict(sheet, true, 3_000_000);
+                return Ok(found.map_or((vec![0, 1, 2], "not known"), |v| (vec![v], "by valuations, cut")));
+            }
+            // Small enough for more ways, which have to agree.
+            let plain = meaning::verdict(sheet, false, u64::MAX).unwrap();
+            let cut = meaning::verdict(sheet, true, u64::MAX).unwrap();
+            let all = meaning::verdict_of_all_logs(sheet, 10);
+            if plain != cut || all.is_some_and(|v| v != plain) {
+                return Err(format!("the ways here differ: {plain} by valuations, {cut} with cuts, {all:?} by all logs"));
+            }
+            Ok((vec![plain], if all.is_some() { "by all logs and all valuations" } else { "by all valuations" }))
+        }
+    }
+}
+
+fn judge(random: &mut Random, show: bool) -> Outcome {
+    let length = if random.percent(50) { 640 } else { lent(random, 640) };
+    let (name, bytes, known, log) = to_judge(random, length);
+    let mut out = Lent::new(length, random, word);
+    let start = Instant::now();
+    let told = library::judge(&bytes, &mut out);
+    let took = start.elapsed();
+    let (mut how, mut notes) = ("", vec![]);
+    let found = check_judgement(&bytes, &told, &out, |taken| {
+        let (right, way) = verdicts(taken, known, &log)?;
+        how = way;
+        let without = meaning::verdict(&sheet::Sheet { blocks: taken.blocks[..2].to_vec() }, true, 3_000_000);
+        if told.verdict == 0 && without == Some(1) {
+            notes.push("0 that is 1 without the views");
+        }
+        if told.verdict == 1 && out.after().chunks(5).take(told.count).any(|f| f[1..].iter().any(|v| *v > 999_999)) {
+            notes.push("1 with values that are made up");
+        }
+        if told.verdict == 1 && taken.views().iter().any(|v| !v.rows.is_empty()) {
+            notes.push("1 with listed rows");
+        }
+        Ok(right)
+    });
+    let text = || {
+        let facts: Vec<&[i32]> = out.after().chunks(5).take(told.count.min(130)).collect();
+        let found = found.as_ref().err().map_or("the same", |e| e);
+        format!("sheet b\"{}\"\nlent {length}\nlibrary: {told:?}\nfacts {facts:?}\nfound: {found}", bytes.escape_ascii())
+    };
+    let result = if told.verdict == 9 { named(told.number) } else { format!("verdict {}", told.verdict) };
+    Outcome { input: name, result, known: how, notes, shown: (show || found.is_err()).then(text), differs: found.is_err(), took }
+}
+
+/// Whether a judgement of a sheet is right, with what it left in the lent words.
+fn check_judgement(
+    bytes: &[u8],
+    told: &Judgement,
+    out: &Lent<i32>,
+    mut right: impl FnMut(&sheet::Sheet) -> Result<Vec<usize>, String>,
+) -> Result<(), String> {
+    let taken = sheet::of_bytes(bytes).and_then(|(_, taken)| if out.length() < 640 { sheet::refuse(13, 0) } else { Ok(taken) });
+    let taken = match taken {
+        Err(refusal) if *told != Judgement::refused(refusal) => return Err(format!("expected {:?}", Judgement::refused(refusal))),
+        Err(_) if !out.is(&[]) => return Err("a refusal changed what was lent".into()),
+        Err(_) => return Ok(()),
+        Ok(taken) => taken,
+    };
+    let right = right(&taken)?;
+    if !right.contains(&told.verdict) {
+        return Err(format!("expected a verdict of {right:?}"));
+    }
+    if told.verdict == 1 {
+        meaning::check_case(&taken, told, out.after())?;
+        return if out.is(&out.after()[..told.count * 5]) { Ok(()) } else { Err("words behind the facts are changed".into()) };
+    }
+    if *told != Judgement::plain(told.verdict) {
+        return Err("numbers that should be 0".into());
+    }
+    if out.is(&[]) {
+        Ok(())
+    } else {
+        Err("lent words are changed".into())
+    }
+}
+
+pub const TAMPERINGS: [&str; 10] = [
+    "a fact dropped",
+    "a fact added",
+    "count one more",
+    "count one less",
+    "missing answer changed",
+    "two facts swapped",
+    "a fact doubled",
+    "a value that is not allowed",
+    "a word behind the facts",
+    "verdict kept with count and missing answer 0",
+];
+
+/// Spoils a right judgement of "not covered" in one way; whether that is found. Nothing where the input does not have that verdict.
+pub fn tampered(seed: u64, index: u64, way: usize) -> Option<bool> {
+    let mut random = Random::new(seed, 5, index);
+    let length = if random.percent(50) { 640 } else { lent(&mut random, 640) };
+    let (_, bytes, _, _) = to_judge(&mut random, length);
+    let mut out = Lent::new(length, &mut random, word);
+    let mut told = library::judge(&bytes, &mut out);
+    if told.verdict != 1 || told.count < 2 || told.count > 120 {
+        return None;
+    }
+    let mut words = out.after()[..told.count * 5].to_vec();
+    let at = random.below(told.count) * 5;
+    match way {
+        0 => {
+            words.drain(at..at + 5);
+            told.count -= 1;
+        }
+        1 => {
+            let mut facts: Vec<Vec<i32>> = words.chunks(5).map(|f| f.to_vec()).collect();
+            facts.push(vec![random.pick(&[2, 10]), 1_000_777, 0, 0, 0]);
+            facts.sort();
+            words = facts.concat();
+            told.count += 1;
+        }
+        2 => told.count += 1,
+        3 => told.count -= 1,
+        4 => told.missing[random.below(4)] += 1,
+        5 => {
+            let other = (at + 5) % words.len();
+            for word in 0..5 {
+                words.swap(at + word, other + word);
+            }
+        }
+        6 => {
+            let fact = words[at..at + 5].to_vec();
+            words.splice(at..at, fact);
+            told.count += 1;
+        }
+        7 => words[at + 1] = random.pick(&[1_001_000, 999_998, -1]),
+        8 => out.spoil(words.len() + 3, 0x5a5a_5a5a),
+        _ => {
+            told.count = 0;
+            told.missing = [0; 4];
+        }
+    }
+    for (place, word) in words.into_iter().enumerate() {
+        out.spoil(place, word);
+    }
+    Some(check_judgement(&bytes, &told, &out, |_| Ok(vec![1])).is_err())
+}

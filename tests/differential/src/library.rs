@@ -1,0 +1,148 @@
+//! The library's calls. What is lent lies between guards and is filled with a pattern, so that each write that should not be is seen;
+//! inputs are compared with a copy afterwards.
+
+use crate::meaning::Judgement;
+use crate::random::Random;
+
+mod c {
+    #[repr(C)]
+    pub struct Ended {
+        pub number: usize,
+        pub line: usize,
+        pub count: usize,
+    }
+
+    #[repr(C)]
+    pub struct Stretch {
+        pub start: usize,
+        pub length: usize,
+    }
+
+    #[repr(C)]
+    pub struct Outcome {
+        pub verdict: usize,
+        pub number: usize,
+        pub line: usize,
+        pub count: usize,
+        pub missing: [usize; 4],
+    }
+
+    extern "C" {
+        pub fn figdawesa_read(sheet: *const u8, sheet_bytes: usize, out: *mut i32, out_words: usize) -> Ended;
+        pub fn figdawesa_write(words: *const i32, word_count: usize, out: *mut u8, out_bytes: usize) -> Ended;
+        pub fn figdawesa_line(sheet: *const u8, sheet_bytes: usize, number: usize) -> Stretch;
+        pub fn figdawesa_evaluate(
+            sheet: *const u8,
+            sheet_bytes: usize,
+            block: usize,
+            facts: *const i32,
+            fact_words: usize,
+            out: *mut i32,
+            out_words: usize,
+        ) -> Ended;
+        pub fn figdawesa_judge(sheet: *const u8, sheet_bytes: usize, out: *mut i32, out_words: usize) -> Outcome;
+    }
+}
+
+/// How a call ended, and what the lent words or bytes are afterwards.
+pub struct Ended {
+    pub number: usize,
+    pub line: usize,
+    pub count: usize,
+}
+
+const GUARD: usize = 16;
+
+/// Something lent, with guards on both sides.
+pub struct Lent<T> {
+    all: Vec<T>,
+    before: Vec<T>,
+    null: bool,
+}
+
+impl<T: Copy + PartialEq> Lent<T> {
+    pub fn new(length: usize, random: &mut Random, make: fn(u64) -> T) -> Lent<T> {
+        let all: Vec<T> = (0..length + 2 * GUARD).map(|_| make(random.next())).collect();
+        Lent { before: all.clone(), all, null: length == 0 && random.percent(50) }
+    }
+
+    pub fn length(&self) -> usize {
+        self.all.len() - 2 * GUARD
+    }
+
+    /// Where the lent part begins; for an empty one sometimes a null pointer.
+    fn pointer(&mut self) -> *mut T {
+        if self.null {
+            std::ptr::null_mut()
+        } else {
+            self.all[GUARD..].as_mut_ptr()
+        }
+    }
+
+    pub fn after(&self) -> &[T] {
+        &self.all[GUARD..GUARD + self.length()]
+    }
+
+    /// Whether the front is as expected and all else, guards too, as it was.
+    pub fn is(&self, front: &[T]) -> bool {
+        let end = GUARD + front.len();
+        front.len() <= self.length()
+            && &self.all[GUARD..end] == front
+            && self.all[..GUARD] == self.before[..GUARD]
+            && self.all[end..] == self.before[end..]
+    }
+
+    /// Overwrites a lent element, to show that this is seen.
+    pub fn spoil(&mut self, at: usize, value: T) {
+        self.all[GUARD + at] = value;
+    }
+}
+
+fn pointer<T>(from: &[T]) -> *const T {
+    if from.is_empty() {
+        std::ptr::null()
+    } else {
+        from.as_ptr()
+    }
+}
+
+/// Runs a call and sees to it that its inputs stay.
+fn kept<A: Clone + PartialEq, R>(input: &[A], call: impl FnOnce() -> R) -> R {
+    let before = input.to_vec();
+    let result = call();
+    assert!(before == input, "a call changed its input");
+    result
+}
+
+fn ended(e: c::Ended) -> Ended {
+    Ended { number: e.number, line: e.line, count: e.count }
+}
+
+// SAFETY, for each call: every pointer is valid for the length that goes with it, and what is lent is shared with nothing.
+
+pub fn read(sheet: &[u8], out: &mut Lent<i32>) -> Ended {
+    let words = out.length();
+    ended(kept(sheet, || unsafe { c::figdawesa_read(pointer(sheet), sheet.len(), out.pointer(), words) }))
+}
+
+pub fn write(words: &[i32], out: &mut Lent<u8>) -> Ended {
+    let bytes = out.length();
+    ended(kept(words, || unsafe { c::figdawesa_write(pointer(words), words.len(), out.pointer(), bytes) }))
+}
+
+pub fn line(sheet: &[u8], number: usize) -> (usize, usize) {
+    let part = kept(sheet, || unsafe { c::figdawesa_line(pointer(sheet), sheet.len(), number) });
+    (part.start, part.length)
+}
+
+pub fn evaluate(sheet: &[u8], block: usize, facts: &[i32], out: &mut Lent<i32>) -> Ended {
+    let words = out.length();
+    let call = || unsafe { c::figdawesa_evaluate(pointer(sheet), sheet.len(), block, pointer(facts), facts.len(), out.pointer(), words) };
+    ended(kept(sheet, || kept(facts, call)))
+}
+
+pub fn judge(sheet: &[u8], out: &mut Lent<i32>) -> Judgement {
+    let words = out.length();
+    let o = kept(sheet, || unsafe { c::figdawesa_judge(pointer(sheet), sheet.len(), out.pointer(), words) });
+    Judgement { verdict: o.verdict, number: o.number, line: o.line, count: o.count, missing: o.missing }
+}

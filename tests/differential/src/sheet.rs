@@ -1,0 +1,267 @@
+//! Sheets: bytes or words taken apart into lines, the lines into blocks, and back. Written from the format's description alone.
+
+use crate::slips::{is, Slip};
+
+/// The columns of each relation, by its number.
+pub const COLUMNS: [usize; 11] = [0, 2, 1, 3, 2, 2, 2, 3, 2, 4, 1];
+
+#[derive(Clone, Copy, Debug, PartialEq, Eq)]
+pub struct Refusal {
+    pub number: usize,
+    pub line: usize,
+}
+
+pub type Taken<T> = Result<T, Refusal>;
+
+pub fn refuse<T>(number: usize, line: usize) -> Taken<T> {
+    Err(Refusal { number, line })
+}
+
+#[derive(Clone, Debug)]
+pub struct Atom {
+    pub relation: usize,
+    pub terms: Vec<i64>,
+}
+
+/// A head, its atoms and, for a view, its listed rows. The line is the head's.
+#[derive(Clone, Debug)]
+pub struct Block {
+    pub line: usize,
+    pub head: Vec<i64>,
+    pub atoms: Vec<Atom>,
+    pub rows: Vec<Vec<i64>>,
+}
+
+/// The question, the list, then the views.
+#[derive(Clone, Debug)]
+pub struct Sheet {
+    pub blocks: Vec<Block>,
+}
+
+impl Sheet {
+    pub fn question(&self) -> &Block {
+        &self.blocks[0]
+    }
+
+    pub fn list(&self) -> &Block {
+        &self.blocks[1]
+    }
+
+    pub fn views(&self) -> &[Block] {
+        &self.blocks[2..]
+    }
+
+    /// The constants that stand in heads, atoms and rows, ascending.
+    pub fn constants(&self) -> Vec<i64> {
+        let mut all = Vec::new();
+        for block in &self.blocks {
+            all.extend(block.head.iter().chain(block.atoms.iter().flat_map(|a| &a.terms)).chain(block.rows.iter().flatten()));
+        }
+        all.retain(|t| *t >= 0);
+        all.sort();
+        all.dedup();
+        all
+    }
+}
+
+/// A line's fields, or nothing where the line is malformed.
+pub type Fields = Option<Vec<i64>>;
+
+/// A field is the number that would be printed in exactly these eight bytes.
+fn field(bytes: &[u8]) -> Option<i64> {
+    let text = std::str::from_utf8(bytes).ok()?;
+    let number = text.trim_start_matches(' ').parse::<i64>().ok()?;
+    let same = format!("{number:>8}").as_bytes() == bytes;
+    (same || is(Slip::MinusZeroTaken) && text.ends_with(" -0")).then_some(number)
+}
+
+fn fields(line: &[u8]) -> Fields {
+    if line.is_empty() || line.len() % 8 != 0 || line.len() > 48 {
+        return None;
+    }
+    line.chunks(8).map(field).collect()
+}
+
+/// The lines of a sheet. What follows the last byte 10 is one more line, a malformed one, unless nothing follows.
+pub fn lines_of_bytes(sheet: &[u8]) -> Vec<Fields> {
+    let mut parts: Vec<&[u8]> = sheet.split(|b| *b == 10).collect();
+    let rest = parts.pop().unwrap();
+    let mut lines: Vec<Fields> = parts.into_iter().map(fields).collect();
+    if !rest.is_empty() {
+        lines.push(if is(Slip::UnclosedLastLineTaken) { fields(rest) } else { None });
+    }
+    lines
+}
+
+pub fn lines_of_words(words: &[i32]) -> Vec<Fields> {
+    let line = |line: &[i32]| {
+        let count = usize::try_from(line[0]).ok().filter(|n| (1..=6).contains(n))?;
+        let used = line[1..=count].iter().map(|w| *w as i64).collect::<Vec<i64>>();
+        let fits = |w: &i64| (-9_999_999..=99_999_999).contains(w) || is(Slip::WideNumberTaken);
+        let clean = line[1 + count..].iter().all(|w| *w == 0) || is(Slip::UnusedWordUnasked);
+        (clean && used.iter().all(fits)).then_some(used)
+    };
+    words.chunks(7).map(line).collect()
+}
+
+fn term_in_range(term: i64) -> bool {
+    let top = if is(Slip::ConstantOneTooHigh) { 1_000_000 } else { 999_999 };
+    let last = if is(Slip::VariableThirteen) { -13 } else { -12 };
+    (last..=top).contains(&term)
+}
+
+/// The blocks that lines make up. Causes are asked for line by line, each line's in their order; then for the whole.
+pub fn blocks(lines: &[Fields]) -> Taken<Sheet> {
+    let mut blocks: Vec<Block> = Vec::new();
+    let mut before = 0;
+    for (at, fields) in lines.iter().enumerate() {
+        let line = at + 1;
+        let Some(fields) = fields else { return refuse(2, line) };
+        let (kind, rest) = (fields[0], &fields[1..]);
+        // 3: the kind, its place, its field count.
+        let in_place = match kind {
+            1 => line == 1,
+            2 => blocks.len() == 1,
+            3 => blocks.len() >= 2,
+            4 => (1..=4).contains(&before),
+            5 => blocks.len() >= 3 && (before == 4 || before == 5 || before == 3 && is(Slip::RowAfterViewHeadLeftTo8)),
+            _ => false,
+        };
+        let counted = if kind == 4 { (3..=6).contains(&fields.len()) } else { fields.len() <= 5 };
+        if !in_place || !counted {
+            return refuse(3, line);
+        }
+        // 4 and 5: an atom's relation, then its terms; the other kinds have terms alone.
+        let terms = if kind == 4 { &rest[1..] } else { rest };
+        let relation_wrong = kind == 4 && !(1..=10).contains(&rest[0]) || kind == 4 && COLUMNS[rest[0] as usize] != terms.len();
+        let term_wrong = terms.iter().any(|t| !term_in_range(*t) || kind == 5 && *t < 0);
+        if is(Slip::TermsBeforeRelation) && term_wrong {
+            return refuse(5, line);
+        }
+        if relation_wrong {
+            return refuse(4, line);
+        }
+        if term_wrong {
+            return refuse(5, line);
+        }
+        // 6: one too many.
+        let most_atoms = if blocks.len() <= 2 { 6 } else { 3 };
+        let rows: usize = blocks.iter().map(|b| b.rows.len()).sum();
+        let most_rows = if is(Slip::ThirtyNineRows) { 39 } else { 40 };
+        let too_many = match kind {
+            3 => blocks.len() == 10,
+            4 => blocks.last().unwrap().atoms.len() == most_atoms,
+            5 => rows == most_rows,
+            _ => false,
+        };
+        if too_many {
+            return refuse(6, line);
+        }
+        // 7: lengths.
+        let length_wrong = match kind {
+            2 => terms.len() != blocks[0].head.len() && !is(Slip::HeadsOfEqualLengthUnasked),
+            5 => terms.len() != blocks.last().unwrap().head.len(),
+            _ => false,
+        };
+        if length_wrong {
+            return refuse(7, line);
+        }
+        // 9: a row above the one before in its view.
+        if kind == 5 {
+            let above = |last: &Vec<i64>| terms > &last[..] || terms == &last[..] && is(Slip::EqualRowsTaken);
+            if !blocks.last().unwrap().rows.last().is_none_or(above) {
+                return refuse(9, line);
+            }
+        }
+        match kind {
+            4 => blocks.last_mut().unwrap().atoms.push(Atom { relation: rest[0] as usize, terms: terms.to_vec() }),
+            5 => blocks.last_mut().unwrap().rows.push(terms.to_vec()),
+            _ => blocks.push(Block { line, head: terms.to_vec(), atoms: vec![], rows: vec![] }),
+        }
+        before = kind;
+    }
+    if blocks.len() < 2 {
+        return refuse(3, 0);
+    }
+    for block in &blocks {
+        let safe = |t: &i64| *t >= 0 || block.atoms.iter().any(|a| a.terms.contains(t));
+        if block.atoms.is_empty() || !block.head.iter().all(safe) {
+            return refuse(8, block.line);
+        }
+    }
+    Ok(Sheet { blocks })
+}
+
+/// A sheet's bytes taken whole: its lines and its blocks.
+pub fn of_bytes(sheet: &[u8]) -> Taken<(Vec<Vec<i64>>, Sheet)> {
+    if sheet.len() > 8192 {
+        return refuse(1, 0);
+    }
+    let lines = lines_of_bytes(sheet);
+    let taken = blocks(&lines)?;
+    Ok((lines.into_iter().flatten().collect(), taken))
+}
+
+pub fn of_words(words: &[i32]) -> Taken<Vec<Vec<i64>>> {
+    if words.len() > 602 {
+        return refuse(1, 0);
+    }
+    if words.len() % 7 != 0 {
+        return refuse(2, 0);
+    }
+    let lines = lines_of_words(words);
+    blocks(&lines)?;
+    Ok(lines.into_iter().flatten().collect())
+}
+
+pub fn bytes_of(lines: &[Vec<i64>]) -> Vec<u8> {
+    let mut bytes = String::new();
+    for line in lines {
+        for field in line {
+            bytes += &format!("{field:>8}");
+        }
+        bytes.push('\n');
+    }
+    bytes.into_bytes()
+}
+
+pub fn words_of(lines: &[Vec<i64>]) -> Vec<i32> {
+    let mut words = Vec::new();
+    for line in lines {
+        words.push(line.len() as i32);
+        words.extend((0..6).map(|at| line.get(at).copied().unwrap_or(0) as i32));
+    }
+    words
+}
+
+/// What reading does: the number form, or a refusal.
+pub fn read(sheet: &[u8], lent: usize) -> Taken<Vec<i32>> {
+    let (lines, _) = of_bytes(sheet)?;
+    if lent < 602 {
+        return refuse(13, 0);
+    }
+    Ok(words_of(&lines))
+}
+
+/// What writing does: the bytes, or a refusal.
+pub fn write(words: &[i32], lent: usize) -> Taken<Vec<u8>> {
+    let lines = of_words(words)?;
+    if lent < 4214 {
+        return refuse(13, 0);
+    }
+    Ok(bytes_of(&lines))
+}
+
+/// Where line `number` stands: its start and length, (0, 0) where there is no such closed line.
+pub fn line(sheet: &[u8], number: usize) -> (usize, usize) {
+    let mut ends: Vec<usize> = (0..sheet.len()).filter(|at| sheet[*at] == 10).collect();
+    if is(Slip::UnclosedLineHandedBack) && ends.last().map_or(0, |end| end + 1) < sheet.len() {
+        ends.push(sheet.len());
+    }
+    let number = if is(Slip::LineNumberedFromZero) { number.saturating_add(1) } else { number };
+    if number == 0 || number > ends.len() {
+        return (0, 0);
+    }
+    let start = if number == 1 { 0 } else { ends[number - 2] + 1 };
+    (start, ends[number - 1] - start)
+}
