@@ -141,7 +141,7 @@ fn by_strays(
     requires { ⌜ (length (now st) ≡ 533) × (length (now lv) ≡ 533) ⌝ }
     ensures { λ r. ⌜ (walks.Ready (now (p .entry)) → from + length (now (facts .entry)) / 5 ≤ 126 → ByStrays (r .done) (r .good) (now (p .entry)) (now (facts .entry)) (now (st .entry)) (now (lv .entry)) from (now (marks .exit)) (r .view) (r .values)) ⌝ }
 {
-    let s = views::stray(p, facts);
+    let s = strays::find(p, facts);
     if !s.some {
         return ended(true);
     }
@@ -150,7 +150,8 @@ fn by_strays(
     if MOST_VIEWS <= view {
         return ended(false);
     }
-    mark_given(p, st, lv, from, 2 + view, facts, values, marks);
+    let at = s.at;
+    reasons::mark_facts(p, st, lv, from, at, p[SIZES + (2 + view)], marks);
     Finding {
         done: false,
         good: false,

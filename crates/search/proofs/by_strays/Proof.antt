@@ -10,13 +10,13 @@ use Rattle.search.proofs.by_strays.Statement.{statement}
 use Rattle.search.proofs.by_strays.Tie as tie
 use Rattle.search.proofs.by_strays.Reads as reads
 use Rattle.search.proofs.by_strays.Lts as lts
+use Rattle.reasons.proofs.mark_facts.Reads as mark-facts-reads
 use Rattle.search.proofs.ended.Reads as ended-reads
-use Rattle.search.proofs.mark_given.Reads as mark-given-reads
-use Rattle.views.proofs.stray.Reads as stray-reads
+use Rattle.strays.proofs.find.Reads as find-reads
 
 -- src/lib.rt:144:9
-stray-requires : tie.Need-stray-requires
-stray-requires c κs = search needs
+find-requires : tie.Need-find-requires
+find-requires c κs = search needs
 
 -- src/lib.rt:146:9
 ended-requires : tie.Need-ended-requires
@@ -26,9 +26,9 @@ ended-requires c κs = search needs
 returns : tie.Need-returns
 returns c = λ ready room.
     let s = c .before .before .before .before .before .before .before .before in
-    let t = c .before .before .before .stray in
+    let t = c .before .before .before .find in
     let e = c .ended in
-    none-left (s .args .p .now) (s .args .facts .now) (s .args .st .now) (s .args .lv .now) (s .args .from) (s .args .marks .now) (t .result .some) (t .result .view) (t .result .values) (not-true (t .result .some) (c .before .if1 .taken)) (t .ensures ready) (e .result .done) (e .result .good) (e .ensures .0) (e .ensures .1) (e .result .view) (e .result .values)
+    none-left (s .args .p .now) (s .args .facts .now) (s .args .st .now) (s .args .lv .now) (s .args .from) (s .args .marks .now) (t .result .some) (t .result .view) (t .result .values) (not-true (t .result .some) (c .before .if1 .taken)) (t .ensures .0 ready) (e .result .done) (e .result .good) (e .ensures .0) (e .ensures .1) (e .result .view) (e .result .values)
 
 -- src/lib.rt:151:9
 ended-requires-2 : tie.Need-ended-requires-2
@@ -38,19 +38,31 @@ ended-requires-2 c κs = search needs
 returns-2 : tie.Need-returns-2
 returns-2 c = λ ready room.
     let s = c .before .before .before .before .before .before .before .before .before .before in
-    let t = c .before .before .before .before .before .stray in
+    let t = c .before .before .before .before .before .find in
     let far = c .before .if2 .taken in
     let few = ready .views-few in
-    let v = stray-is (s .args .p .now) (s .args .facts .now) (t .result .some) (t .result .view) (t .result .values) (not-false (t .result .some) (c .before .before .before .if1 .left)) (t .ensures ready) .view in
+    let v = stray-is (s .args .p .now) (s .args .facts .now) (t .result .some) (t .result .view) (t .result .values) (not-false (t .result .some) (c .before .before .before .if1 .left)) (t .ensures .0 ready) .view in
     absurd (omega arith)
 
--- src/lib.rt:153:33
-add-mark-given : tie.Need-add-mark-given
-add-mark-given c = search needs
+-- src/lib.rt:154:48
+add-mark-facts : tie.Need-add-mark-facts
+add-mark-facts c = search needs
 
--- src/lib.rt:153:5
-mark-given-requires : tie.Need-mark-given-requires
-mark-given-requires c κs = search needs
+-- src/lib.rt:154:48
+add-mark-facts-2 : tie.Need-add-mark-facts-2
+add-mark-facts-2 c = search needs
+
+-- src/lib.rt:154:46
+mul-mark-facts : tie.Need-mul-mark-facts
+mul-mark-facts c = search needs
+
+-- src/lib.rt:154:46
+element-copy-out-mark-facts : tie.Need-element-copy-out-mark-facts
+element-copy-out-mark-facts c = search needs
+
+-- src/lib.rt:154:5
+mark-facts-requires : tie.Need-mark-facts-requires
+mark-facts-requires c κs = search needs
 
 -- src/lib.rt:133:1
 same-length : tie.Need-same-length
@@ -59,21 +71,27 @@ same-length c = search needs
 -- src/lib.rt:133:1
 returns-3 : tie.Need-returns-3
 returns-3 c = λ ready room.
-    let s = c .before .before .before .before .before .before .before .before .before .before .before .before .before in
-    let t = c .before .before .before .before .before .before .before .before .stray in
-    let v = stray-is (s .args .p .now) (s .args .facts .now) (t .result .some) (t .result .view) (t .result .values) (not-false (t .result .some) (c .before .before .before .before .before .before .if1 .left)) (t .ensures ready) in
-    (v, c .before .before .mark-given .ensures ready (let z = v .view in omega arith) room (v .given))
+    let s = c .before .before .before .before .before .before .before .before .before .before .before .before .before .before .before in
+    let t = c .before .before .before .before .before .before .before .before .before .before .find in
+    let some = not-false (t .result .some) (c .before .before .before .before .before .before .before .before .if1 .left) in
+    let v = stray-is (s .args .p .now) (s .args .facts .now) (t .result .some) (t .result .view) (t .result .values) some (t .ensures .0 ready) in
+    let w = t .ensures .1 ready some in
+    let m = c .before .before .mark-facts .ensures (s .pre .0) (s .pre .1) (λ j lt. let z = w .inside j lt in omega arith) in
+    (v, record { at = t .result .at; witness = w; old = s .args .marks .now; marked = m })
 
 pub by-strays-spec : {M : Type 1} → statement M
 by-strays-spec =
     tie.close
     (tie.spec
-    stray-requires
+    find-requires
     ended-requires
     returns
     ended-requires-2
     returns-2
-    add-mark-given
-    mark-given-requires
+    add-mark-facts
+    add-mark-facts-2
+    mul-mark-facts
+    element-copy-out-mark-facts
+    mark-facts-requires
     same-length
     returns-3)
