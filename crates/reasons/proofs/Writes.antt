@@ -80,25 +80,31 @@ module _ (lv lw u : List ℕ) (b c : ℕ) (same : length lw ≡ length lv) (a : 
 pub record AddedTo (old others : List Bool) (skip : ℕ) (marks : List Bool) (n : ℕ) : Type 0 where
   pub more : Within old marks
   pub added : (k : ℕ) → k < n → (k ≡ skip → ⊥) → getD others k true ≡ true → getD marks k true ≡ true
+  pub only : (k : ℕ) → k < length old → getD marks k true ≡ true → (getD old k true ≡ true) ⊎ ((k ≡ skip → ⊥) × (getD others k true ≡ true))
 
 pub added-none : (old others : List Bool) (skip : ℕ) → AddedTo old others skip old 0
-added-none old others skip = record { more = within-same old; added = λ k lt. absurd (omega arith) }
+added-none old others skip = record { more = within-same old; added = λ k lt. absurd (omega arith); only = λ k lt e. inl e }
 
 module _ (old others : List Bool) (skip : ℕ) (marks : List Bool) (n : ℕ) (a : AddedTo old others skip marks n) where
   pub added-skip : n ≡ skip → AddedTo old others skip marks (n + 1)
-  added-skip e = record { more = a .more; added = below-more _ n (a .added) (λ ne. absurd (ne e)) }
+  added-skip e = record { more = a .more; added = below-more _ n (a .added) (λ ne. absurd (ne e)); only = a .only }
 
   pub added-off : getD others n true ≡ false → AddedTo old others skip marks (n + 1)
-  added-off e = record { more = a .more; added = below-more _ n (a .added) (λ ne t. absurd (true≢false (sym t ∙ e))) }
+  added-off e = record { more = a .more; added = below-more _ n (a .added) (λ ne t. absurd (true≢false (sym t ∙ e))); only = a .only }
 
-  pub added-set : AddedTo old others skip (set marks n true) (n + 1)
-  added-set = record {
+  pub added-set : (n ≡ skip → ⊥) → getD others n true ≡ true → AddedTo old others skip (set marks n true) (n + 1)
+  added-set not-skip marked = record {
     more = within-trans old marks (set marks n true) (a .more) (within-set marks n);
     added = below-more _ n (λ k lt ne t. within-set marks n k (a .added k lt ne t)) (λ ne t. set-there marks n);
+    only = λ k lt e. go k lt e (same? k n);
   }
+    where
+      go : (k : ℕ) → k < length old → getD (set marks n true) k true ≡ true → Dec (k ≡ n) → (getD old k true ≡ true) ⊎ ((k ≡ skip → ⊥) × (getD others k true ≡ true))
+      go k lt e (yes q) = inr (λ s. not-skip (sym q ∙ s), ap (λ (j : ℕ). getD others j true) q ∙ marked)
+      go k lt e (no q) = a .only k lt (sym (getD-set-other marks n k true true q) ∙ e)
 
   pub added-end : length marks ≡ length old → length old ≤ n → MarksAdded old others skip marks
-  added-end same l = record { same = same; more = a .more; added = λ k. go k (less? k n) }
+  added-end same l = record { same = same; more = a .more; added = λ k. go k (less? k n); only = a .only }
     where
       go : (k : ℕ) → (k < n) ⊎ (n ≤ k) → (k ≡ skip → ⊥) → getD others k true ≡ true → getD marks k true ≡ true
       go k (inl lt) = a .added k lt
@@ -136,8 +142,8 @@ module _ (marks : List Bool) (n k : ℕ) (a : NoneFrom marks n k) where
       go j ge lt (yes q) = ap (λ (i : ℕ). getD marks i true) q ∙ e
       go j ge lt (no q) = a .off j (omega arith) lt
 
-  pub last-found : 0 < k → k ≤ n → LastMarked marks n (k - 1)
-  last-found some le = record { inside = λ l. omega arith; later = λ j lt. a .off j (omega arith) }
+  pub last-found : 0 < k → k ≤ n → getD marks (k - 1) true ≡ true → LastMarked marks n (k - 1)
+  last-found some le e = record { inside = λ l. omega arith; here = λ l. e; later = λ j lt. a .off j (omega arith) }
 
   pub last-none : k ≤ 0 → LastMarked marks n 0
-  last-none le = record { inside = λ l. l; later = λ j lt. a .off j (omega arith) }
+  last-none le = record { inside = λ l. l; here = λ l. absurd (omega arith); later = λ j lt. a .off j (omega arith) }

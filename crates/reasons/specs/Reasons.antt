@@ -3,6 +3,7 @@
 use mathlib.Core.Path.{_≡_}
 use mathlib.Core.Bool.{Bool, true, false, cond}
 use mathlib.Core.List.{List}
+use mathlib.Core.Logic.{_⊎_}
 use Prim.Native.Nat.{ℕ, _+_, _-_, _*_, _<_, _≤_}
 use lib.ListN.{length, getD}
 use Rattle.meaning.specs.Meaning.{In}
@@ -76,6 +77,7 @@ pub record MarksAdded (old others : List Bool) (skip : ℕ) (marks : List Bool) 
   pub same : length marks ≡ length old
   pub more : Within old marks
   pub added : (k : ℕ) → (k ≡ skip → ⊥) → getD others k true ≡ true → getD marks k true ≡ true
+  pub only : (k : ℕ) → k < length old → getD marks k true ≡ true → (getD old k true ≡ true) ⊎ ((k ≡ skip → ⊥) × (getD others k true ≡ true))
 
 -- what is marked there, and nothing else
 pub record MarksPut (old others marks : List Bool) : Type 0 where
@@ -90,4 +92,5 @@ pub record Cleared (old marks : List Bool) : Type 0 where
 -- the last of the first n choices that is marked, or 0
 pub record LastMarked (marks : List Bool) (n r : ℕ) : Type 0 where
   pub inside : 0 < n → r < n
+  pub here : 0 < r → getD marks r true ≡ true
   pub later : (k : ℕ) → r < k → k < n → getD marks k true ≡ false

@@ -2,7 +2,7 @@ use mathlib.Core.Path.{_≡_, refl, sym, _∙_}
 use Prim.Native.Nat.{_≤_, _-_}
 use native.Mathlib.Omega.{arith}
 use borrow.Author.Needs.{needs}
-use borrow.Author.Tests.{not-true}
+use borrow.Author.Tests.{not-true, not-false}
 use lib.ListN.{length, length-set}
 use Rattle.reasons.proofs.Writes.{AddedTo, added-none, added-skip, added-off, added-set, added-end}
 use Rattle.reasons.proofs.add.Statement.{statement}
@@ -54,7 +54,7 @@ loop-again-3 c =
     let a = c .before .before .before .before .before .before .before .args in
     let l = c .before .before .before .before .loop in
     let t = c .before .before .before .loop-test .taken in
-    (omega arith, refl, length-set (l .marks) (l .k) _ ∙ l .inv .2, added-set (a .marks .now) (a .others .now) (a .skip) (l .marks) (l .k) (l .inv .3))
+    (omega arith, refl, length-set (l .marks) (l .k) _ ∙ l .inv .2, added-set (a .marks .now) (a .others .now) (a .skip) (l .marks) (l .k) (l .inv .3) (c .before .before .if1 .left) (sym (c .before .is-marked .ensures) ∙ not-false _ (c .if2 .left)))
 
 same-length : tie.Need-same-length Inv-loop μ-loop
 same-length c = search needs

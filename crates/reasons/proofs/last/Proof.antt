@@ -22,7 +22,7 @@ is-marked-requires : tie.Need-is-marked-requires Inv-loop μ-loop
 is-marked-requires c κs = search needs
 
 returns : tie.Need-returns Inv-loop μ-loop
-returns c = let a = c .before .before .before .before .before .args in let l = c .before .before .before .loop in last-found (a .marks .now) (a .n) (l .k) (l .inv .1) (c .before .before .loop-test .taken) (l .inv .0)
+returns c = let a = c .before .before .before .before .before .args in let l = c .before .before .before .loop in last-found (a .marks .now) (a .n) (l .k) (l .inv .1) (c .before .before .loop-test .taken) (l .inv .0) (sym (c .before .is-marked .ensures) ∙ c .if1 .taken)
 
 loop-less : tie.Need-loop-less Inv-loop μ-loop
 loop-less c = search needs
