@@ -6,6 +6,7 @@ use mathlib.Core.Logic.{_⊎_, inl, inr, ⊎-elim}
 use Prim.Native.Nat.{ℕ, zero, suc, _+_, _-_, _*_, _<_, _≤_}
 use native.Mathlib.Omega.{arith}
 use borrow.Author.Count.{below-more}
+use borrow.Author.Tests.{lt-ltb, le-ltb}
 use lib.ListN.{length, getD, replicate, List·getD-eq-default}
 use Rattle.meaning.specs.Meaning.{Block, In}
 use Rattle.meaning.specs.Blocks.{View, nth}
@@ -26,7 +27,7 @@ use Rattle.state.specs.Parts.{Own}
 use Rattle.reasons.specs.Reasons.{kept, relaxed, Rests, Within, Assigned, MarksAdded, MarksPut}
 use Rattle.reasons.proofs.Laws.{within-same, within-trans}
 use Rattle.reasons.proofs.Jumps.{relaxed-plain, rests-more, jump, refuted-below}
-use Rattle.search.specs.Parts.{Ready, sheetBy, Proper, Settled, NodeBy, Stood, Fitting, Found, Levelled, SameLevels, Lost, Opened, Taken, Passed, TakenBy, GivenTo, JumpsBy, Tried, Going, Begins, SoughtBy}
+use Rattle.search.specs.Parts.{Ready, sheetBy, Proper, Settled, NodeBy, Stood, Fitting, Found, Levelled, SameLevels, Lost, Opened, Taken, Passed, TakenBy, GivenTo, JumpsBy, turned, Tried, Going, Begins, SoughtBy}
 use Rattle.search.proofs.Heads.{inside}
 use Rattle.search.proofs.Node.{Task, nth-in, in-nth, meets-kept}
 use Rattle.search.proofs.ReadyLaws.{ready-task}
@@ -147,8 +148,8 @@ module _ (p : List ℕ) (x : Sheet) (r : Ready p x) where
 
   -- ---- a stray row, and the rows tried for it
 
-  module _ (asked : Bool) (ws lv : List ℕ) (next left : ℕ) (b : Begins x (sheetBy asked x) ws left) (g : Levelled ws lv next) (view : ℕ) (u st lw : List ℕ) (marks : List Bool) (n : ℕ)
-      (here : Going p x (sheetBy asked x) ws lv st lw marks view u n) (few : n < rowCount p) where
+  module _ (asked : Bool) (ws lv : List ℕ) (next left : ℕ) (b : Begins x (sheetBy asked x) ws left) (g : Levelled ws lv next) (view : ℕ) (u st lw : List ℕ) (marks : List Bool) (at : ℕ → ℕ) (n : ℕ)
+      (here : Going p x (sheetBy asked x) ws lv st lw marks view u at n) (few : at n < rowCount p) where
     abbrev y : Sheet
     y = sheetBy asked x
 
@@ -156,25 +157,25 @@ module _ (p : List ℕ) (x : Sheet) (r : Ready p x) where
     o = here .opened
 
     -- the words changed are numbers of the row
-    taken-stood : (out : List ℕ) → Taken p view n ws out u → Stood x out
-    taken-stood out t = stood-after x ws out u (rowValues p n) (b .proper .size) (b .stood) (o .fresh) (row-constants n few) (o .fits n few (t .view-is)) (t .step)
+    taken-stood : (out : List ℕ) → Taken p view (at n) ws out u → Stood x out
+    taken-stood out t = stood-after x ws out u (rowValues p (at n)) (b .proper .size) (b .stood) (o .fresh) (row-constants (at n) few) (o .fits (at n) few (t .view-is)) (t .step)
 
-    taken-begins : (out : List ℕ) → Taken p view n ws out u → Begins x y out (left - 1)
+    taken-begins : (out : List ℕ) → Taken p view (at n) ws out u → Begins x y out (left - 1)
     taken-begins out t = record {
       proper = proper-own out (t .step .same ∙ b .proper .size) (t .own);
       stood = taken-stood out t;
       settled = subst (Settled y) (sym (t .step .state)) (settled-after asked (t .step .by) (stateOf top ws) (t .step .unifier .keeps) (b .settled));
-      room = let h = b .room in ⊎-elim (λ e. absurd (o .other n few (t .view-is) e)) (λ f. omega arith) (t .step .fewer);
+      room = let h = b .room in ⊎-elim (λ e. absurd (o .other (at n) few (t .view-is) e)) (λ f. omega arith) (t .step .fewer);
     }
 
     -- ---- a row that the stray row cannot become
 
-    tried-passed : (out : List ℕ) → Passed p view n ws out u → Tried p y ws lv marks view u (n + 1)
+    tried-passed : (out : List ℕ) → Passed p view (at n) ws out u → Tried p y ws lv marks view u at (n + 1)
     tried-passed out t = record { each = λ s w. below-more _ n (here .tried .each s w) (λ e. clashed (t .clash e)) }
 
     -- ---- one that it becomes: the slots of the stray row belong to choice c
 
-    module _ (out : List ℕ) (t : Taken p view n ws out u) (lx : List ℕ) (c deeper : ℕ) (size : length lw ≡ 533) (a : Assigned lw lx u c) where
+    module _ (out : List ℕ) (t : Taken p view (at n) ws out u) (lx : List ℕ) (c deeper : ℕ) (size : length lw ≡ 533) (a : Assigned lw lx u c) where
       fresh-slot : (k : ℕ) → In (top + k) u → (k < 533) × (stateOf top ws k ≡ top + k)
       fresh-slot k m = go (o .fresh (top + k) m)
         where
@@ -223,14 +224,14 @@ module _ (p : List ℕ) (x : Sheet) (r : Ready p x) where
       rests-jump : (below : List Bool) → getD below c true ≡ false → Rests y out lx below → Rests y ws lv below
       rests-jump below e rests =
           subst (Refuted top y) (relaxed-same ws lv lw (b .proper) (here .levels) below)
-          (jump ws lw (b .proper .size) (b .proper .each) out lx u (rowValues p n) c out-size out-own slot-levels (a .others) (λ k m. fresh-slot k m .1) other-slot y below e rests)
+          (jump ws lw (b .proper .size) (b .proper .each) out lx u (rowValues p (at n)) c out-size out-own slot-levels (a .others) (λ k m. fresh-slot k m .1) other-slot y below e rests)
 
       -- a failure below, and what it rests on besides the choice is marked
-      tried-taken : (below more : List Bool) → MarksAdded marks below next more → Rests y out lx below → Tried p y ws lv more view u (n + 1)
+      tried-taken : (below more : List Bool) → MarksAdded marks below next more → Rests y out lx below → Tried p y ws lv more view u at (n + 1)
       tried-taken below more d rests = record {
         each = λ s w. below-more _ n (here .tried .each s (within-trans marks more s (d .more) w))
-            (λ e. subst (λ (z : State). RefutedBy top y z (equations u (rowValues p n))) (relaxed-same ws lv lw (b .proper) (here .levels) s)
-            (refuted-below ws lw (b .proper .size) (b .proper .each) out lx u (rowValues p n) c out-size out-own slot-levels (a .others) (λ k m. fresh-slot k m .1) other-slot y below s (among s w) bound rests));
+            (λ e. subst (λ (z : State). RefutedBy top y z (equations u (rowValues p (at n)))) (relaxed-same ws lv lw (b .proper) (here .levels) s)
+            (refuted-below ws lw (b .proper .size) (b .proper .each) out lx u (rowValues p (at n)) c out-size out-own slot-levels (a .others) (λ k m. fresh-slot k m .1) other-slot y below s (among s w) bound rests));
       }
         where
           among : (s : List Bool) → Within more s → (k : ℕ) → (In (top + k) u → ⊥) → stateOf top ws k < top → kept lw below k ≡ true → kept lw s k ≡ true
@@ -239,11 +240,11 @@ module _ (p : List ℕ) (x : Sheet) (r : Ready p x) where
               let z = g .each k h in
               w (getD lw k 0) (d .added (getD lw k 0) (λ same. omega arith) e)
 
-          bound : (k : ℕ) → In (top + k) u → (h : ℕ → ℕ) → Keeps top h → Met h (equations u (rowValues p n)) → h (top + k) ≡ stateOf top out k
+          bound : (k : ℕ) → In (top + k) u → (h : ℕ → ℕ) → Keeps top h → Met h (equations u (rowValues p (at n))) → h (top + k) ≡ stateOf top out k
           bound k m h keeps met =
               let (small, e) = fresh-slot k m in
               let there : stateOf top out k ≡ t .step .by (top + k) = (λ j. t .step .state j k) ∙ ap (t .step .by) e in
-              let (w, i, constant, f) = taken-value x ws out u (rowValues p n) (b .proper .size) (o .fresh) (row-constants n few) (o .fits n few (t .view-is)) (t .step) k small m in
+              let (w, i, constant, f) = taken-value x ws out u (rowValues p (at n)) (b .proper .size) (o .fresh) (row-constants (at n) few) (o .fits (at n) few (t .view-is)) (t .step) k small m in
               let v = inside out k 0 (top + k) (let z = out-size in omega arith) in
               sym (t .step .unifier .general h keeps met (top + k)) ∙ ap h (sym there) ∙ keeps (stateOf top out k) (omega arith)
 
@@ -265,17 +266,17 @@ module _ (p : List ℕ) (x : Sheet) (r : Ready p x) where
     -- ---- the same in the words of the code: `out` are the words after a row was taken, `res` whether it was
 
     abbrev Take : Bool → List ℕ → Type 0
-    Take res out = Own st → Fresh st u → Constants (rowValues p n) → TakenBy res p view n st out u
+    Take res out = Own st → Fresh st u → Constants (rowValues p (at n)) → TakenBy res p view (at n) st out u
 
-    at-words : (res : Bool) (out : List ℕ) → Take res out → TakenBy res p view n ws out u
-    at-words res out take = subst (λ l. (Own l → Fresh l u → Constants (rowValues p n) → TakenBy res p view n l out u) → TakenBy res p view n ws out u) (sym (here .same)) (λ f. f (own-proper ws (b .proper)) (o .fresh) (row-constants n few)) take
+    at-words : (res : Bool) (out : List ℕ) → Take res out → TakenBy res p view (at n) ws out u
+    at-words res out take = subst (λ l. (Own l → Fresh l u → Constants (rowValues p (at n)) → TakenBy res p view (at n) l out u) → TakenBy res p view (at n) ws out u) (sym (here .same)) (λ f. f (own-proper ws (b .proper)) (o .fresh) (row-constants (at n) few)) take
 
-    took : (res : Bool) (out : List ℕ) → Take res out → res ≡ true → Taken p view n ws out u
+    took : (res : Bool) (out : List ℕ) → Take res out → res ≡ true → Taken p view (at n) ws out u
     took true out take e = at-words true out take
     took false out take e = absurd (true≢false (sym e))
 
     -- the row was not taken
-    pub going-passed : (res : Bool) (out lx : List ℕ) (c : ℕ) → Take res out → GivenTo res lw lx u c → res ≡ false → Going p x y ws lv out lx marks view u (n + 1)
+    pub going-passed : (res : Bool) (out lx : List ℕ) (c : ℕ) → Take res out → GivenTo res lw lx u c → res ≡ false → Going p x y ws lv out lx marks view u at (n + 1)
     going-passed true out lx c take to e = absurd (true≢false e)
     going-passed false out lx c take to e =
         let t = at-words false out take in
@@ -288,7 +289,7 @@ module _ (p : List ℕ) (x : Sheet) (r : Ready p x) where
     -- it was, and its slots belong to choice c
     module _ (res : Bool) (out : List ℕ) (take : Take res out) (yes : res ≡ true) (lx : List ℕ) (c deeper : ℕ) (size : length lw ≡ 533) (to : GivenTo res lw lx u c) (above : c < deeper) (le : next ≤ deeper)
         (found : Bool) (end ly : List ℕ) (below : List Bool) (sought : Begins x y out (left - 1) → Levelled out lx deeper → SoughtBy found x y out lx end ly below) where
-      taken : Taken p view n ws out u
+      taken : Taken p view (at n) ws out u
       taken = took res out take yes
 
       a : Assigned lw lx u c
@@ -329,7 +330,7 @@ module _ (p : List ℕ) (x : Sheet) (r : Ready p x) where
         }
 
         -- it may: the next row is tried
-        pub going-taken : (more : List Bool) → MarksAdded marks below next more → Going p x y ws lv back ly more view u (n + 1)
+        pub going-taken : (more : List Bool) → MarksAdded marks below next more → Going p x y ws lv back ly more view u at (n + 1)
         going-taken more d = record {
           same = back-is;
           levels = levels-back out taken lx c deeper size a ly (lost none .levels);
@@ -337,17 +338,46 @@ module _ (p : List ℕ) (x : Sheet) (r : Ready p x) where
           tried = tried-taken out taken lx c deeper size a below more d (lost none .rests);
         }
 
+-- a row taken, under another name of its number
+pub take-at : (p : List ℕ) (res : Bool) (view q k : ℕ) (st out u : List ℕ) → q ≡ k → (Own st → Fresh st u → Constants (rowValues p q) → TakenBy res p view q st out u)
+    → Own st → Fresh st u → Constants (rowValues p k) → TakenBy res p view k st out u
+take-at p res view q k st out u e take = subst (λ z. Own st → Fresh st u → Constants (rowValues p z) → TakenBy res p view z st out u) e take
+
+-- each row has its turn
+turned-below : (first rows i : ℕ) → first + i < rows → turned first rows i ≡ first + i
+unfolding turned
+turned-below first rows i lt = ap (λ b. cond b (first + i) (first + i - rows)) (lt-ltb (first + i) rows lt)
+
+turned-above : (first rows i : ℕ) → rows ≤ first + i → turned first rows i ≡ first + i - rows
+unfolding turned
+turned-above first rows i le = ap (λ b. cond b (first + i) (first + i - rows)) (le-ltb (first + i) rows le)
+
+pub turned-inside : (first rows i : ℕ) → first < rows → i < rows → turned first rows i < rows
+turned-inside first rows i a b = ⊎-elim (λ lt. let e = turned-below first rows i lt in omega arith) (λ le. let e = turned-above first rows i le in omega arith) (less? (first + i) rows)
+
+pub turned-by : (first rows i : ℕ) → (k : ℕ) → k ≡ first + i → (rows ≤ k → k - rows ≡ turned first rows i) × (k < rows → k ≡ turned first rows i)
+turned-by first rows i k e = (λ le. let t = turned-above first rows i (omega arith) in omega arith, λ lt. let t = turned-below first rows i (omega arith) in omega arith)
+
+turn-of : (first rows j : ℕ) → first < rows → j < rows → (i : ℕ) × (i < rows) × (turned first rows i ≡ j)
+turn-of first rows j a b = ⊎-elim
+    (λ lt. (j + rows - first, omega arith, (let e = turned-above first rows (j + rows - first) (omega arith) in omega arith)))
+    (λ le. (j - first, omega arith, (let e = turned-below first rows (j - first) (omega arith) in omega arith)))
+    (less? j first)
+
 -- all rows tried
-pub going-all : (p : List ℕ) (x y : Sheet) (ws lv st lw : List ℕ) (marks : List Bool) (view : ℕ) (u : List ℕ) (n : ℕ) → n ≡ rowCount p → Going p x y ws lv st lw marks view u n → Lost y ws lv st lw marks
-going-all p x y ws lv st lw marks view u n e here = record {
-  rests = here .opened .refuted marks (within-same marks) (λ i lt. here .tried .each marks (within-same marks) i (omega arith));
+pub going-all : (p : List ℕ) (x y : Sheet) (ws lv st lw : List ℕ) (marks : List Bool) (view : ℕ) (u : List ℕ) (first rows n : ℕ) → rows ≤ n → rows ≡ rowCount p → (0 < rows → first < rows)
+    → Going p x y ws lv st lw marks view u (turned first rows) n → Lost y ws lv st lw marks
+going-all p x y ws lv st lw marks view u first rows n le e inside here = record {
+  rests = here .opened .refuted marks (within-same marks) (λ j lt.
+      let (i, small, f) = turn-of first rows j (inside (omega arith)) (omega arith) in
+      subst (λ k. rowAt p k 0 ≡ view → RefutedBy top y (relaxed ws lv marks) (equations u (rowValues p k))) f (here .tried .each marks (within-same marks) i (omega arith)));
   kept = here .same;
   levels = here .levels;
 }
 
 -- none tried yet
-pub going-first : (p : List ℕ) (x y : Sheet) (ws lv : List ℕ) (marks : List Bool) (view : ℕ) (u : List ℕ) → Opened p x y ws lv marks view u → Going p x y ws lv ws lv marks view u 0
-going-first p x y ws lv marks view u o = record {
+pub going-first : (p : List ℕ) (x y : Sheet) (ws lv : List ℕ) (marks : List Bool) (view : ℕ) (u : List ℕ) (at : ℕ → ℕ) → Opened p x y ws lv marks view u → Going p x y ws lv ws lv marks view u at 0
+going-first p x y ws lv marks view u at o = record {
   same = refl;
   levels = record { each = λ n lt. refl };
   opened = o;

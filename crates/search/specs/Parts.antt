@@ -1,9 +1,10 @@
 -- What the search's contracts cite. No promise to a caller rests on these.
 use mathlib.Core.Path.{_≡_}
-use mathlib.Core.Bool.{Bool, true, false}
+use mathlib.Core.Bool.{Bool, true, false, cond}
 use mathlib.Core.List.{List, [], _∷_}
 use mathlib.Core.Logic.{_⊎_}
 use Prim.Native.Nat.{ℕ, _+_, _-_, _*_, _<_, _≤_, min}
+use lib.Dec.{ltb}
 use lib.ListN.{length, getD}
 use Rattle.meaning.specs.Meaning.{Block, In}
 use Rattle.meaning.specs.Blocks.{nth}
@@ -156,16 +157,20 @@ abbrev pub JumpsBy : Bool → List Bool → List Bool → ℕ → ℕ → List B
 JumpsBy true old below b next marks = (getD below b true ≡ false) × MarksPut old below marks
 JumpsBy false old below b next marks = MarksAdded old below next marks
 
--- the first n rows of the view are refuted as what the stray row u becomes, whatever the choices that are not marked
-pub record Tried (p : List ℕ) (y : Sheet) (ws lv : List ℕ) (marks : List Bool) (view : ℕ) (u : List ℕ) (n : ℕ) : Type 0 where
-  pub each : (s : List Bool) → Within marks s → (i : ℕ) → i < n → rowAt p i 0 ≡ view → RefutedBy top y (relaxed ws lv s) (equations u (rowValues p i))
+-- the rows are tried from one of them on, round to it again
+unfoldable pub turned : ℕ → ℕ → ℕ → ℕ
+turned first rows i = cond (ltb (first + i) rows) (first + i) (first + i - rows)
+
+-- the first n rows of the view, in that order, are refuted as what the stray row u becomes, whatever the choices that are not marked
+pub record Tried (p : List ℕ) (y : Sheet) (ws lv : List ℕ) (marks : List Bool) (view : ℕ) (u : List ℕ) (at : ℕ → ℕ) (n : ℕ) : Type 0 where
+  pub each : (s : List Bool) → Within marks s → (i : ℕ) → i < n → rowAt p (at i) 0 ≡ view → RefutedBy top y (relaxed ws lv s) (equations u (rowValues p (at i)))
 
 -- where a search stands with a stray row: the words as they were, and the first n rows tried
-pub record Going (p : List ℕ) (x y : Sheet) (ws lv st lw : List ℕ) (marks : List Bool) (view : ℕ) (u : List ℕ) (n : ℕ) : Type 0 where
+pub record Going (p : List ℕ) (x y : Sheet) (ws lv st lw : List ℕ) (marks : List Bool) (view : ℕ) (u : List ℕ) (at : ℕ → ℕ) (n : ℕ) : Type 0 where
   pub same : st ≡ ws
   pub levels : SameLevels ws lv lw
   pub opened : Opened p x y ws lv marks view u
-  pub tried : Tried p y ws lv marks view u n
+  pub tried : Tried p y ws lv marks view u at n
 
 -- a state from which a search may go on: proper, settled, with fewer made-up values than choices left
 pub record Begins (x y : Sheet) (ws : List ℕ) (left : ℕ) : Type 0 where

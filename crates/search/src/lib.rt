@@ -12,7 +12,7 @@ ghost use Rattle.state.specs.State.{Fresh, Constants};
 ghost use Rattle.state.specs.Parts.{Own};
 ghost use Rattle.views.specs.Views.{GivenAt};
 ghost use Rattle.views.specs.Walks as walks;
-ghost use Rattle.search.specs.Parts.{Ready, Proper, sheetBy, fromBy, numbersOf, NodeBy, GivenBy, ShutBy, ByStrays, TakenBy, GivenTo, JumpsBy, Begins, Levelled, SoughtBy, Counted, Heads, HeadsBy, FoundBy};
+ghost use Rattle.search.specs.Parts.{Ready, Proper, sheetBy, fromBy, numbersOf, NodeBy, GivenBy, ShutBy, ByStrays, TakenBy, GivenTo, JumpsBy, turned, Begins, Levelled, SoughtBy, Counted, Heads, HeadsBy, FoundBy};
 ghost use Rattle.verdicts.specs.Verdict.{Sheet};
 
 // The places of a plan's parts.
@@ -89,13 +89,15 @@ fn row_of(p: &[usize; 1184], i: usize) -> [usize; 4]
     [p[at + 1], p[at + 2], p[at + 3], p[at + 4]]
 }
 
-// What a state is found to be: done and good, done and refuted, or open, with a stray row of a view and how many listed rows fit it.
+// What a state is found to be: done and good, done and refuted, or open, with a stray row of a view, how many listed rows fit it, and which
+// to try first.
 struct Finding {
     done: bool,
     good: bool,
     view: usize,
     values: [usize; 4],
     fit: usize,
+    first: usize,
 }
 
 // A state that is done.
@@ -108,6 +110,7 @@ fn ended(good: bool) -> Finding
         view: 0,
         values: [0; 4],
         fit: 0,
+        first: 0,
     }
 }
 
@@ -127,6 +130,91 @@ fn mark_given(
 {
     let at = views::witness(p, b, facts, row);
     reasons::mark_facts(p, st, lv, from, at, p[SIZES + b], marks);
+}
+
+// A value where the row u has become another one.
+fn value_as(u: &[usize; 4], row: &[usize; 4], v: usize) -> usize {
+    let mut c = 0;
+    while c < 4 {
+        if u[c] == v {
+            return row[c];
+        }
+        c += 1;
+    }
+    v
+}
+
+// Whether fact i is fact a where the row u has become another one.
+fn is_as(facts: &[usize], i: usize, a: usize, u: &[usize; 4], row: &[usize; 4]) -> bool
+    requires { ⌜ (i < length (now facts) / 5) × (a < length (now facts) / 5) ⌝ }
+{
+    if facts[i * 5] != facts[a * 5] {
+        return false;
+    }
+    let mut c = 1;
+    while c < 5 {
+        if facts[i * 5 + c] != value_as(u, row, facts[a * 5 + c]) {
+            return false;
+        }
+        c += 1;
+    }
+    true
+}
+
+// Whether fact a is there already where the row u has become another one.
+fn is_known(facts: &[usize], a: usize, u: &[usize; 4], row: &[usize; 4]) -> bool {
+    let m = facts.len() / 5;
+    if m <= a {
+        return false;
+    }
+    let mut i = 0;
+    while i < m {
+        if is_as(facts, i, a, u, row) {
+            return true;
+        }
+        i += 1;
+    }
+    false
+}
+
+// Whether the first n of the facts that give u are there already where u has become another row.
+fn are_known(facts: &[usize], n: usize, at: &[usize; 6], u: &[usize; 4], row: &[usize; 4]) -> bool {
+    let mut j = 0;
+    while j < 6 {
+        if n <= j {
+            return true;
+        }
+        if !is_known(facts, at[j], u, row) {
+            return false;
+        }
+        j += 1;
+    }
+    true
+}
+
+// A listed row of the view that brings no fact that is not there already, if there is one: it is tried first.
+fn known_row(
+    p: &[usize; 1184],
+    facts: &[usize],
+    view: usize,
+    u: &[usize; 4],
+    at: &[usize; 6],
+) -> usize
+    requires { ⌜ view < 8 ⌝ }
+{
+    let n = p[SIZES + (2 + view)];
+    let rows = row_count(p);
+    let mut i = 0;
+    while i < rows {
+        if view_of(p, i) == view {
+            let row = row_of(p, i);
+            if are_known(facts, n, at, u, &row) {
+                return i;
+            }
+        }
+        i += 1;
+    }
+    0
 }
 
 // What stray rows say of a state; of one, the choices are marked.
@@ -151,6 +239,7 @@ fn by_strays(
         return ended(false);
     }
     let at = s.at;
+    let first = known_row(p, facts, view, &values, &at);
     reasons::mark_facts(p, st, lv, from, at, p[SIZES + (2 + view)], marks);
     Finding {
         done: false,
@@ -158,6 +247,7 @@ fn by_strays(
         view,
         values,
         fit: s.fit,
+        first,
     }
 }
 
@@ -316,6 +406,25 @@ fn following(b: usize, next: usize) -> usize
     b + 1
 }
 
+// The first row to try, where it is one of the rows.
+fn below_or_0(first: usize, rows: usize) -> usize
+    ensures { λ r. ⌜ (0 < rows → r < rows) ⌝ }
+{
+    if first < rows { first } else { 0 }
+}
+
+// The row whose turn is the i-th.
+fn turn(first: usize, rows: usize, i: usize) -> usize
+    requires { ⌜ (first < rows) × (i < rows) × (rows ≤ 40) ⌝ }
+    ensures { λ r. ⌜ (r ≡ turned first rows i) × (r < rows) ⌝ }
+{
+    let k = first + i;
+    if rows <= k {
+        return k - rows;
+    }
+    k
+}
+
 // Looks below a settled state for a good one, at most so many choices deep. True: it stands in the words. False: there is none, the words are
 // as they were, and the choices that this rests on are marked.
 fn seek(
@@ -341,10 +450,11 @@ fn seek(
     let b = choice(f.fit, next, marks);
     let deeper = following(b, next);
     let rows = row_count(p);
+    let first = below_or_0(f.first, rows);
     let mut below = [false; CHOICES];
     let mut i = 0;
     while i < rows {
-        let k = i;
+        let k = turn(first, rows, i);
         i += 1;
         if !take(p, st, lv, f.view, &f.values, k, b) {
             continue;

@@ -12,17 +12,18 @@ use Rattle.search.proofs.by_strays.Reads as reads
 use Rattle.search.proofs.by_strays.Lts as lts
 use Rattle.reasons.proofs.mark_facts.Reads as mark-facts-reads
 use Rattle.search.proofs.ended.Reads as ended-reads
+use Rattle.search.proofs.known_row.Reads as known-row-reads
 use Rattle.strays.proofs.find.Reads as find-reads
 
--- src/lib.rt:144:9
+-- src/lib.rt:226:9
 find-requires : tie.Need-find-requires
 find-requires c κs = search needs
 
--- src/lib.rt:146:9
+-- src/lib.rt:228:9
 ended-requires : tie.Need-ended-requires
 ended-requires c κs = search needs
 
--- src/lib.rt:146:9
+-- src/lib.rt:228:9
 returns : tie.Need-returns
 returns c = λ ready room.
     let s = c .before .before .before .before .before .before .before .before in
@@ -30,11 +31,11 @@ returns c = λ ready room.
     let e = c .ended in
     none-left (s .args .p .now) (s .args .facts .now) (s .args .st .now) (s .args .lv .now) (s .args .from) (s .args .marks .now) (t .result .some) (t .result .view) (t .result .values) (not-true (t .result .some) (c .before .if1 .taken)) (t .ensures .0 ready) (e .result .done) (e .result .good) (e .ensures .0) (e .ensures .1) (e .result .view) (e .result .values)
 
--- src/lib.rt:151:9
+-- src/lib.rt:233:9
 ended-requires-2 : tie.Need-ended-requires-2
 ended-requires-2 c κs = search needs
 
--- src/lib.rt:151:9
+-- src/lib.rt:233:9
 returns-2 : tie.Need-returns-2
 returns-2 c = λ ready room.
     let s = c .before .before .before .before .before .before .before .before .before .before in
@@ -44,36 +45,40 @@ returns-2 c = λ ready room.
     let v = stray-is (s .args .p .now) (s .args .facts .now) (t .result .some) (t .result .view) (t .result .values) (not-false (t .result .some) (c .before .before .before .if1 .left)) (t .ensures .0 ready) .view in
     absurd (omega arith)
 
--- src/lib.rt:154:48
+-- src/lib.rt:236:9
+known-row-requires : tie.Need-known-row-requires
+known-row-requires c κs = search needs
+
+-- src/lib.rt:237:57
 add-mark-facts : tie.Need-add-mark-facts
 add-mark-facts c = search needs
 
--- src/lib.rt:154:48
+-- src/lib.rt:237:48
 add-mark-facts-2 : tie.Need-add-mark-facts-2
 add-mark-facts-2 c = search needs
 
--- src/lib.rt:154:46
+-- src/lib.rt:237:46
 mul-mark-facts : tie.Need-mul-mark-facts
 mul-mark-facts c = search needs
 
--- src/lib.rt:154:46
+-- src/lib.rt:237:46
 element-copy-out-mark-facts : tie.Need-element-copy-out-mark-facts
 element-copy-out-mark-facts c = search needs
 
--- src/lib.rt:154:5
+-- src/lib.rt:237:5
 mark-facts-requires : tie.Need-mark-facts-requires
 mark-facts-requires c κs = search needs
 
--- src/lib.rt:133:1
+-- src/lib.rt:215:1
 same-length : tie.Need-same-length
 same-length c = search needs
 
--- src/lib.rt:133:1
+-- src/lib.rt:215:1
 returns-3 : tie.Need-returns-3
 returns-3 c = λ ready room.
-    let s = c .before .before .before .before .before .before .before .before .before .before .before .before .before .before .before in
-    let t = c .before .before .before .before .before .before .before .before .before .before .find in
-    let some = not-false (t .result .some) (c .before .before .before .before .before .before .before .before .if1 .left) in
+    let s = c .before .before .before .before .before .before .before .before .before .before .before .before .before .before .before .before .before .before in
+    let t = c .before .before .before .before .before .before .before .before .before .before .before .before .before .find in
+    let some = not-false (t .result .some) (c .before .before .before .before .before .before .before .before .before .before .before .if1 .left) in
     let v = stray-is (s .args .p .now) (s .args .facts .now) (t .result .some) (t .result .view) (t .result .values) some (t .ensures .0 ready) in
     let w = t .ensures .1 ready some in
     let m = c .before .before .mark-facts .ensures (s .pre .0) (s .pre .1) (λ j lt. let z = w .inside j lt in omega arith) in
@@ -88,6 +93,7 @@ by-strays-spec =
     returns
     ended-requires-2
     returns-2
+    known-row-requires
     add-mark-facts
     add-mark-facts-2
     mul-mark-facts
