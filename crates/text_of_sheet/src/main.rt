@@ -1,0 +1,38 @@
+// Prints the text of the sheet of standard input; where it is refused, standard error says why.
+use format::Ending;
+use format::MOST_SHEET_BYTES;
+use libc::STDERR_FILENO;
+use libc::STDIN_FILENO;
+use libc::STDOUT_FILENO;
+use text::Made;
+use text::SPOKEN_BYTES;
+use text::TEXT_BYTES;
+
+// What is read: one byte more than a sheet may have, so that a longer one is refused.
+const READ: usize = MOST_SHEET_BYTES + 1;
+
+fn main() {
+    let mut given = [0u8; READ];
+    let n = io::read_full(STDIN_FILENO, &mut given);
+    print(&given[..n]);
+}
+
+fn print(given: &[u8]) {
+    let mut text = [0u8; TEXT_BYTES];
+    match text::text_of(given, &mut text) {
+        Ending::Done(n) => {
+            if n <= text.len() {
+                io::write_all(STDOUT_FILENO, &text[0..n]);
+            }
+        }
+        Ending::Refused(number, line) => complain(number, line),
+    }
+}
+
+fn complain(number: usize, line: usize) {
+    let mut words = [0u8; SPOKEN_BYTES];
+    let n = text::message(Made::Refused(number, line, 0), &mut words);
+    if n <= words.len() {
+        io::write_all(STDERR_FILENO, &words[0..n]);
+    }
+}

@@ -1,0 +1,88 @@
+-- Each line is within the words. The measure is the lines that are left.
+use mathlib.Core.Path.{_≡_}
+use Prim.Native.Nat.{_≤_, _-_}
+use borrow.Author.Needs.{needs}
+use lib.ListN.{length}
+use Rattle.text_writer.proofs.put_lines.Statement.{statement}
+use Rattle.text_writer.proofs.put_lines.Tie as tie
+
+abbrev Inv-loop : tie.InvT-loop
+Inv-loop out₀ words lines n₀ block₀ i₀ out n block i = (i ≤ lines) × (length out ≡ length out₀)
+
+abbrev μ-loop : tie.MeasureT-loop
+μ-loop out₀ words lines n₀ block₀ i₀ out n block i = lines - i
+
+loop-holds : tie.Need-loop-holds Inv-loop μ-loop
+loop-holds c = search needs
+
+mul-from : tie.Need-mul-from Inv-loop μ-loop
+mul-from c = search needs
+
+kind-at-requires : tie.Need-kind-at-requires Inv-loop μ-loop
+kind-at-requires c κs = search needs
+
+block-at-requires : tie.Need-block-at-requires Inv-loop μ-loop
+block-at-requires c κs = search needs
+
+add-put-line : tie.Need-add-put-line Inv-loop μ-loop
+add-put-line c = search needs
+
+mul-put-line : tie.Need-mul-put-line Inv-loop μ-loop
+mul-put-line c = search needs
+
+sub-put-line : tie.Need-sub-put-line Inv-loop μ-loop
+sub-put-line c = search needs
+
+part-put-line-start : tie.Need-part-put-line-start Inv-loop μ-loop
+part-put-line-start c = search needs
+
+part-put-line-end : tie.Need-part-put-line-end Inv-loop μ-loop
+part-put-line-end c = search needs
+
+add-kind-at : tie.Need-add-kind-at Inv-loop μ-loop
+add-kind-at c = search needs
+
+kind-at-requires-2 : tie.Need-kind-at-requires-2 Inv-loop μ-loop
+kind-at-requires-2 c κs = search needs
+
+put-line-requires : tie.Need-put-line-requires Inv-loop μ-loop
+put-line-requires c κs = search needs
+
+add-i : tie.Need-add-i Inv-loop μ-loop
+add-i c = search needs
+
+loop-less : tie.Need-loop-less Inv-loop μ-loop
+loop-less c = search needs
+
+loop-again : tie.Need-loop-again Inv-loop μ-loop
+loop-again c = search needs
+
+same-length : tie.Need-same-length Inv-loop μ-loop
+same-length c = search needs
+
+returns : tie.Need-returns Inv-loop μ-loop
+returns c = search needs
+
+pub put-lines-spec : {M : Type 1} → statement M
+put-lines-spec =
+    tie.close
+    (tie.spec
+    Inv-loop
+    μ-loop
+    loop-holds
+    mul-from
+    kind-at-requires
+    block-at-requires
+    add-put-line
+    mul-put-line
+    sub-put-line
+    part-put-line-start
+    part-put-line-end
+    add-kind-at
+    kind-at-requires-2
+    put-line-requires
+    add-i
+    loop-less
+    loop-again
+    same-length
+    returns)

@@ -1,0 +1,314 @@
+#!/usr/bin/env python3
+"""The stored cases of crates/text_tests: texts and sheets, with what is to be said of each.
+
+usage: text_cases.py            writes crates/text_tests/stdin and stdout
+       text_cases.py --check    says whether the stored files are these
+       text_cases.py --run      runs the built programs (rt check) on made-up sheets, and compares them with a writer and a reader of
+                                its own
+
+What is expected was worked out by hand from the paper, and not taken from the program. The values that a log has beyond the sheet's are
+free: they are in the one case marked so as the library chooses them.
+"""
+import pathlib
+import random
+import subprocess
+import sys
+
+ROOT = pathlib.Path(__file__).resolve().parent.parent
+CRATE = ROOT / "crates" / "text_tests"
+RELATIONS = "a relation: Rower, Strap, Worn, Sig, Beat, Noise, Pulse, Coach, Seat or Pause"
+CAUSES = {
+    1: "the sheet is too long",
+    2: "a line or a field is malformed",
+    3: "a line is out of place, or the question or the list is missing",
+    4: "no such relation, or not its columns",
+    5: "a term is out of range, or a row has a variable",
+    6: "one atom, view or row too many",
+    7: "a head or a row has the wrong length",
+    8: "a block has no atoms, or a variable of its head is in none",
+    9: "a row is not above the one before it",
+}
+QL = "q(s): Strap(s)/l(s): Strap(s)/"
+QL_BACK = "q(a): Strap(a)/l(a): Strap(a)/"
+
+
+def field(n):
+    return "%8d" % n
+
+
+def lines(*rows):
+    """A sheet, with "/" for the end of a line."""
+    return "".join("".join(field(n) for n in row) + "/" for row in rows)
+
+
+def expected(line, what):
+    return f"line {line}: expected {what}"
+
+
+def refused(cause, line=0, text=0):
+    at = f" at line {line}" if line else ""
+    of = f" of the sheet, line {text} of the text" if text else ""
+    return f"refused: cause {cause}{at}{of}: {CAUSES[cause]}"
+
+
+PAPER = "q(s,t): Sig(s,t)/l(s,t): Beat(s,t)/"
+PAPER_BACK = "q(a,b): Sig(a,b)/l(a,b): Beat(a,b)/"
+MANY = "q(): Rower(1,2), Strap(3), Worn(4,5,6), Sig(7,8), Beat(9,10), Noise(11,12)/"
+REST = "l(): Pulse(1,2,3), Coach(4,5), Seat(6,7,8,9), Pause(10)/"
+SHEET = lines((1, -1, -2), (4, 4, -1, -2), (2, -1, -2), (4, 5, -1, -2), (3, -1, -2), (4, 4, -1, -2), (5, 7, 1), (5, 7, 2))
+TWELVE = "q(): Worn(a,b,c), Worn(d,e,f), Worn(g,h,i), Worn(j,k,l)"
+
+# heading, or name, what is given, what is said, and the text of its sheet where it is a text that has one
+CASES = [
+    "# the judged examples",
+    ("whole", PAPER + "v(s,t): Sig(s,t) = (7,1); (7,2)/", "not covered: (7,1) is missing. Log: Sig(7,1), Sig(7,2)",
+     PAPER_BACK + "v(a,b): Sig(a,b) = (7,1); (7,2)/"),
+    ("no rows", PAPER + "v(s,t): Sig(s,t) =/", "covered", PAPER_BACK + "v(a,b): Sig(a,b) =/"),
+    ("both views", PAPER + "v(s,t): Sig(s,t) = (7,1)/v(s,t): Beat(s,t) = (7,1)/", "covered",
+     PAPER_BACK + "v(a,b): Sig(a,b) = (7,1)/v(a,b): Beat(a,b) = (7,1)/"),
+    ("head constant", "q(s): Sig(s,t)/l(7): Sig(7,t)/v(s): Sig(s,t) = 7/", "covered", "q(a): Sig(a,b)/l(7): Sig(7,a)/v(a): Sig(a,b) = 7/"),
+    # the two ticks are free
+    ("two rows", "q(s): Sig(s,t)/l(7): Sig(7,t)/v(s): Sig(s,t) = 7; 8/", "not covered: (8) is missing. Log: Sig(7,FREE), Sig(8,FREE)",
+     "q(a): Sig(a,b)/l(7): Sig(7,a)/v(a): Sig(a,b) = 7; 8/"),
+    ("no log", QL + "v(): Beat(s,t) = ()/v(s,t): Beat(s,t) =/", "no log gives these rows",
+     QL_BACK + "v(): Beat(a,b) = ()/v(a,b): Beat(a,b) =/"),
+    ("004 example 5", "q(a): Strap(a), Pause(b)/l(a): Strap(a)/v(): Strap(a), Pause(a) =/", "covered",
+     "q(a): Strap(a), Pause(b)/l(a): Strap(a)/v(): Strap(a), Pause(a) =/"),
+    ("empty head", "q(): Beat(7,1), Noise(7,2)/l(): Pause(1)/v(t): Beat(7,t), Noise(7,t) =/",
+     "not covered: () is missing. Log: Beat(7,1), Noise(7,2)", "q(): Beat(7,1), Noise(7,2)/l(): Pause(1)/v(a): Beat(7,a), Noise(7,a) =/"),
+    ("empty head, same tick", "q(): Beat(7,1), Noise(7,1)/l(): Pause(1)/v(t): Beat(7,t), Noise(7,t) =/", "covered",
+     "q(): Beat(7,1), Noise(7,1)/l(): Pause(1)/v(a): Beat(7,a), Noise(7,a) =/"),
+    "# every relation by its name",
+    ("first six", MANY + REST, "not covered: () is missing. Log: Rower(1,2), Strap(3), Worn(4,5,6), Sig(7,8), Beat(9,10), Noise(11,12)", MANY + REST),
+    ("last four", "q" + REST[1:] + "l(): Strap(1)/", "not covered: () is missing. Log: Pulse(1,2,3), Coach(4,5), Seat(6,7,8,9), Pause(10)",
+     "q" + REST[1:] + "l(): Strap(1)/"),
+    ("four columns", "q(a,b,c,d): Seat(a,b,c,d)/l(a,b,c,d): Seat(a,b,c,d), Pause(b)/v(a,b,c,d): Seat(a,b,c,d) = (1,2,3,4)/v(p): Pause(p) =/",
+     "not covered: (1,2,3,4) is missing. Log: Seat(1,2,3,4)",
+     "q(a,b,c,d): Seat(a,b,c,d)/l(a,b,c,d): Seat(a,b,c,d), Pause(b)/v(a,b,c,d): Seat(a,b,c,d) = (1,2,3,4)/v(a): Pause(a) =/"),
+    "# what may be written otherwise",
+    ("bare rows", PAPER + "v(s,t): Sig(s,t) = 7,1; 7,2/", "not covered: (7,1) is missing. Log: Sig(7,1), Sig(7,2)",
+     PAPER_BACK + "v(a,b): Sig(a,b) = (7,1); (7,2)/"),
+    ("one column in brackets", QL + "v(s): Strap(s) = (7); 8/", "covered", QL_BACK + "v(a): Strap(a) = 7; 8/"),
+    ("words", "q(strap,tick): Sig(strap,tick)/l(s1,t2): Sig(s1,t2)/", "covered", "q(a,b): Sig(a,b)/l(a,b): Sig(a,b)/"),
+    ("by first place", "q(): Sig(t,s), Beat(s,t)/l(): Sig(s,s)/v(t): Sig(s,t) =/", "covered",
+     "q(): Sig(a,b), Beat(b,a)/l(): Sig(a,a)/v(a): Sig(b,a) =/"),
+    ("blanks", "  q ( s ) :\tStrap ( s )  \r/l(s):Strap(s)/ v(s) : Strap(s)=7 ;8", "covered", QL_BACK + "v(a): Strap(a) = 7; 8/"),
+    ("comments", "# a list/" + "//  # another: q(/q(s): Strap(s)//l(s): Strap(s)/#", "covered", QL_BACK),
+    ("digits", "q(007): Strap(007)/l(7): Strap(7)/", "covered", "q(7): Strap(7)/l(7): Strap(7)/"),
+    ("largest constant", "q(999999): Strap(999999)/l(0): Strap(0)/v(s): Strap(s) = 999999/", "not covered: (999999) is missing. Log: Strap(999999)",
+     "q(999999): Strap(999999)/l(0): Strap(0)/v(a): Strap(a) = 999999/"),
+    ("twelve variables", TWELVE + "/l(): " + TWELVE[5:] + "/", "covered", TWELVE + "/l(): " + TWELVE[5:] + "/"),
+    "# what is expected",
+    ("question", "l(s): Strap(s)/", expected(1, "q, the question")),
+    ("question's letter", "question(s): Strap(s)/", expected(1, "q, the question")),
+    ("list", "q(s): Strap(s)//# views/v(s): Strap(s) =/", expected(4, "l, the saved list")),
+    ("view", QL + "w(s): Strap(s) =/", expected(3, "v, a view")),
+    ("bracket of a head", "q s: Strap(s)/", expected(1, "(")),
+    ("bracket of an atom", "q(s): Strap s/", expected(1, "(")),
+    ("head", "q(,s): Strap(s)/", expected(1, "a variable, a number or )")),
+    ("row in brackets", QL + "v(s): Strap(s) = (;/", expected(3, "a variable, a number or )")),
+    ("term of a head", "q(s,): Strap(s)/", expected(1, "a variable or a number")),
+    ("term of an atom", "q(s): Strap()/", expected(1, "a variable or a number")),
+    ("minus", "q(s): Strap(-1)/", expected(1, "a variable or a number")),
+    ("comma", "q(s t): Sig(s,t)/", expected(1, ", or )")),
+    ("word after a number", "q(s): Strap(7s)/", expected(1, ", or )")),
+    ("open atom", "q(s): Strap(s", expected(1, ", or )")),
+    ("colon", "q(s) Strap(s)/", expected(1, ":")),
+    ("relation", "q(s): Strop(s)/", expected(1, RELATIONS)),
+    ("longer name", "q(s): Straps(s)/", expected(1, RELATIONS)),
+    ("shorter name", "q(s): Si(s)/", expected(1, RELATIONS)),
+    ("no atoms", "q(s):/", expected(1, RELATIONS)),
+    ("no atom after a comma", "q(s): Strap(s),/", expected(1, RELATIONS)),
+    ("one column", "q(s): Strap(s,t)/", expected(1, "one column in Strap")),
+    ("two columns", "q(s): Strap(s)/l(s): Sig(s)/", expected(2, "two columns in Sig")),
+    ("three columns", "q(s): Worn(s,t)/", expected(1, "three columns in Worn")),
+    ("four columns wanted", "q(s): Seat(s,t,u,v,w)/", expected(1, "four columns in Seat")),
+    ("long head", "q(a,b,c,d,e): Strap(a)/", expected(1, "at most four columns")),
+    ("long row", QL + "v(s): Strap(s) = 1,2,3,4,5/", expected(3, "at most four columns")),
+    ("end of an atom", "q(s): Strap(s) Strap(s)/", expected(1, ", or the end of the line")),
+    ("rows of a list", "q(s): Strap(s)/l(s): Strap(s) = 7/", expected(2, ", or the end of the line")),
+    ("rows", QL + "v(s): Strap(s)/", expected(3, ", or = and the rows")),
+    ("first row", QL + "v(s): Strap(s) = ;/", expected(3, "a row or the end of the line")),
+    ("variable for a row", QL + "v(s): Strap(s) = s/", expected(3, "a row or the end of the line")),
+    ("row", QL + "v(s): Strap(s) = 7;/", expected(3, "a row")),
+    ("bare row", QL + "v(s): Strap(s) = 7 8/", expected(3, ", or ; or the end of the line")),
+    ("end of a row", QL + "v(s): Strap(s) = (7) (8)/", expected(3, "; or the end of the line")),
+    "# what the library refuses of a text",
+    ("no list", "q(s): Strap(s)/", refused(3)),
+    ("only a comment", "# nothing", refused(3)),
+    ("constant", "# too large/q(1000000): Strap(s)/l(0): Strap(s)/", refused(5, 1, 2)),
+    ("long number", "q(s): Strap(s), Strap(123456789012)/l(0): Strap(s)/", refused(5, 3, 1)),
+    ("variable in a row", QL + "v(s): Strap(s) = (s)/", refused(5, 7, 3)),
+    ("thirteen variables", TWELVE + ", Strap(m)/l(): Strap(s)/", refused(5, 6, 1)),
+    ("seven atoms", "q(s): " + ", ".join(["Strap(s)"] * 7) + "/l(s): Strap(s)/", refused(6, 8, 1)),
+    ("four atoms in a view", QL + "v(s): " + ", ".join(["Strap(s)"] * 4) + " =/", refused(6, 9, 3)),
+    ("nine views", QL + "v(s): Strap(s) =/" * 9, refused(6, 21, 11)),
+    ("row 41", QL + "v(s): Strap(s) = " + "; ".join(str(n) for n in range(41)) + "/", refused(6, 47, 3)),
+    ("too long", QL + "v(s): Strap(s) = " + "; ".join(str(n) for n in range(90)) + "/", refused(1)),
+    ("list's length", "q(s): Strap(s)/l(): Strap(s)/", refused(7, 3, 2)),
+    ("row's length", QL + "v(s): Strap(s) = (7,1)/", refused(7, 7, 3)),
+    ("head variable", "q(s): Strap(t)/l(s): Strap(s)/", refused(8, 1, 1)),
+    ("head variable of a view", QL + "v(t): Strap(s) =/", refused(8, 5, 3)),
+    ("order", QL + "v(s): Strap(s) = 8; 7/", refused(9, 8, 3)),
+    "# sheets",
+    ("sheet", SHEET, "not covered: (7,1) is missing. Log: Sig(7,1), Sig(7,2)"),
+    ("empty sheet", "", refused(3)),
+    ("no sheet", "      1x/", refused(2, 1)),
+    ("relation 11", lines((1, -1), (4, 11, -1)), refused(4, 2)),
+    ("sheet's order", lines((1, -1), (4, 2, -1), (2, -1), (4, 2, -1), (3, -1), (4, 2, -1), (5, 8), (5, 8)), refused(9, 8)),
+]
+
+
+def stored(free=None):
+    given, said = [], []
+    for case in CASES:
+        if isinstance(case, str):
+            given.append(case)
+            said.append(case)
+            continue
+        name, text, words = case[:3]
+        given.append(f"{name}|{text}")
+        for value in free or ():
+            words = words.replace("FREE", value, 1)
+        said.append(f"{name}|{words}")
+        if len(case) == 4:
+            said.append(case[3].rstrip("/").replace("/", "\n"))
+            said.append("=")
+    return "".join(l + "\n" for l in given), "".join(l + "\n" for l in said)
+
+
+FREE = ("1000015", "1000028")
+
+
+NAMES = ["Rower", "Strap", "Worn", "Sig", "Beat", "Noise", "Pulse", "Coach", "Seat", "Pause"]
+COLUMNS = [2, 1, 3, 2, 2, 2, 3, 2, 4, 1]
+VERDICTS = ("covered", "no log gives these rows", "not covered: ", "refused: ", "line ")
+
+
+def ran(name, data):
+    r = subprocess.run([ROOT / "target" / "bin" / name], input=data, capture_output=True, check=True)
+    return r.stdout, r.stderr
+
+
+def made_block(rng, kind, columns):
+    """A block whose head's variables are in its atoms; a term is a constant, or a variable's number below 0."""
+    atoms = []
+    for _ in range(rng.randint(1, 2)):
+        r = rng.randint(1, 10)
+        atoms.append((r, [rng.choice([-1, -2, -3, 7, 8]) for _ in range(COLUMNS[r - 1])]))
+    terms = [t for _, ts in atoms for t in ts]
+    head = [rng.choice(terms) for _ in range(columns)]
+    numbers = {}
+    for t in head + terms:
+        if t < 0:
+            numbers.setdefault(t, -1 - len(numbers))
+    number = lambda ts: [numbers.get(t, t) for t in ts]
+    rows = set()
+    if kind == 3:
+        for _ in range(rng.randint(0, 3)):
+            rows.add(tuple(rng.choice([7, 8, 9, 0, 999999]) for _ in range(columns)))
+    return kind, number(head), [(r, number(ts)) for r, ts in atoms], sorted(rows)
+
+
+def made_sheet(rng):
+    columns = rng.randint(0, 4)
+    kinds = [1, 2] + [3] * rng.randint(0, 3)
+    return [made_block(rng, k, columns if k < 3 else rng.randint(0, 4)) for k in kinds]
+
+
+def bytes_of(sheet):
+    out = []
+    for kind, head, atoms, rows in sheet:
+        out.append((kind, *head))
+        out.extend((4, r, *ts) for r, ts in atoms)
+        out.extend((5, *row) for row in rows)
+    return lines(*out).replace("/", "\n").encode()
+
+
+def text_of(sheet, letters, blank=lambda: "", bare=lambda row: len(row) == 1):
+    """The text of a sheet, with a name for each variable; the blanks and the brackets of rows may differ."""
+    out = []
+    for kind, head, atoms, rows in sheet:
+        term = lambda t: letters[-1 - t] if t < 0 else str(t)
+        closed = lambda ts: "(" + blank() + ",".join(blank() + term(t) for t in ts) + blank() + ")"
+        line = "qlv"[kind - 1] + blank() + closed(head) + ": "
+        line += ", ".join(NAMES[r - 1] + blank() + closed(ts) for r, ts in atoms)
+        if kind == 3:
+            shown = [",".join(map(str, row)) if row and bare(row) else closed(row) for row in rows]
+            line += " =" + "".join(" " + row + ";" for row in shown)[:-1]
+        out.append(line + blank())
+    return "".join(l + "\n" for l in out).encode()
+
+
+def words_of(fields, sheet):
+    """The words for what the program `cover` prints."""
+    rows = [[int(f) for f in l.split()] for l in fields.decode().splitlines()]
+    if rows[0][0] == 9:
+        return refused(*rows[0][1:])
+    if rows[0][0] != 1:
+        return {0: "covered", 2: "no log gives these rows"}[rows[0][0]]
+    show = lambda ts: "(" + ",".join(map(str, ts)) + ")"
+    facts = ", ".join(NAMES[r[1] - 1] + show(r[2:]) for r in rows[2:])
+    return f"not covered: {show(rows[1][1:])} is missing. Log: {facts}"
+
+
+def damaged(rng, text):
+    text = bytearray(text)
+    for _ in range(rng.randint(1, 3)):
+        at = rng.randrange(len(text))
+        text[at : at + rng.randint(0, 2)] = rng.choice([b"", b"(", b")", b",", b";", b"=", b":", b"7", b"s", b"Sig", b"\n", b"#", b"\0", b"\xff"])
+    return bytes(text)
+
+
+def run():
+    rng = random.Random(7)
+    seen = {}
+    for n in range(300):
+        sheet = made_sheet(rng)
+        data = bytes_of(sheet)
+        plain = text_of(sheet, "abcdefghijkl")
+        other = text_of(sheet, ["s", "t1", "crew"], lambda: rng.choice(["", " ", "\t"]), lambda row: rng.random() < 0.5)
+        for text in (plain, other):
+            assert ran("sheet_of_text", text) == (data, b""), (text, data)
+        assert ran("text_of_sheet", data) == (plain, b""), (data, plain)
+        words = words_of(ran("cover", data)[0], sheet) + "\n"
+        for given in (data, other):
+            assert ran("cover_text", given)[0].decode() == words, (given, words)
+        bad = damaged(rng, other)
+        said = ran("cover_text", bad)[0].decode()
+        assert said.startswith(VERDICTS) and said.endswith("\n"), (bad, said)
+        made, why = ran("sheet_of_text", bad)
+        assert (why == b"") == (ran("cover", made)[0][:8] != b"       9"), (bad, made, why)
+        for s in (words, said):
+            seen[next(v for v in VERDICTS if s.startswith(v))] = seen.get(next(v for v in VERDICTS if s.startswith(v)), 0) + 1
+    # the longest sheet: every limit met, and every term six digits long
+    four = [999999] * 4
+    views = [(3, four, [(9, four)] * 3, [(999999, 999999, 999999, 999950 + 5 * v + n) for n in range(5)]) for v in range(8)]
+    longest = [(1, four, [(9, four)] * 6, []), (2, four, [(9, four)] * 6, [])] + views
+    data, plain = bytes_of(longest), text_of(longest, "")
+    assert ran("text_of_sheet", data) == (plain, b"") and ran("sheet_of_text", plain) == (data, b"")
+    long = b"#" * 65537
+    assert ran("cover_text", long)[0] == b"line 1: expected at most 65536 bytes\n"
+    assert ran("cover_text", long[:65536])[0].startswith(b"refused: cause 3:")
+    print(f"the longest text has {len(plain)} bytes")
+    print("300 sheets and 300 damaged texts:", ", ".join(f"{v.strip()} {k}" for v, k in sorted(seen.items())))
+
+
+def main():
+    given, said = stored(FREE)
+    files = {CRATE / "stdin": given, CRATE / "stdout": said}
+    if sys.argv[1:] == ["--check"]:
+        for path, text in files.items():
+            if path.read_bytes() != text.encode():
+                sys.exit(f"{path.relative_to(ROOT)} is not what this program writes")
+        print(f"{sum(not isinstance(c, str) for c in CASES)} cases, as stored")
+    elif sys.argv[1:] == ["--run"]:
+        run()
+    elif not sys.argv[1:]:
+        for path, text in files.items():
+            path.write_bytes(text.encode())
+    else:
+        sys.exit(__doc__)
+
+
+main()
