@@ -203,9 +203,9 @@ fn known_row(
     requires { ⌜ view < 8 ⌝ }
 {
     let n = p[SIZES + (2 + view)];
-    let rows = row_count(p);
+    let all = row_count(p);
     let mut i = 0;
-    while i < rows {
+    while i < all {
         if view_of(p, i) == view {
             let row = row_of(p, i);
             if are_known(facts, n, at, u, &row) {

@@ -1,8 +1,8 @@
 -- Numbers without a fact, parts of facts, and facts tried, over lists.
 use mathlib.Core.Path.{_≡_, refl, sym, ap, _∙_, subst}
-use mathlib.Core.Bool.{Bool, true, false, cond}
+use mathlib.Core.Bool.{true≢false, Bool, true, false, cond}
 use mathlib.Core.List.{List}
-use Prim.Native.Nat.{ℕ, suc, _+_, _-_, _*_, _<_, _≤_}
+use Prim.Native.Nat.{ℕ, suc, _+_, _-_, _*_, _<_, _≤_, min}
 use native.Mathlib.Omega.{arith}
 use native.Mathlib.Decide.{decLt}
 use borrow.Author.Count.{below-more}
@@ -10,18 +10,24 @@ use borrow.Author.Tests.{lt-ltb, le-ltb}
 use lib.Dec.{ltb}
 use lib.ListN.{length, getD, take, drop, set, length-set, length-append, length-drop, List·getD-append}
 use lib.Seq.{getD-set-same, getD-set-other, ext-getD, getD-take, getD-drop, getD-append-add, length-take-le}
-use Rattle.views.specs.Views.{Agree, MissingBy}
+use Rattle.joins.specs.Joins.{AtomMet, Given}
+use Rattle.plan.specs.Plan.{rowCount, blockNumbers, blockSize}
+use Rattle.views.specs.Views.{Agree, AgreeBy, NoStray, Missing, MissingBy}
+use Rattle.views.specs.Walks.{GivenTo}
 use Rattle.shrink.specs.Shrink.{IsCase, CaseBy, without, Part, Shrunk}
 use Rattle.shrink.specs.Parts.{Tried}
 
 -- ---- cases
 
-pub case-not : (p ns : List ℕ) → (Agree p ns → ⊥) → IsCase p ns → ⊥
-case-not p ns f c = f (c .0)
+pub left-not : (p ns : List ℕ) → (GivenTo p ns (rowCount p) → ⊥) → IsCase p ns → ⊥
+left-not p ns f c = f (record { all = c .0 .0 })
 
-pub case-by : (b : Bool) (p ns u : List ℕ) → Agree p ns → MissingBy b p ns u → CaseBy b p ns
-case-by true p ns u a m = (a, (u, m .missing))
-case-by false p ns u a m = λ c. m (c .1 .0) (c .1 .1)
+pub left-by : (b : Bool) (p ns u : List ℕ) → GivenTo p ns (rowCount p) → NoStray p ns → MissingBy b p ns u → CaseBy b p ns
+left-by true p ns u g s m = ((g .all, s), (u, m .missing))
+left-by false p ns u g s m = λ c. m (c .1 .0) (c .1 .1)
+
+pub left-seen : (p ns u : List ℕ) → GivenTo p ns (rowCount p) → NoStray p ns → Missing p ns u → IsCase p ns
+left-seen p ns u g s m = ((g .all, s), (u, m))
 
 -- ---- the numbers without a fact
 
@@ -96,6 +102,31 @@ part-without ns n i l lt = record { from = skip i; inside = inside; rising = ris
         go (no b) =
             let e : j * 5 + c + 5 ≡ skip i j * 5 + c = let s = skip-above i j (omega arith) in omega arith in
             without-above ns n i (j * 5 + c) l lt (omega arith) ∙ ap (λ y. getD ns y 0) e
+
+-- what a part of the facts gives, the facts give too
+pub given-part : (blk : List ℕ) (k : ℕ) (ns : List ℕ) (n : ℕ) (ms : List ℕ) (m : ℕ) (w : List ℕ) → length ns ≡ n * 5 → length ms ≡ m * 5 → Part ns n ms m → Given blk k ms w → Given blk k ns w
+given-part blk k ns n ms m w l l′ q g = record { val = g .val; met = λ j lt. move j (g .met j lt); gives = g .gives }
+  where
+    move : (j : ℕ) → AtomMet blk ms (g .val) j → AtomMet blk ns (g .val) j
+    move j (i, h, b) =
+        let lt : i < m = omega arith in
+        let lt′ = q .inside i lt in (
+          q .from i,
+          omega arith,
+          record {
+            relation = sym (at i lt 0 (omega arith) (i * 5) (q .from i * 5) (omega arith) (omega arith)) ∙ b .relation;
+            columns = λ c h′. sym (at i lt (1 + c) (omega arith) (i * 5 + 1 + c) (q .from i * 5 + 1 + c) (omega arith) (omega arith)) ∙ b .columns c h′;
+          },
+        )
+      where
+        at : (i : ℕ) → i < m → (c : ℕ) → c < 5 → (x y : ℕ) → i * 5 + c ≡ x → q .from i * 5 + c ≡ y → getD ms x 0 ≡ getD ns y 0
+        at i lt c h x y e f = ap (λ z. getD ms z 0) (sym e) ∙ q .same i lt c h ∙ ap (λ z. getD ns z 0) f
+
+-- facts that give no stray row give none without fact i
+pub no-stray-without : (p ns : List ℕ) (n i : ℕ) → length ns ≡ n * 5 → i < n → NoStray p ns → NoStray p (without ns i)
+no-stray-without p ns n i l lt s v h u g =
+    s v h u
+    (given-part (blockNumbers p (2 + v)) (min (blockSize p (2 + v)) 6) ns n (without ns i) (n - 1) u l (length-without ns n i l lt) (part-without ns n i l lt) g)
 
 -- ---- numbers copied, and moved down
 
@@ -175,3 +206,9 @@ tried-again p ns n ms m before i ks k t u = record { part = part-part ns ms ks n
 
 pub shrunk : (p ns : List ℕ) (n : ℕ) (ms : List ℕ) (m before : ℕ) → length ms ≡ m * 5 → m ≡ before → Tried p ns n ms m before m → Shrunk p ns n ms m
 shrunk p ns n ms m before l e t = record { count = l; part = t .part; still = t .still; spare-free = t .needed e }
+
+-- ---- facts that do not agree
+
+pub disagrees : (b : Bool) (p ns : List ℕ) → b ≡ false → AgreeBy b p ns → Agree p ns → ⊥
+disagrees true p ns e a = absurd (true≢false e)
+disagrees false p ns e a = a

@@ -1,8 +1,10 @@
 // Dropping facts from a case until none is to spare.
 ghost use mathlib.Core.Path.{_≡_};
+ghost use mathlib.Core.Bool.{true};
 ghost use Prim.Native.Nat.{_-_, _*_, _<_, _≤_};
 ghost use lib.ListN.{length, take};
 ghost use Rattle.views.specs.Walks as walks;
+ghost use Rattle.views.specs.Views.{NoStray, Missing, AgreeBy};
 ghost use Rattle.shrink.specs.Shrink.{IsCase, CaseBy, without, Shrunk};
 ghost use Rattle.shrink.specs.Parts.{Tried};
 
@@ -13,15 +15,33 @@ const MOST_FACTS: usize = 126;
 
 const MOST_NUMBERS: usize = MOST_FACTS * WIDTH;
 
-// Whether facts are a case.
-fn is_case(p: &[usize; 1184], facts: &[usize]) -> bool
-    ensures { λ r. ⌜ (walks.Ready (now (p .entry)) → CaseBy r (now (p .entry)) (now (facts .entry))) ⌝ }
+// Whether the question is given a row and the list is not.
+fn lacks(p: &[usize; 1184], facts: &[usize], row: [usize; 4]) -> bool
+    ensures { λ r. ⌜ (walks.Ready (now (p .entry)) → r ≡ true → Missing (now (p .entry)) (now (facts .entry)) row) ⌝ }
 {
-    if !views::agree(p, facts) {
+    if !views::question_gives(p, facts, row) {
         return false;
     }
-    let row = views::missing(p, facts);
-    row.some
+    !views::list_gives(p, facts, row)
+}
+
+// Whether facts that give no stray row are a case, and then an answer that the list lacks. The row seen is tried first, whatever it is.
+fn is_left(p: &[usize; 1184], facts: &[usize], seen: [usize; 4]) -> answers::Row
+    ensures { λ r. ⌜ (walks.Ready (now (p .entry)) → NoStray (now (p .entry)) (now (facts .entry)) → CaseBy (r .some) (now (p .entry)) (now (facts .entry))) ⌝ }
+{
+    if !views::all_given(p, facts) {
+        return answers::Row {
+            some: false,
+            values: [0; 4],
+        };
+    }
+    if lacks(p, facts, seen) {
+        return answers::Row {
+            some: true,
+            values: seen,
+        };
+    }
+    views::missing(p, facts)
 }
 
 // Copies the first `count` numbers.
@@ -49,15 +69,15 @@ fn close_gap(facts: &mut [usize], n: usize, i: usize)
     }
 }
 
-// Whether a case is left without fact i.
-fn drops(p: &[usize; 1184], facts: &[usize], n: usize, i: usize) -> bool
+// Whether a case is left without fact i, and then an answer that the list lacks.
+fn drops(p: &[usize; 1184], facts: &[usize], n: usize, i: usize, seen: [usize; 4]) -> answers::Row
     requires { ⌜ (i < n) × (n ≤ 126) × (n * 5 ≤ length (now facts)) ⌝ }
-    ensures { λ r. ⌜ (walks.Ready (now (p .entry)) → CaseBy r (now (p .entry)) (without (take (n * 5) (now (facts .entry))) i)) ⌝ }
+    ensures { λ r. ⌜ (walks.Ready (now (p .entry)) → IsCase (now (p .entry)) (take (n * 5) (now (facts .entry))) → CaseBy (r .some) (now (p .entry)) (without (take (n * 5) (now (facts .entry))) i)) ⌝ }
 {
     let mut room = [0; MOST_NUMBERS];
     copy(facts, n * WIDTH, &mut room);
     close_gap(&mut room, n, i);
-    is_case(p, &room[..(n - 1) * WIDTH])
+    is_left(p, &room[..(n - 1) * WIDTH], seen)
 }
 
 // Tries each fact once, and drops it where a case is left without it; how many facts are left.
@@ -66,12 +86,15 @@ fn pass(p: &[usize; 1184], facts: &mut [usize], n: usize) -> usize
     ensures { λ m. ⌜ m ≤ n ⌝ }
     ensures { λ m. ⌜ (walks.Ready (now (p .entry)) → IsCase (now (p .entry)) (take (n * 5) (now (facts .entry))) → Tried (now (p .entry)) (take (n * 5) (now (facts .entry))) n (take (m * 5) (now (facts .exit))) m n m) ⌝ }
 {
+    let mut seen = [0; 4];
     let mut m = n;
     let mut i = 0;
     while i < m {
-        if drops(p, facts, m, i) {
+        let left = drops(p, facts, m, i, seen);
+        if left.some {
             close_gap(facts, m, i);
             m -= 1;
+            seen = left.values;
             continue;
         }
         i += 1;
@@ -79,7 +102,15 @@ fn pass(p: &[usize; 1184], facts: &mut [usize], n: usize) -> usize
     m
 }
 
-// Drops facts, one after the other, as long as a case is left; how many facts are left.
+// Whether the first n facts agree with the listed rows.
+fn agrees(p: &[usize; 1184], facts: &[usize], n: usize) -> bool
+    requires { ⌜ (n ≤ 126) × (n * 5 ≤ length (now facts)) ⌝ }
+    ensures { λ r. ⌜ (walks.Ready (now (p .entry)) → AgreeBy r (now (p .entry)) (take (n * 5) (now (facts .entry)))) ⌝ }
+{
+    views::agree(p, &facts[..n * WIDTH])
+}
+
+// Drops facts, one after the other, as long as a case is left; how many facts are left. Facts that do not agree with the listed rows are left alone.
 pub fn shrink(p: &[usize; 1184], facts: &mut [usize], n: usize) -> usize
     ensures { λ m. ⌜ (walks.Ready (now (p .entry)) → n ≤ 126 → n * 5 ≤ length (now (facts .entry)) → IsCase (now (p .entry)) (take (n * 5) (now (facts .entry))) → Shrunk (now (p .entry)) (take (n * 5) (now (facts .entry))) n (take (m * 5) (now (facts .exit))) m) ⌝ }
 {
@@ -87,6 +118,9 @@ pub fn shrink(p: &[usize; 1184], facts: &mut [usize], n: usize) -> usize
         return n;
     }
     if facts.len() < n * WIDTH {
+        return n;
+    }
+    if !agrees(p, facts, n) {
         return n;
     }
     let mut before = n + 1;

@@ -14,10 +14,10 @@ use Rattle.search.proofs.row_of.Reads as row-of-reads
 use Rattle.search.proofs.view_of.Reads as view-of-reads
 
 abbrev Inv-loop : tie.InvT-loop
-Inv-loop p facts view u at n rows i₀ i = (i ≤ rows) × (rows ≤ 40)
+Inv-loop p facts view u at n all i₀ i = (i ≤ all) × (all ≤ 40)
 
 abbrev μ-loop : tie.MeasureT-loop
-μ-loop p facts view u at n rows i₀ i = rows - i
+μ-loop p facts view u at n all i₀ i = all - i
 
 add-n : tie.Need-add-n Inv-loop μ-loop
 add-n c = search needs

@@ -1,11 +1,14 @@
--- `shrink::drops` meets its contract: the copy, with its gap closed, is the facts without fact i. Assumes nothing.
+-- `shrink::drops` meets its contract: the copy, with its gap closed, is the facts without fact i, and what these give all of them give. Assumes nothing.
 use mathlib.Core.List.{List}
 use mathlib.Core.Path.{sym, ap, _∙_, subst}
 use Prim.Native.Nat.{ℕ, _-_, _*_}
 use native.Mathlib.Omega.{arith}
+use lib.ListN.{take}
 use lib.Seq.{length-take-le}
 use borrow.Author.Needs.{needs}
+use Rattle.views.specs.Views.{NoStray}
 use Rattle.shrink.specs.Shrink.{CaseBy, without}
+use Rattle.shrink.proofs.Laws.{no-stray-without}
 use Rattle.shrink.proofs.drops.Statement.{statement}
 use Rattle.shrink.proofs.drops.Tie as tie
 
@@ -33,22 +36,26 @@ mul-room c = search needs
 array-share-prefix-room : tie.Need-array-share-prefix-room
 array-share-prefix-room c = search needs
 
-slice-aggregate-is-case : tie.Need-slice-aggregate-is-case
-slice-aggregate-is-case c =
+slice-aggregate-is-left : tie.Need-slice-aggregate-is-left
+slice-aggregate-is-left c =
     let g = c .before .before .close-gap in
     let n = c .before .before .before .before .before .before .before .before .args .n in
     let k = g .kept .0 in
     sym (length-take-le ((n - 1) * 5) (g .last .0) (omega arith))
 
-is-case-requires : tie.Need-is-case-requires
-is-case-requires c κs = search needs
+is-left-requires : tie.Need-is-left-requires
+is-left-requires c κs = search needs
 
 returns : tie.Need-returns
-returns c = λ ready.
+returns c = λ ready k.
     let a = c .before .before .before .before .before .before .before .before .before .args in
-    let k = c .before .before .before .before .before .before .copy in
+    let q = c .before .before .before .before .before .before .copy in
     let g = c .before .before .before .close-gap in
-    subst (λ (ns : List ℕ). CaseBy (c .is-case .result) (a .p .now) ns) (g .ensures ∙ ap (λ (ns : List ℕ). without ns (a .i)) (k .ensures)) (c .is-case .ensures ready)
+    let ns = take (a .n * 5) (a .facts .now) in
+    let e = g .ensures ∙ ap (λ (ns : List ℕ). without ns (a .i)) (q .ensures) in
+    let long = length-take-le (a .n * 5) (a .facts .now) (omega arith) in
+    subst (λ (ms : List ℕ). NoStray (a .p .now) ms → CaseBy (c .is-left .result .some) (a .p .now) ms) e (c .is-left .ensures ready)
+    (no-stray-without (a .p .now) ns (a .n) (a .i) long (omega arith) (k .0 .1))
 
 pub drops-spec : {M : Type 1} → statement M
 drops-spec =
@@ -62,6 +69,6 @@ drops-spec =
     sub-room
     mul-room
     array-share-prefix-room
-    slice-aggregate-is-case
-    is-case-requires
+    slice-aggregate-is-left
+    is-left-requires
     returns)

@@ -15,10 +15,10 @@ use Rattle.shrink.proofs.pass.Statement.{statement}
 use Rattle.shrink.proofs.pass.Tie as tie
 
 abbrev Inv-loop : tie.InvT-loop
-Inv-loop p facts₀ n m₀ i₀ facts m i = (i ≤ m) × (m ≤ n) × (length facts ≡ length facts₀) × (Ready p → IsCase p (take (n * 5) facts₀) → Tried p (take (n * 5) facts₀) n (take (m * 5) facts) m n i)
+Inv-loop p facts₀ n seen₀ m₀ i₀ facts seen m i = (i ≤ m) × (m ≤ n) × (length facts ≡ length facts₀) × (Ready p → IsCase p (take (n * 5) facts₀) → Tried p (take (n * 5) facts₀) n (take (m * 5) facts) m n i)
 
 abbrev μ-loop : tie.MeasureT-loop
-μ-loop p facts₀ n m₀ i₀ facts m i = m - i
+μ-loop p facts₀ n seen₀ m₀ i₀ facts seen m i = m - i
 
 loop-holds : tie.Need-loop-holds Inv-loop μ-loop
 loop-holds c = let a = c .before .args in (omega arith, omega arith, refl, λ ready k. tried-none (a .p .now) (take (a .n * 5) (a .facts .now)) (a .n) (a .n) k)
@@ -37,17 +37,17 @@ loop-less c = search needs
 
 loop-again : tie.Need-loop-again Inv-loop μ-loop
 loop-again c =
-    let g = c .before .before .close-gap in
-    let d = c .before .before .before .before .before .drops in
-    let l = c .before .before .before .before .before .before .before .before .loop in
-    let a = c .before .before .before .before .before .before .before .before .before .before .args in
+    let g = c .before .before .before .close-gap in
+    let d = c .before .before .before .before .before .before .drops in
+    let l = c .before .before .before .before .before .before .before .before .before .loop in
+    let a = c .before .before .before .before .before .before .before .before .before .before .before .args in
     let ms = take (l .m * 5) (l .facts) in (
       omega arith,
       omega arith,
       g .kept .0 ∙ l .inv .2,
       λ ready k.
           let long = length-take-le (l .m * 5) (l .facts) (omega arith) in
-          let left = subst (λ (b : Bool). CaseBy b (a .p .now) (without ms (l .i))) (c .before .before .before .before .if1 .taken) (d .ensures ready) in
+          let left = subst (λ (b : Bool). CaseBy b (a .p .now) (without ms (l .i))) (c .before .before .before .before .before .if1 .taken) (d .ensures ready (l .inv .3 ready k .still)) in
           subst (λ (ks : List ℕ). Tried (a .p .now) (take (a .n * 5) (a .facts .now)) (a .n) ks (l .m - 1) (a .n) (l .i)) (sym (g .ensures))
           (tried-dropped (a .p .now) (take (a .n * 5) (a .facts .now)) (a .n) ms (l .m) (l .i) long (omega arith) (omega arith) left (l .inv .3 ready k)),
     )
@@ -69,7 +69,7 @@ loop-again-2 c =
       l .inv .2,
       λ ready k.
           tried-kept (a .p .now) (take (a .n * 5) (a .facts .now)) (a .n) ms (l .m) (a .n) (l .i)
-          (subst (λ (b : Bool). CaseBy b (a .p .now) (without ms (l .i))) (c .if1 .left) (d .ensures ready)) (l .inv .3 ready k),
+          (subst (λ (b : Bool). CaseBy b (a .p .now) (without ms (l .i))) (c .if1 .left) (d .ensures ready (l .inv .3 ready k .still))) (l .inv .3 ready k),
     )
 
 same-length : tie.Need-same-length Inv-loop μ-loop
