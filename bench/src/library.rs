@@ -13,8 +13,8 @@ pub const STACK: usize = 256 * 1024;
 
 /// How a run of the library ended.
 pub enum Run {
-    /// What the program cover prints or would print, and the time of one judgement.
-    Done(String, Duration),
+    /// What the program cover prints or would print, the time of one judgement, and the bytes of stack that it used (0: not known).
+    Done(String, Duration, usize),
     Hang,
     /// It stopped without an answer, as it does when the stack is not enough.
     Crash,
@@ -110,23 +110,50 @@ pub fn is_linked() -> bool {
     cfg!(judges)
 }
 
-/// What a run of the program in this process prints: the nanoseconds of the fastest of some judgements, and the last answer.
+/// So much of the stack is painted before a judgement; the rest is for the thread itself.
+const PAINTED: usize = 240 * 1024;
+const PAINT: u8 = 0xA5;
+
+#[inline(never)]
+fn paint() {
+    let mut room = std::mem::MaybeUninit::<[u8; PAINTED]>::uninit();
+    unsafe { std::ptr::write_bytes(room.as_mut_ptr().cast::<u8>(), PAINT, PAINTED) };
+    std::hint::black_box(&room);
+}
+
+/// The bytes of the painted stack that have been used since, by pages. A large frame is probed by a word in each page, so a page with so
+/// few bytes changed counts as clean.
+#[inline(never)]
+fn used() -> usize {
+    const PAGE: usize = 4096;
+    let room = std::mem::MaybeUninit::<[u8; PAINTED]>::uninit();
+    let bytes = std::hint::black_box(room.as_ptr().cast::<u8>());
+    let changed = |page: usize| (page * PAGE..(page + 1) * PAGE).filter(|i| unsafe { std::ptr::read_volatile(bytes.add(*i)) } != PAINT).count();
+    PAINTED - PAGE * (0..PAINTED / PAGE).take_while(|page| changed(*page) <= 16).count()
+}
+
+/// What a run of the program in this process prints: the nanoseconds of the fastest of some judgements, the stack that the first one
+/// used, and the last answer.
 pub fn run_here() {
     let mut sheet = Vec::new();
     std::io::stdin().read_to_end(&mut sheet).unwrap();
     let judged = move || {
-        let (mut words, mut best, start) = ([0i32; 640], Duration::MAX, Instant::now());
+        let mut words = [0i32; 640];
+        paint();
+        let _ = library_judge(&sheet, &mut words);
+        let stack = used();
+        let (mut best, start) = (Duration::MAX, Instant::now());
         loop {
             let one = Instant::now();
             let outcome = library_judge(&sheet, &mut words);
             best = best.min(one.elapsed());
             if start.elapsed() > Duration::from_millis(20) {
-                return (best, outcome, words, sheet);
+                return (best, stack, outcome, words, sheet);
             }
         }
     };
-    let (best, outcome, words, sheet) = std::thread::Builder::new().stack_size(STACK).spawn(judged).unwrap().join().unwrap();
-    print!("{}\n{}", best.as_nanos(), printed(&sheet, &outcome, &words));
+    let (best, stack, outcome, words, sheet) = std::thread::Builder::new().stack_size(STACK).spawn(judged).unwrap().join().unwrap();
+    print!("{} {stack}\n{}", best.as_nanos(), printed(&sheet, &outcome, &words));
 }
 
 /// The program cover: what COVER names, or the one that is built at the repository's root.
@@ -166,16 +193,17 @@ pub fn run(sheet: &[u8], limit: Duration, floor: Duration) -> Run {
         return Run::Crash;
     }
     if !is_linked() {
-        return Run::Done(text, time.saturating_sub(floor));
+        return Run::Done(text, time.saturating_sub(floor), 0);
     }
-    let (nanos, answer) = text.split_once('\n').unwrap_or(("0", ""));
-    Run::Done(answer.to_string(), Duration::from_nanos(nanos.parse().unwrap_or(0)))
+    let (first, answer) = text.split_once('\n').unwrap_or(("0 0", ""));
+    let (nanos, stack) = first.split_once(' ').unwrap_or(("0", "0"));
+    Run::Done(answer.to_string(), Duration::from_nanos(nanos.parse().unwrap_or(0)), stack.parse().unwrap_or(0))
 }
 
 /// The time of a process that has next to nothing to judge.
 pub fn floor(sheet: &[u8]) -> Duration {
     let once = || match run(sheet, Duration::from_secs(5), Duration::ZERO) {
-        Run::Done(_, time) => time,
+        Run::Done(_, time, _) => time,
         _ => panic!("{} does not run", program().display()),
     };
     if is_linked() { Duration::ZERO } else { (0..20).map(|_| once()).min().unwrap() }

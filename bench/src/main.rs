@@ -34,6 +34,8 @@ struct Line {
     verdict: Verdict,
     effort: Effort,
     own: Duration,
+    /// The time by the library's own strategy, where that came to an end.
+    same: Option<Duration>,
     library: Run,
     fault: Option<String>,
 }
@@ -41,16 +43,23 @@ struct Line {
 impl Line {
     fn library_time(&self) -> Option<Duration> {
         match &self.library {
-            Run::Done(_, time) => Some(*time),
+            Run::Done(_, time, _) => Some(*time),
             _ => None,
         }
     }
 
-    /// The time of the library by that of this search; none where one of them is not known.
+    /// The time of the library by that of this search with the same strategy; none where one of them is not known.
     fn ratio(&self) -> Option<f64> {
-        let time = self.library_time()?;
-        let is_known = self.verdict != Verdict::GaveUp && (library::is_linked() || time > PROCESS);
-        is_known.then(|| time.as_secs_f64() / self.own.as_secs_f64())
+        let (time, same) = (self.library_time()?, self.same?);
+        (library::is_linked() || time > PROCESS).then(|| time.as_secs_f64() / same.as_secs_f64())
+    }
+
+    /// The stack that the library used, in KiB.
+    fn stack(&self) -> usize {
+        match &self.library {
+            Run::Done(_, _, stack) => stack.div_ceil(1024),
+            _ => 0,
+        }
     }
 
     fn is_within(&self, limit: Duration) -> bool {
@@ -61,8 +70,8 @@ impl Line {
         let verdict = judge::printed(&self.verdict);
         let verdict = if self.verdict == Verdict::GaveUp { "?" } else { verdict.split_whitespace().next().unwrap() };
         let library = match &self.library {
-            Run::Done(_, time) if !library::is_linked() && *time < PROCESS => format!("<{}", shown(PROCESS)),
-            Run::Done(_, time) => shown(*time),
+            Run::Done(_, time, _) if !library::is_linked() && *time < PROCESS => format!("<{}", shown(PROCESS)),
+            Run::Done(_, time, _) => shown(*time),
             Run::Hang => "HANGS".into(),
             Run::Crash => "CRASHES".into(),
         };
@@ -70,7 +79,9 @@ impl Line {
         let own = if self.verdict == Verdict::GaveUp { format!(">{}", shown(self.own)) } else { shown(self.own) };
         let (nodes, probes) = (self.effort.nodes, self.effort.probes);
         let (family, size) = (self.sample.family, &self.sample.size);
-        println!("{family:<30} {size:<24} {verdict:>7} {nodes:>8} {probes:>8} {own:>10} {library:>10} {ratio:>8}");
+        let same = self.same.map_or("-".into(), shown);
+        let stack = self.stack();
+        println!("{family:<30} {size:<24} {verdict:>7} {nodes:>8} {probes:>8} {own:>10} {same:>10} {library:>10} {ratio:>8} {stack:>6}");
         if let Some(fault) = &self.fault {
             println!("    WRONG: {fault}");
         }
@@ -85,9 +96,16 @@ fn shown(time: Duration) -> String {
     }
 }
 
+/// The strategy that the library has too.
+const SAME: &str = "+jump";
+
+fn strategy_of(name: &str) -> Strategy {
+    STRATEGIES.iter().find(|s| s.0 == name).expect("a strategy").1
+}
+
 /// The verdict and the fastest of some runs.
-fn own(bytes: &[u8], strategy: Strategy) -> (Verdict, Effort, Duration) {
-    let limit = Limit { nodes: usize::MAX / 2, time: Duration::from_secs(5) };
+fn own(bytes: &[u8], strategy: Strategy, seconds: u64) -> (Verdict, Effort, Duration) {
+    let limit = Limit { nodes: usize::MAX / 2, time: Duration::from_secs(seconds) };
     let (start, mut best) = (Instant::now(), Duration::MAX);
     loop {
         let one = Instant::now();
@@ -101,16 +119,18 @@ fn own(bytes: &[u8], strategy: Strategy) -> (Verdict, Effort, Duration) {
 
 fn measure(sample: Sample, strategy: Strategy, limit: Duration, floor: Duration) -> Line {
     let bytes = families::bytes(&sample);
-    let (verdict, effort, own) = own(&bytes, strategy);
+    let (by_same, _, time) = own(&bytes, strategy_of(SAME), 1);
+    let same = (by_same != Verdict::GaveUp).then_some(time);
+    let (verdict, effort, own) = own(&bytes, strategy, 5);
     let library = library::run(&bytes, limit, floor);
     let fault = match &library {
-        Run::Done(text, _) => match judge::parse(text) {
+        Run::Done(text, _, _) => match judge::parse(text) {
             Some(other) => judge::fault(&bytes, &verdict, &other),
             None => Some("an answer of another form".into()),
         },
         _ => None,
     };
-    Line { sample, verdict, effort, own, library, fault }
+    Line { sample, verdict, effort, own, same, library, fault }
 }
 
 /// The middle one and the last one of ascending times; a run that did not end comes after all.
@@ -156,7 +176,7 @@ fn targets(lines: &[Line], largest: &[u8]) -> bool {
     if let Some((worst, at)) = ratios.last() {
         let over = ratios.iter().filter(|(r, _)| *r > RATIO).count();
         let how = format!("median {:.2}, worst {worst:.2} ({} {}), {over} of {} over it", ratios[ratios.len() / 2].0, at.sample.family, at.sample.size, ratios.len());
-        all &= tell("at most 1.5 times the time of this search", over == 0, how);
+        all &= tell("at most 1.5 times the time of this search with the same strategy", over == 0, how);
     }
     let cases: Vec<&Line> = hard.iter().copied().filter(|l| l.sample.family == "largest case").collect();
     if !cases.is_empty() {
@@ -164,7 +184,9 @@ fn targets(lines: &[Line], largest: &[u8]) -> bool {
         all &= tell("the largest cases, judged whole, under 10 ms", worst.is_some_and(|t| t < LARGEST_LIMIT), or_hangs(worst));
     }
     let crashed: Vec<&Line> = lines.iter().filter(|l| matches!(l.library, Run::Crash)).collect();
-    all &= tell("256 KiB of stack on every sheet that ends", crashed.is_empty(), format!("{} crash: {}", crashed.len(), names(&crashed)));
+    let deepest = lines.iter().max_by_key(|l| l.stack());
+    let most = deepest.map_or(String::new(), |l| format!("; the most is {} KiB ({} {})", l.stack(), l.sample.family, l.sample.size));
+    all &= tell("256 KiB of stack on every sheet that ends", crashed.is_empty(), format!("{} crash{}{most}", crashed.len(), names(&crashed)));
     match library::speeds(largest) {
         Some((read, write)) => {
             all &= tell("read at 100 MB/s", read >= MB_PER_S, format!("{read:.0} MB/s"));
@@ -180,7 +202,7 @@ fn targets(lines: &[Line], largest: &[u8]) -> bool {
 fn benchmark(options: &[String]) {
     let option = |name: &str| options.iter().position(|o| o == name).and_then(|at| options.get(at + 1));
     let name = option("--strategy").map_or("all", |s| s.as_str());
-    let strategy = STRATEGIES.iter().find(|s| s.0 == name).expect("a strategy").1;
+    let strategy = strategy_of(name);
     let limit = Duration::from_secs_f64(option("--limit").map_or(2.0, |s| s.parse().expect("seconds")));
     let only = option("--only").cloned().unwrap_or_default();
     let samples: Vec<Sample> = families::pages().into_iter().chain(families::hard()).filter(|s| s.family.starts_with(&only)).collect();
@@ -188,7 +210,7 @@ fn benchmark(options: &[String]) {
     println!("this search: strategy {name}; the library: {}", if library::is_linked() { "linked, fastest of the runs in 20 ms".into() } else {
         format!("the program {}, one run, less {} for a process: no times below 5 ms", library::program().display(), shown(floor))
     });
-    println!("{:<30} {:<24} {:>7} {:>8} {:>8} {:>10} {:>10} {:>8}", "family", "size", "verdict", "nodes", "ahead", "this", "library", "ratio");
+    println!("{:<30} {:<24} {:>7} {:>8} {:>8} {:>10} {:>10} {:>10} {:>8} {:>6}", "family", "size", "verdict", "nodes", "ahead", "this", "same", "library", "ratio", "KiB");
     let mut lines = Vec::new();
     for sample in samples {
         let line = measure(sample, strategy, limit, floor);

@@ -1,4 +1,4 @@
--- `views::fitting` meets its contract: its contract says nothing, so that it is safe and ends. The loop's invariant: not more rows are counted than passed. The measure is what is left of the rows. Assumes nothing.
+-- `views::fitting` meets its contract: of more than forty rows none is counted. The loop's invariant: not more rows are counted than passed. The measure is what is left of the rows. Assumes nothing.
 use mathlib.Core.Logic.{⊎-elim}
 use Prim.Native.Nat.{_≤_, _-_}
 use native.Mathlib.Omega.{arith}
@@ -11,6 +11,9 @@ Inv-loop p n v row k₀ i₀ k i = (i ≤ n) × (k ≤ i)
 
 abbrev μ-loop : tie.MeasureT-loop
 μ-loop p n v row k₀ i₀ k i = n - i
+
+returns : tie.Need-returns Inv-loop μ-loop
+returns c = omega arith
 
 loop-holds : tie.Need-loop-holds Inv-loop μ-loop
 loop-holds c = search needs
@@ -31,10 +34,10 @@ loop-less : tie.Need-loop-less Inv-loop μ-loop
 loop-less c = search needs
 
 loop-again : tie.Need-loop-again Inv-loop μ-loop
-loop-again c = (omega arith, ⊎-elim (λ w. omega arith) (λ x. ⊎-elim (λ w. omega arith) (λ w. omega arith) x) (c .if1 .came))
+loop-again c = (omega arith, ⊎-elim (λ w. omega arith) (λ x. ⊎-elim (λ w. omega arith) (λ w. omega arith) x) (c .if2 .came))
 
-returns : tie.Need-returns Inv-loop μ-loop
-returns c = search needs
+returns-2 : tie.Need-returns-2 Inv-loop μ-loop
+returns-2 c = omega arith
 
 pub fitting-spec : {M : Type 1} → statement M
 fitting-spec =
@@ -42,6 +45,7 @@ fitting-spec =
     (tie.spec
     Inv-loop
     μ-loop
+    returns
     loop-holds
     view-of-requires
     fits-requires
@@ -49,4 +53,4 @@ fitting-spec =
     add-i
     loop-less
     loop-again
-    returns)
+    returns-2)
