@@ -1,17 +1,18 @@
 -- What the calls of the library below give, as what this crate's contracts say.
-use mathlib.Core.Path.{_≡_, refl, sym, ap, _∙_, subst}
+use mathlib.Core.Path.{_≡_, refl, ap, _∙_, subst}
 use mathlib.Core.List.{List, [], _++_}
 use mathlib.Core.Logic.{_⊎_, inl, inr, ⊎-elim}
-use Prim.Native.Nat.{ℕ, zero, suc, _+_, _-_, _/_, _≤_, _<_}
+use Prim.Native.Nat.{ℕ, zero, suc, _+_, _-_, _*_, _/_, _≤_, _<_}
 use native.Mathlib.Omega.{arith}
 use lib.IntN.{ℤ, pos}
 use lib.ListN.{length, take, drop, replicate, length-append, length-replicate}
-use lib.Seq.{drop-at}
+use lib.Seq.{take-at, drop-at}
 use Rattle.format.specs.Limits.{most-words, most-bytes, line-words}
-use Rattle.format.specs.Line.{byteLines, bytesOf, wordLines}
-use Rattle.format.specs.Sheet.{lentBy, sheetRefusal, readEnding, wordsRefusal, writeEnding, writeBytes}
+use Rattle.format.specs.Line.{byteLines, bytesOf, wordLines, wordsOf}
+use Rattle.format.specs.Sheet.{over, lentBy, sheetRefusal, readEnding, readWords, wordsRefusal, writeEnding, writeBytes}
 use Rattle.format.specs.declared.Ending.the-variants.{Done, Refused}
 use Rattle.format.proofs.Lists.{append-nil}
+use Rattle.format.proofs.LineLaws.{bytes-good, all-words-length}
 use Rattle.format.proofs.RoundTrip.{ending-done, write-read}
 use Rattle.sheet.specs.Parts.{Wrote}
 use Rattle.sheet.proofs.Calls.{clean-sheet}
@@ -55,6 +56,18 @@ sheet-fits m n old new w e = subst (Written old new) e w .fits
 -- the sheet as the part of the bytes that is handed on
 pub sheet-accepted : (m : Made) (n : ℕ) (old new : List ℕ) → Written old new m → m ≡ made.Sheet n → sheetRefusal (take (n - 0) new) .number ≡ 0
 sheet-accepted m n old new w e = subst (λ k. sheetRefusal (take k new) .number ≡ 0) (let z : n ≡ n - 0 = omega arith in z) (subst (Written old new) e w .accepted)
+
+-- ---- a sheet that was read
+
+-- the words are those of the sheet's lines
+pub words-read : (s : List ℕ) (n : ℕ) (ws after : List ℤ) → readEnding s most-words ≡ Done n → length ws ≡ most-words → after ≡ readWords s ws → take (n * 7 - 0) after ≡ wordsOf (byteLines s)
+unfolding readEnding readWords
+words-read s n ws after done l e =
+    let is = wordsOf (byteLines s) in
+    let c = ending-done (sheetRefusal s) most-words most-words (length (byteLines s)) n done .count in
+    let m = all-words-length (byteLines s) (bytes-good s) in
+    let q : after ≡ over is ws = e ∙ ap (λ x. lentBy x is ws) (ap (readEnding s) l ∙ done) in
+    rw q (take-at is (drop (length is) ws) (n * 7 - 0) (omega arith))
 
 -- ---- words
 

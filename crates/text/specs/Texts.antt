@@ -4,12 +4,14 @@ use mathlib.Core.List.{List, [], _∷_, _++_}
 use mathlib.Core.Logic.{_⊎_}
 use Prim.Native.Nat.{ℕ, _≤_, _<_}
 use lib.ListN.{length, take, drop}
-use Rattle.format.specs.Line.{byteLines}
+use Rattle.format.specs.Line.{byteLines, wordsOf}
 use Rattle.format.specs.Cause.{refusal}
 use Rattle.format.specs.Sheet.{sheetRefusal}
 use Rattle.format.specs.declared.Ending.{Ending}
 use Rattle.format.specs.declared.Ending.the-variants.{Done, Refused}
 use Rattle.sheet.specs.Parts.{Wrote}
+use Rattle.puts.specs.Puts.{Put}
+use Rattle.text_writer.specs.Texts.{linesBytes}
 use Rattle.verdicts.specs.Verdict.{HasVerdict}
 use Rattle.verdicts.specs.Sheets.{sheetOf}
 use Rattle.text.specs.declared.Made.{Made}
@@ -37,11 +39,10 @@ Written old new (made.Refused c l t) = new ≡ old
 
 -- ---- a sheet to its text
 
--- a text in front of what was lent, for an accepted sheet
+-- an accepted sheet, and the text of its number form in front of what was lent
 pub record Text (s old new : List ℕ) (n : ℕ) : Type 0 where
   pub accepted : sheetRefusal s .number ≡ 0
-  pub text : List ℕ
-  pub wrote : Wrote old new 0 n text
+  pub text : Put old new 0 (linesBytes (wordsOf (byteLines s))) n
 
 -- the sheet's own refusal, or too few bytes lent; nothing is written
 pub record Sent (s old new : List ℕ) (c l : ℕ) : Type 0 where

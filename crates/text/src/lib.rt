@@ -127,9 +127,8 @@ pub fn text_of(sheet: &[u8], out: &mut [u8]) -> Ending
             if out.len() < TEXT_BYTES {
                 return Ending::Refused(NO_ROOM, 0);
             }
-            let mut text = [0u8; TEXT_BYTES];
-            let n = text_writer::put_lines(&mut text, &words[0..lines * LINE_WORDS]);
-            Ending::Done(tell(b"", &text, n, out))
+            let n = text_writer::put_lines(out, &words[0..lines * LINE_WORDS]);
+            Ending::Done(n)
         }
     }
 }
@@ -197,9 +196,9 @@ fn put_case(
     ];
     let columns = columns(sheet);
     let a = text_writer::put_terms(out, 0, &row[0..columns]);
-    let b = text_writer::put(out, a, b" is missing. Log: ");
+    let b = puts::put(out, a, b" is missing. Log: ");
     let c = text_writer::put_facts(out, b, facts, count);
-    text_writer::put(out, c, b"\n")
+    puts::put(out, c, b"\n")
 }
 
 // Judges a sheet, and says the verdict in words.

@@ -10,8 +10,10 @@ use format::QUESTION_KIND;
 use format::ROW_KIND;
 use format::SAVED_KIND;
 use format::VIEW_KIND;
-ghost use Prim.Native.Nat.{_≤_, _<_};
-ghost use lib.ListN.{length};
+ghost use mathlib.Core.Path.{_≡_};
+ghost use Prim.Native.Nat.{_+_, _≤_, _<_};
+ghost use lib.ListN.{length, drop};
+ghost use Rattle.text_reader.specs.Begins.{letterOf, isBlank, beginsText, isText, blanks};
 
 // The lines of the number form that are kept: one more than a sheet can have, so that a longer one is refused. Their words.
 const LINES: usize = MOST_LINES + 1;
@@ -125,10 +127,11 @@ fn kind_of(b: u8) -> u8 {
 }
 
 // Whether a text begins with a byte.
-fn begins(b: u8) -> bool {
-    let kind = kind_of(b);
-    match kind {
-        b'a' | b'A' | b'#' | b'\n' => true,
+fn begins(b: u8) -> bool
+    ensures { λ r. ⌜ r ≡ beginsText b ⌝ }
+{
+    match b {
+        b'a'..=b'z' | b'A'..=b'Z' | b'#' | b'\n' => true,
         _ => false,
     }
 }
@@ -174,7 +177,9 @@ fn token_end(text: &[u8], at: usize) -> usize
     e
 }
 
-fn is_blank(b: u8) -> bool {
+fn is_blank(b: u8) -> bool
+    ensures { λ r. ⌜ r ≡ isBlank b ⌝ }
+{
     match b {
         b' ' | b'\t' | b'\r' => true,
         _ => false,
@@ -184,7 +189,7 @@ fn is_blank(b: u8) -> bool {
 // The first place from `at` on that has no blank.
 fn skip(text: &[u8], at: usize) -> usize
     requires { ⌜ at ≤ length (now text) ⌝ }
-    ensures { λ r. ⌜ (at ≤ r) × (r ≤ length (now (text .entry))) ⌝ }
+    ensures { λ r. ⌜ (at ≤ r) × (r ≤ length (now (text .entry))) × (r ≡ at + blanks (drop at (now (text .entry)))) ⌝ }
 {
     let mut i = at;
     while i < text.len() {
@@ -378,7 +383,9 @@ fn next_block(block: usize) -> usize
     }
 }
 
-pub fn letter(block: usize) -> u8 {
+pub fn letter(block: usize) -> u8
+    ensures { λ r. ⌜ r ≡ letterOf block ⌝ }
+{
     match block {
         1 => b'q',
         2 => b'l',
@@ -689,7 +696,9 @@ fn one_at_end(b: u8) -> usize
 }
 
 // Whether bytes are a text and no sheet: a letter, "#" or an empty line comes first.
-pub fn is_text(given: &[u8]) -> bool {
+pub fn is_text(given: &[u8]) -> bool
+    ensures { λ r. ⌜ r ≡ isText (now (given .entry)) ⌝ }
+{
     let at = skip(given, 0);
     if at < given.len() {
         return begins(given[at]);

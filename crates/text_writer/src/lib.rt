@@ -5,55 +5,58 @@ use format::LINE_WORDS;
 use format::ROW_KIND;
 use format::Term;
 use format::VIEW_KIND;
+use puts::put;
+use puts::put_byte;
 use text_reader::NAME;
 use text_reader::NAMES;
 ghost use mathlib.Core.Path.{_≡_};
-ghost use Prim.Native.Nat.{_≤_};
-ghost use lib.ListN.{length};
+ghost use mathlib.Core.Bool.{cond};
+ghost use mathlib.Core.List.{[], _∷_, _++_};
+ghost use Prim.Native.Nat.{_≤_, _-_, _/_, _*_, min};
+ghost use lib.Dec.{eqb, ltb};
+ghost use lib.ListN.{length, getD, take, drop};
+ghost use Rattle.format.specs.Line.{natural};
+ghost use Rattle.puts.specs.Puts.{Put};
+ghost use Rattle.puts.specs.Words.{bytes};
+ghost use Rattle.text_writer.specs.Texts.{plain, unless0, wordBytes, numberBytes, variableLetter, termBytes, termsBytes, relationBytes, factBytes, factsBytes, small, lineKind, blockAt, headBytes, atomBytes, valuesBytes, rowBytes, kindBytes, lineBytes, linesBytes, causeBytes, refusalBytes, countBytes, columnsBytes, whatBytes, expectedBytes};
 
 // The words of a fact.
 const FACT: usize = 5;
 
-fn put_byte(out: &mut [u8], at: usize, b: u8) -> usize {
-    if at < out.len() {
-        out[at] = b;
-        return at + 1;
-    }
-    at
-}
-
-// A byte; a blank only where blanks are wanted.
-fn put_one(out: &mut [u8], at: usize, b: u8, blanks: bool) -> usize {
+// A byte that is no blank.
+fn put_unless_blank(out: &mut [u8], at: usize, b: u8) -> usize
+    ensures { λ r. ⌜ Put (now (out .entry)) (now (out .exit)) at (plain (b ∷ [])) r ⌝ }
+{
     if b == b' ' {
-        if !blanks {
-            return at;
-        }
+        return at;
     }
     put_byte(out, at, b)
 }
 
-// Bytes, with their blanks or without.
-fn put_all(out: &mut [u8], at: usize, s: &[u8], blanks: bool) -> usize {
+// Bytes without their blanks.
+fn put_plain(out: &mut [u8], at: usize, s: &[u8]) -> usize
+    ensures { λ r. ⌜ Put (now (out .entry)) (now (out .exit)) at (plain (now (s .entry))) r ⌝ }
+{
     let mut n = at;
     let mut i = 0;
     while i < s.len() {
-        n = put_one(out, n, s[i], blanks);
+        n = put_unless_blank(out, n, s[i]);
         i += 1;
     }
     n
 }
 
-pub fn put(out: &mut [u8], at: usize, s: &[u8]) -> usize {
-    put_all(out, at, s, true)
-}
-
 // A number, which is the digits of its field.
-fn put_word(out: &mut [u8], at: usize, w: i32) -> usize {
+fn put_word(out: &mut [u8], at: usize, w: i32) -> usize
+    ensures { λ r. ⌜ Put (now (out .entry)) (now (out .exit)) at (wordBytes w) r ⌝ }
+{
     let field = fields::field_bytes(w);
-    put_all(out, at, &field, false)
+    put_plain(out, at, &field)
 }
 
-fn put_number(out: &mut [u8], at: usize, n: usize) -> usize {
+fn put_number(out: &mut [u8], at: usize, n: usize) -> usize
+    ensures { λ r. ⌜ Put (now (out .entry)) (now (out .exit)) at (numberBytes n) r ⌝ }
+{
     if n < 100000000 {
         return put_word(out, at, n as i32);
     }
@@ -61,7 +64,9 @@ fn put_number(out: &mut [u8], at: usize, n: usize) -> usize {
 }
 
 // A variable's letter.
-fn variable(index: usize) -> u8 {
+fn variable(index: usize) -> u8
+    ensures { λ r. ⌜ r ≡ variableLetter index ⌝ }
+{
     if index < 1 {
         return b'a';
     }
@@ -71,7 +76,9 @@ fn variable(index: usize) -> u8 {
     96 + index as u8
 }
 
-fn put_term(out: &mut [u8], at: usize, w: i32) -> usize {
+fn put_term(out: &mut [u8], at: usize, w: i32) -> usize
+    ensures { λ r. ⌜ Put (now (out .entry)) (now (out .exit)) at (termBytes w) r ⌝ }
+{
     match terms::term_of(w) {
         Term::Variable(index) => put_byte(out, at, variable(index)),
         Term::Constant(_) => put_word(out, at, w),
@@ -80,7 +87,9 @@ fn put_term(out: &mut [u8], at: usize, w: i32) -> usize {
 }
 
 // The term at i, after a comma where it is not the first.
-fn put_next(out: &mut [u8], at: usize, w: i32, i: usize) -> usize {
+fn put_next(out: &mut [u8], at: usize, w: i32, i: usize) -> usize
+    ensures { λ r. ⌜ Put (now (out .entry)) (now (out .exit)) at (cond (eqb i 0) (termBytes w) (bytes "," ++ termBytes w)) r ⌝ }
+{
     if i == 0 {
         return put_term(out, at, w);
     }
@@ -89,7 +98,9 @@ fn put_next(out: &mut [u8], at: usize, w: i32, i: usize) -> usize {
 }
 
 // Terms in brackets.
-pub fn put_terms(out: &mut [u8], at: usize, terms: &[i32]) -> usize {
+pub fn put_terms(out: &mut [u8], at: usize, terms: &[i32]) -> usize
+    ensures { λ r. ⌜ Put (now (out .entry)) (now (out .exit)) at (termsBytes (now (terms .entry))) r ⌝ }
+{
     let mut n = put_byte(out, at, b'(');
     let mut i = 0;
     while i < terms.len() {
@@ -100,7 +111,9 @@ pub fn put_terms(out: &mut [u8], at: usize, terms: &[i32]) -> usize {
 }
 
 // A word as a number, 0 where it is below 0.
-fn natural(w: i32) -> usize {
+fn natural(w: i32) -> usize
+    ensures { λ r. ⌜ r ≡ natural w ⌝ }
+{
     if w < 0 {
         return 0;
     }
@@ -108,7 +121,9 @@ fn natural(w: i32) -> usize {
 }
 
 // A relation's name.
-fn put_relation(out: &mut [u8], at: usize, relation: usize) -> usize {
+fn put_relation(out: &mut [u8], at: usize, relation: usize) -> usize
+    ensures { λ r. ⌜ Put (now (out .entry)) (now (out .exit)) at (relationBytes relation) r ⌝ }
+{
     if relation < 1 {
         return at;
     }
@@ -117,11 +132,11 @@ fn put_relation(out: &mut [u8], at: usize, relation: usize) -> usize {
     }
     let names = NAMES;
     let from = (relation - 1) * NAME;
-    put_all(out, at, &names[from..from + NAME], false)
+    put_plain(out, at, &names[from..from + NAME])
 }
 
 fn least(a: usize, b: usize) -> usize
-    ensures { λ r. ⌜ r ≤ b ⌝ }
+    ensures { λ r. ⌜ r ≡ min a b ⌝ }
 {
     if a < b { a } else { b }
 }
@@ -129,6 +144,7 @@ fn least(a: usize, b: usize) -> usize
 // A relation with a term for each of its columns.
 fn put_fact(out: &mut [u8], at: usize, fact: &[i32]) -> usize
     requires { ⌜ length (now fact) ≡ 5 ⌝ }
+    ensures { λ r. ⌜ Put (now (out .entry)) (now (out .exit)) at (factBytes (now (fact .entry))) r ⌝ }
 {
     let relation = fact[0];
     let columns = least(terms::columns(relation), 4);
@@ -139,6 +155,7 @@ fn put_fact(out: &mut [u8], at: usize, fact: &[i32]) -> usize
 // The fact at i, after a comma where it is not the first.
 fn put_next_fact(out: &mut [u8], at: usize, fact: &[i32], i: usize) -> usize
     requires { ⌜ length (now fact) ≡ 5 ⌝ }
+    ensures { λ r. ⌜ Put (now (out .entry)) (now (out .exit)) at (cond (eqb i 0) (factBytes (now (fact .entry))) (bytes ", " ++ factBytes (now (fact .entry)))) r ⌝ }
 {
     if i == 0 {
         return put_fact(out, at, fact);
@@ -148,7 +165,9 @@ fn put_next_fact(out: &mut [u8], at: usize, fact: &[i32], i: usize) -> usize
 }
 
 // The first facts, as many as are counted and there.
-pub fn put_facts(out: &mut [u8], at: usize, facts: &[i32], count: usize) -> usize {
+pub fn put_facts(out: &mut [u8], at: usize, facts: &[i32], count: usize) -> usize
+    ensures { λ r. ⌜ Put (now (out .entry)) (now (out .exit)) at (factsBytes count (now (facts .entry))) r ⌝ }
+{
     let some = least(count, facts.len() / FACT);
     let mut n = at;
     let mut i = 0;
@@ -162,23 +181,19 @@ pub fn put_facts(out: &mut [u8], at: usize, facts: &[i32], count: usize) -> usiz
 
 // A field count or a kind of the number form.
 fn small(w: i32) -> usize
-    ensures { λ r. ⌜ r ≤ 6 ⌝ }
+    ensures { λ r. ⌜ (r ≡ small w) × (r ≤ 6) ⌝ }
 {
-    match w {
-        1 => 1,
-        2 => 2,
-        3 => 3,
-        4 => 4,
-        5 => 5,
-        6 => 6,
-        _ => 0,
+    let n = natural(w);
+    if 6 < n {
+        return 0;
     }
+    n
 }
 
 // Where the terms after a line's kind end.
 fn terms_end(fields: usize) -> usize
     requires { ⌜ fields ≤ 6 ⌝ }
-    ensures { λ r. ⌜ (2 ≤ r) × (r ≤ 7) ⌝ }
+    ensures { λ r. ⌜ (2 ≤ r) × (r ≤ 7) × (r - 2 ≡ fields - 1) ⌝ }
 {
     if fields < 1 {
         return 2;
@@ -188,7 +203,7 @@ fn terms_end(fields: usize) -> usize
 
 // The kind of line i, 0 where there is none.
 fn kind_at(words: &[i32], i: usize) -> usize
-    ensures { λ r. ⌜ r ≤ 6 ⌝ }
+    ensures { λ r. ⌜ r ≡ cond (ltb i (length (now (words .entry)) / 7)) (lineKind (take 7 (drop (i * 7) (now (words .entry))))) 0 ⌝ }
 {
     let lines = words.len() / LINE_WORDS;
     if i < lines {
@@ -198,7 +213,9 @@ fn kind_at(words: &[i32], i: usize) -> usize
 }
 
 // The kind of the block that a line of a kind stands in, given that of the line before.
-fn block_at(kind: usize, block: usize) -> usize {
+fn block_at(kind: usize, block: usize) -> usize
+    ensures { λ r. ⌜ r ≡ blockAt kind block ⌝ }
+{
     if kind == ATOM_KIND {
         return block;
     }
@@ -210,6 +227,7 @@ fn block_at(kind: usize, block: usize) -> usize {
 
 fn put_head(out: &mut [u8], at: usize, line: &[i32], kind: usize) -> usize
     requires { ⌜ length (now line) ≡ 7 ⌝ }
+    ensures { λ r. ⌜ Put (now (out .entry)) (now (out .exit)) at (headBytes (now (line .entry)) kind) r ⌝ }
 {
     let end = terms_end(small(line[0]));
     let n = put_byte(out, at, text_reader::letter(kind));
@@ -220,6 +238,7 @@ fn put_head(out: &mut [u8], at: usize, line: &[i32], kind: usize) -> usize
 // An atom, and what stands between it and the next line of its block: in a view "=" before the rows.
 fn put_atom(out: &mut [u8], at: usize, line: &[i32], block: usize, next: usize) -> usize
     requires { ⌜ length (now line) ≡ 7 ⌝ }
+    ensures { λ r. ⌜ Put (now (out .entry)) (now (out .exit)) at (atomBytes (now (line .entry)) block next) r ⌝ }
 {
     let n = put_byte(out, at, b' ');
     let m = put_fact(out, n, &line[2..7]);
@@ -235,6 +254,7 @@ fn put_atom(out: &mut [u8], at: usize, line: &[i32], block: usize, next: usize) 
 // A row, bare where it has one column, and a semicolon before the next.
 fn put_row(out: &mut [u8], at: usize, line: &[i32], next: usize) -> usize
     requires { ⌜ length (now line) ≡ 7 ⌝ }
+    ensures { λ r. ⌜ Put (now (out .entry)) (now (out .exit)) at (rowBytes (now (line .entry)) next) r ⌝ }
 {
     let n = put_byte(out, at, b' ');
     let m = put_values(out, n, line);
@@ -246,11 +266,13 @@ fn put_row(out: &mut [u8], at: usize, line: &[i32], next: usize) -> usize
 
 fn put_values(out: &mut [u8], at: usize, line: &[i32]) -> usize
     requires { ⌜ length (now line) ≡ 7 ⌝ }
+    ensures { λ r. ⌜ Put (now (out .entry)) (now (out .exit)) at (valuesBytes (now (line .entry))) r ⌝ }
 {
-    if line[0] == 2 {
+    let fields = small(line[0]);
+    if fields == 2 {
         return put_term(out, at, line[2]);
     }
-    let end = terms_end(small(line[0]));
+    let end = terms_end(fields);
     put_terms(out, at, &line[2..end])
 }
 
@@ -264,6 +286,7 @@ fn put_kind(
     next: usize,
 ) -> usize
     requires { ⌜ length (now line) ≡ 7 ⌝ }
+    ensures { λ r. ⌜ Put (now (out .entry)) (now (out .exit)) at (kindBytes (now (line .entry)) kind block next) r ⌝ }
 {
     if kind == ATOM_KIND {
         return put_atom(out, at, line, block, next);
@@ -284,6 +307,7 @@ fn put_line(
     next: usize,
 ) -> usize
     requires { ⌜ length (now line) ≡ 7 ⌝ }
+    ensures { λ r. ⌜ Put (now (out .entry)) (now (out .exit)) at (lineBytes (now (line .entry)) kind block next) r ⌝ }
 {
     let n = put_kind(out, at, line, kind, block, next);
     if next < ATOM_KIND {
@@ -293,7 +317,9 @@ fn put_line(
 }
 
 // The text of a number form.
-pub fn put_lines(out: &mut [u8], words: &[i32]) -> usize {
+pub fn put_lines(out: &mut [u8], words: &[i32]) -> usize
+    ensures { λ r. ⌜ Put (now (out .entry)) (now (out .exit)) 0 (linesBytes (now (words .entry))) r ⌝ }
+{
     let lines = words.len() / LINE_WORDS;
     let mut n = 0;
     let mut block = 0;
@@ -316,7 +342,9 @@ pub fn put_lines(out: &mut [u8], words: &[i32]) -> usize {
 }
 
 // What a cause for sending back says.
-fn put_cause(out: &mut [u8], at: usize, number: usize) -> usize {
+fn put_cause(out: &mut [u8], at: usize, number: usize) -> usize
+    ensures { λ r. ⌜ Put (now (out .entry)) (now (out .exit)) at (causeBytes number) r ⌝ }
+{
     match number {
         1 => put(out, at, b"the sheet is too long"),
         2 => put(out, at, b"a line or a field is malformed"),
@@ -340,7 +368,9 @@ fn put_cause(out: &mut [u8], at: usize, number: usize) -> usize {
 }
 
 // A number after words; nothing where it is 0.
-fn put_after(out: &mut [u8], at: usize, s: &[u8], n: usize) -> usize {
+fn put_after(out: &mut [u8], at: usize, s: &[u8], n: usize) -> usize
+    ensures { λ r. ⌜ Put (now (out .entry)) (now (out .exit)) at (unless0 n (now (s .entry) ++ numberBytes n)) r ⌝ }
+{
     if n == 0 {
         return at;
     }
@@ -349,13 +379,9 @@ fn put_after(out: &mut [u8], at: usize, s: &[u8], n: usize) -> usize {
 }
 
 // A refusal without its first word: its cause, its line, and the line of the text, if any.
-pub fn put_refusal(
-    out: &mut [u8],
-    at: usize,
-    number: usize,
-    line: usize,
-    text_line: usize,
-) -> usize {
+pub fn put_refusal(out: &mut [u8], at: usize, number: usize, line: usize, text_line: usize) -> usize
+    ensures { λ r. ⌜ Put (now (out .entry)) (now (out .exit)) at (refusalBytes number line «text_line») r ⌝ }
+{
     let a = put_after(out, at, b"cause ", number);
     let b = put_after(out, a, b" at line ", line);
     let c = put_after(out, b, b" of the sheet, line ", text_line);
@@ -366,7 +392,9 @@ pub fn put_refusal(
 }
 
 // Words; nothing where a number is 0.
-fn put_after_one(out: &mut [u8], at: usize, s: &[u8], n: usize) -> usize {
+fn put_after_one(out: &mut [u8], at: usize, s: &[u8], n: usize) -> usize
+    ensures { λ r. ⌜ Put (now (out .entry)) (now (out .exit)) at (unless0 n (now (s .entry))) r ⌝ }
+{
     if n == 0 {
         return at;
     }
@@ -374,7 +402,9 @@ fn put_after_one(out: &mut [u8], at: usize, s: &[u8], n: usize) -> usize {
 }
 
 // How many columns a relation has.
-fn put_count(out: &mut [u8], at: usize, columns: usize) -> usize {
+fn put_count(out: &mut [u8], at: usize, columns: usize) -> usize
+    ensures { λ r. ⌜ Put (now (out .entry)) (now (out .exit)) at (countBytes columns) r ⌝ }
+{
     match columns {
         1 => put(out, at, b"one column in "),
         2 => put(out, at, b"two columns in "),
@@ -383,7 +413,9 @@ fn put_count(out: &mut [u8], at: usize, columns: usize) -> usize {
     }
 }
 
-fn put_columns(out: &mut [u8], at: usize, relation: usize) -> usize {
+fn put_columns(out: &mut [u8], at: usize, relation: usize) -> usize
+    ensures { λ r. ⌜ Put (now (out .entry)) (now (out .exit)) at (columnsBytes relation) r ⌝ }
+{
     if 10 < relation {
         return at;
     }
@@ -392,7 +424,9 @@ fn put_columns(out: &mut [u8], at: usize, relation: usize) -> usize {
 }
 
 // What was expected, by text_reader's numbers for it.
-fn put_what(out: &mut [u8], at: usize, what: usize, relation: usize) -> usize {
+fn put_what(out: &mut [u8], at: usize, what: usize, relation: usize) -> usize
+    ensures { λ r. ⌜ Put (now (out .entry)) (now (out .exit)) at (whatBytes what relation) r ⌝ }
+{
     match what {
         1 => put(out, at, b"q, the question"),
         2 => put(out, at, b"l, the saved list"),
@@ -420,7 +454,9 @@ fn put_what(out: &mut [u8], at: usize, what: usize, relation: usize) -> usize {
 }
 
 // What was expected in a line, without the first word.
-pub fn put_expected(out: &mut [u8], at: usize, line: usize, what: usize, relation: usize) -> usize {
+pub fn put_expected(out: &mut [u8], at: usize, line: usize, what: usize, relation: usize) -> usize
+    ensures { λ r. ⌜ Put (now (out .entry)) (now (out .exit)) at (expectedBytes line what relation) r ⌝ }
+{
     let a = put_number(out, at, line);
     let b = put(out, a, b": expected ");
     let c = put_what(out, b, what, relation);

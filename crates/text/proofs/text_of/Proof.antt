@@ -1,8 +1,12 @@
-use mathlib.Core.Path.{refl, sym, _∙_}
-use mathlib.Core.Logic.{inl, inr}
+-- The words that were read are those of the lines of the sheet, and their text is put.
+use mathlib.Core.Path.{refl, sym, ap, _∙_}
 use native.Mathlib.Omega.{arith}
 use borrow.Author.Needs.{needs}
+use mathlib.Core.Logic.{inl, inr}
 use Rattle.sheet.proofs.Calls.{few-lines, clean-sheet, refused-by}
+use Rattle.puts.proofs.Laws.{said}
+use Rattle.text_writer.specs.Texts.{linesBytes}
+use Rattle.text.proofs.Calls.{words-read}
 use Rattle.text.proofs.text_of.Statement.{statement}
 use Rattle.text.proofs.text_of.Tie as tie
 
@@ -20,9 +24,6 @@ enum-known-lines c = search needs
 
 returns : tie.Need-returns
 returns c = record { lent = refl; why = inr (c .if1 .taken, refl) }
-
-slice-aggregate-put-lines : tie.Need-slice-aggregate-put-lines
-slice-aggregate-put-lines c = search needs
 
 mul-put-lines : tie.Need-mul-put-lines
 mul-put-lines c =
@@ -51,15 +52,6 @@ part-put-lines-end c =
 put-lines-requires : tie.Need-put-lines-requires
 put-lines-requires c κs = search needs
 
-slice-aggregate-tell : tie.Need-slice-aggregate-tell
-slice-aggregate-tell c = search needs
-
-slice-aggregate-tell-2 : tie.Need-slice-aggregate-tell-2
-slice-aggregate-tell-2 c = search needs
-
-tell-requires : tie.Need-tell-requires
-tell-requires c κs = search needs
-
 returns-2 : tie.Need-returns-2
 returns-2 c =
     let a = c .before .before .before .before .before .before .before .before .args in
@@ -72,11 +64,12 @@ same-length c = search needs
 
 returns-3 : tie.Need-returns-3
 returns-3 c =
-    let a = c .before .before .before .before .before .before .before .before .before .before .before .before .before .before .before .before .before .before .before .before .args in
-    let rd = c .before .before .before .before .before .before .before .before .before .before .before .before .before .before .before .before .read in
-    let g = c .before .before .before .before .before .before .before .before .before .before .before .before .before .lines .given in
-    let t = c .before .before .tell .ensures in
-    record { accepted = clean-sheet (a .sheet .now) (g .0 .0) (sym (rd .ensures .0) ∙ g .1); text = t .rest; wrote = t .wrote }
+    let s = c .before .before .before .before .before .before .before .before .before .before .before .before .before .before .before .args .sheet .now in
+    let rd = c .before .before .before .before .before .before .before .before .before .before .before .read in
+    let g = c .before .before .before .before .before .before .before .before .lines .given in
+    let done = sym (rd .ensures .0) ∙ g .1 in
+    let words = words-read s (g .0 .0) _ (rd .last .1 .0) done refl (rd .ensures .1) in
+    record { accepted = clean-sheet s (g .0 .0) done; text = said (ap linesBytes words) (c .before .before .put-lines .ensures) }
 
 pub text-of-spec : {M : Type 1} → statement M
 text-of-spec =
@@ -87,15 +80,11 @@ text-of-spec =
     enum-known-number
     enum-known-lines
     returns
-    slice-aggregate-put-lines
     mul-put-lines
     sub-put-lines
     part-put-lines-start
     part-put-lines-end
     put-lines-requires
-    slice-aggregate-tell
-    slice-aggregate-tell-2
-    tell-requires
     returns-2
     same-length
     returns-3)

@@ -1,13 +1,24 @@
--- Each fact is within the words. The measure is the facts that are left.
-use mathlib.Core.Path.{_≡_}
-use Prim.Native.Nat.{_≤_, _-_}
+-- After i turns the first i facts are put. The measure is the facts that are left.
+use mathlib.Core.Path.{_≡_, sym, ap, _∙_}
+use Prim.Native.Nat.{ℕ, _≤_, _-_, _*_}
+use native.Mathlib.Omega.{arith}
 use borrow.Author.Needs.{needs}
-use lib.ListN.{length}
+use lib.ListN.{length, take}
+use mathlib.Core.List.{[], map, List, _++_}
+use Rattle.puts.specs.Puts.{Put}
+use Rattle.puts.specs.Words.{bytes}
+use Rattle.puts.proofs.Laws.{nothing, kept, said}
+use Rattle.text_writer.specs.Texts.{separated, groups, factBytes, factsBytes}
+use Rattle.text_writer.proofs.Parts.{more-separated, groups-length, groups-at, part-of}
+use lib.Seq.{take-all}
+use lib.IntN.{ℤ}
+use lib.Dec.{eqb}
+use mathlib.Core.Bool.{cond}
 use Rattle.text_writer.proofs.put_facts.Statement.{statement}
 use Rattle.text_writer.proofs.put_facts.Tie as tie
 
 abbrev Inv-loop : tie.InvT-loop
-Inv-loop out₀ at facts count some n₀ i₀ out n i = (i ≤ some) × (length out ≡ length out₀)
+Inv-loop out₀ at facts count some n₀ i₀ out n i = (i ≤ some) × (length out ≡ length out₀) × Put out₀ out n₀ (separated (bytes ", ") (map factBytes (take i (groups 5 some facts)))) n
 
 abbrev μ-loop : tie.MeasureT-loop
 μ-loop out₀ at facts count some n₀ i₀ out n i = some - i
@@ -16,7 +27,8 @@ least-requires : tie.Need-least-requires Inv-loop μ-loop
 least-requires c κs = search needs
 
 loop-holds : tie.Need-loop-holds Inv-loop μ-loop
-loop-holds c = search needs
+unfolding separated
+loop-holds c = (search needs, search needs, nothing (c .before .before .args .out .now) (c .before .before .args .at))
 
 mul-from : tie.Need-mul-from Inv-loop μ-loop
 mul-from c = search needs
@@ -46,13 +58,25 @@ loop-less : tie.Need-loop-less Inv-loop μ-loop
 loop-less c = search needs
 
 loop-again : tie.Need-loop-again Inv-loop μ-loop
-loop-again c = search needs
+loop-again c =
+    let l = c .before .before .before .before .before .before .loop in
+    let ws = c .before .before .before .before .before .before .before .before .before .args .facts .now in
+    let some = c .before .before .before .before .before .before .before .least .result in
+    let part : List ℤ → List ℕ = λ f. cond (eqb (l .i) 0) (factBytes f) (bytes ", " ++ factBytes f) in
+    let here = part-of (l .i * 5) 5 ws ∙ sym (groups-at 5 some ws (l .i) (omega arith)) in
+    let p = said (ap part here) (c .before .before .put-next-fact .ensures) in
+    (search needs, kept p ∙ l .inv .1, more-separated factBytes (bytes ", ") [] (groups 5 some ws) (l .i) (omega (arith, groups-length 5 some ws)) (l .inv .2) p)
 
 same-length : tie.Need-same-length Inv-loop μ-loop
 same-length c = search needs
 
 returns : tie.Need-returns Inv-loop μ-loop
-returns c = search needs
+unfolding factsBytes
+returns c =
+    let ws = c .before .before .before .before .args .facts .now in
+    let some = c .before .before .least .result in
+    let all = take-all (c .before .loop .i) (groups 5 some ws) (omega (arith, groups-length 5 some ws)) ∙ ap (λ n. groups 5 n ws) (c .before .before .least .ensures) in
+    said (ap (λ fs. separated (bytes ", ") (map factBytes fs)) all) (c .before .loop .inv .2)
 
 pub put-facts-spec : {M : Type 1} → statement M
 put-facts-spec =

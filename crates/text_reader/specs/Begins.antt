@@ -1,0 +1,27 @@
+-- What a text begins with, and the letters of its blocks.
+use mathlib.Core.Bool.{Bool, false, cond, _&&_, _||_}
+use mathlib.Core.List.{List, [], _∷_}
+use Prim.Native.Nat.{ℕ, suc}
+use lib.Dec.{eqb, leb}
+
+-- the letter of a block's kind: "q" for the question, "l" for the saved list, "v" for a view
+abbrev pub letterOf : ℕ → ℕ
+letterOf kind = cond (eqb kind 1) 113 (cond (eqb kind 2) 108 118)
+
+-- a blank, a tab or a return
+abbrev pub isBlank : ℕ → Bool
+isBlank b = eqb b 32 || eqb b 9 || eqb b 13
+
+-- a small letter, a capital letter, "#" or the end of a line
+abbrev pub beginsText : ℕ → Bool
+beginsText b = (leb 97 b && leb b 122) || (leb 65 b && leb b 90) || eqb b 35 || eqb b 10
+
+-- the first byte that is no blank begins a text
+unfoldable pub isText : List ℕ → Bool
+isText [] = false
+isText (b ∷ s) = cond (isBlank b) (isText s) (beginsText b)
+
+-- how many blanks come first
+unfoldable pub blanks : List ℕ → ℕ
+blanks [] = 0
+blanks (b ∷ s) = cond (isBlank b) (suc (blanks s)) 0

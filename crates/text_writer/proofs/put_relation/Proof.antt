@@ -1,0 +1,51 @@
+-- A relation's name is its part of all names, without blanks.
+use borrow.Author.Needs.{needs}
+use Rattle.text_writer.proofs.Parts.{no-relation, far-relation, name-at}
+use Rattle.puts.proofs.Laws.{nothing, said}
+use Rattle.text_writer.proofs.put_relation.Statement.{statement}
+use Rattle.text_writer.proofs.put_relation.Tie as tie
+
+returns : tie.Need-returns
+returns c = said (no-relation (c .if1 .taken)) (nothing (c .before .before .args .out .now) (c .before .before .args .at))
+
+returns-2 : tie.Need-returns-2
+returns-2 c = said (far-relation (c .if2 .taken)) (nothing (c .before .before .before .args .out .now) (c .before .before .before .args .at))
+
+mul-from : tie.Need-mul-from
+mul-from c = search needs
+
+add-put-plain : tie.Need-add-put-plain
+add-put-plain c = search needs
+
+sub-put-plain : tie.Need-sub-put-plain
+sub-put-plain c = search needs
+
+part-put-plain-start : tie.Need-part-put-plain-start
+part-put-plain-start c = search needs
+
+part-put-plain-end : tie.Need-part-put-plain-end
+part-put-plain-end c = search needs
+
+put-plain-requires : tie.Need-put-plain-requires
+put-plain-requires c κs = search needs
+
+same-length : tie.Need-same-length
+same-length c = search needs
+
+returns-3 : tie.Need-returns-3
+returns-3 c = said (name-at (c .before .before .before .before .before .before .before .before .before .args .relation) (c .before .before .before .before .before .before .before .if1 .left) (c .before .before .before .before .before .before .if2 .left)) (c .before .before .put-plain .ensures)
+
+pub put-relation-spec : {M : Type 1} → statement M
+put-relation-spec =
+    tie.close
+    (tie.spec
+    returns
+    returns-2
+    mul-from
+    add-put-plain
+    sub-put-plain
+    part-put-plain-start
+    part-put-plain-end
+    put-plain-requires
+    same-length
+    returns-3)

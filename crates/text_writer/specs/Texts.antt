@@ -1,0 +1,239 @@
+-- The bytes of numbers, terms, facts, lines, causes and what was expected.
+use mathlib.Core.Bool.{Bool, cond}
+use mathlib.Core.List.{List, [], _∷_, _++_, map}
+use Prim.Native.Nat.{ℕ, zero, suc, _+_, _-_, _/_, min}
+use lib.Dec.{eqb, ltb}
+use lib.IntN.{ℤ, pos}
+use lib.ListN.{length, getD, take, drop}
+use Rattle.format.specs.Field.{fieldBytes}
+use Rattle.format.specs.Line.{natural}
+use Rattle.format.specs.Cause.{termOf}
+use Rattle.format.specs.Relations.{columnsAt, columnsOf}
+use Rattle.format.specs.declared.Term.{Term}
+use Rattle.format.specs.declared.Term.the-variants.{Constant, Variable, OutOfRange}
+use Rattle.puts.specs.Words.{bytes}
+use Rattle.text_reader.specs.Begins.{letterOf}
+
+-- ---- parts
+
+-- bytes without their blanks
+unfoldable pub plain : List ℕ → List ℕ
+plain [] = []
+plain (b ∷ s) = cond (eqb b 32) (plain s) (b ∷ plain s)
+
+-- s where a test holds, else nothing
+abbrev pub if : Bool → List ℕ → List ℕ
+if t s = cond t s []
+
+-- s where a number is not 0, else nothing
+abbrev pub unless0 : ℕ → List ℕ → List ℕ
+unless0 n s = cond (eqb n 0) [] s
+
+-- each of some parts after a separator
+unfoldable pub following : List ℕ → List (List ℕ) → List ℕ
+following sep [] = []
+following sep (x ∷ xs) = sep ++ x ++ following sep xs
+
+-- some parts with a separator between them
+unfoldable pub separated : List ℕ → List (List ℕ) → List ℕ
+separated sep [] = []
+separated sep (x ∷ xs) = x ++ following sep xs
+
+-- the first n groups of k words
+unfoldable pub groups : ℕ → ℕ → List ℤ → List (List ℤ)
+groups k zero ws = []
+groups k (suc n) ws = take k ws ∷ groups k n (drop k ws)
+
+-- ---- numbers and terms
+
+-- a word as a number: its field of eight bytes without the blanks
+unfoldable pub wordBytes : ℤ → List ℕ
+wordBytes w = plain (fieldBytes w)
+
+-- a number of at most eight digits; nothing for a longer one
+abbrev pub numberBytes : ℕ → List ℕ
+numberBytes n = if (ltb n 100000000) (wordBytes (pos n))
+
+-- a variable's letter: "a" for the first, "z" from the 26th on
+unfoldable pub variableLetter : ℕ → ℕ
+variableLetter i = cond (ltb i 1) 97 (cond (ltb 26 i) 122 (96 + i))
+
+-- a variable by its letter, any other word by its number
+abbrev pub termAs : Term → ℤ → List ℕ
+termAs (Variable i) w = variableLetter i ∷ []
+termAs (Constant n) w = wordBytes w
+termAs OutOfRange w = wordBytes w
+
+-- a term
+unfoldable pub termBytes : ℤ → List ℕ
+termBytes w = termAs (termOf w) w
+
+-- terms in brackets
+unfoldable pub termsBytes : List ℤ → List ℕ
+termsBytes ts = bytes "(" ++ separated (bytes ",") (map termBytes ts) ++ bytes ")"
+
+-- ---- facts
+
+-- the relations' names
+abbrev pub relationNames : List (List ℕ)
+relationNames =
+    bytes "Rower"
+    ∷ bytes "Strap"
+    ∷ bytes "Worn"
+    ∷ bytes "Sig"
+    ∷ bytes "Beat"
+    ∷ bytes "Noise"
+    ∷ bytes "Pulse"
+    ∷ bytes "Coach"
+    ∷ bytes "Seat"
+    ∷ bytes "Pause"
+    ∷ []
+
+-- a relation's name; nothing where there is no such relation
+unfoldable pub relationBytes : ℕ → List ℕ
+relationBytes zero = []
+relationBytes (suc n) = getD relationNames n []
+
+-- a fact's words are its relation and its terms, of which as many count as the relation has columns
+unfoldable pub factBytes : List ℤ → List ℕ
+factBytes ws = relationBytes (natural (getD ws 0 (pos 0))) ++ termsBytes (take (columnsOf (getD ws 0 (pos 0))) (drop 1 ws))
+
+-- the first facts, as many as are counted and there
+unfoldable pub factsBytes : ℕ → List ℤ → List ℕ
+factsBytes count ws = separated (bytes ", ") (map factBytes (groups 5 (min count (length ws / 5)) ws))
+
+-- ---- lines of the number form: the field count, the kind, and the other fields
+
+-- a field count or a kind; 0 for any other word
+abbrev pub small : ℤ → ℕ
+small w = cond (ltb 6 (natural w)) 0 (natural w)
+
+-- a line's kind
+abbrev pub lineKind : List ℤ → ℕ
+lineKind l = small (getD l 1 (pos 0))
+
+-- the terms after a line's kind
+abbrev pub lineTerms : List ℤ → List ℤ
+lineTerms l = take (small (getD l 0 (pos 0)) - 1) (drop 2 l)
+
+-- a block's head: its letter, its terms and a colon
+abbrev pub headBytes : List ℤ → ℕ → List ℕ
+headBytes l kind = (letterOf kind ∷ []) ++ termsBytes (lineTerms l) ++ bytes ":"
+
+-- an atom: its fact, and a comma where another atom (4) follows; else "=" in a view (3)
+abbrev pub atomBytes : List ℤ → ℕ → ℕ → List ℕ
+atomBytes l block next = bytes " " ++ factBytes (drop 2 l) ++ cond (eqb next 4) (bytes ",") (if (eqb block 3) (bytes " ="))
+
+-- a row's values: bare where there is one, in brackets where there are more or none
+abbrev pub valuesBytes : List ℤ → List ℕ
+valuesBytes l = cond (eqb (small (getD l 0 (pos 0))) 2) (termBytes (getD l 2 (pos 0))) (termsBytes (lineTerms l))
+
+-- a row: its values, and a semicolon where another row (5) follows
+abbrev pub rowBytes : List ℤ → ℕ → List ℕ
+rowBytes l next = bytes " " ++ valuesBytes l ++ if (eqb next 5) (bytes ";")
+
+-- a line by its kind: an atom (4), a row (5), or a head
+abbrev pub kindBytes : List ℤ → ℕ → ℕ → ℕ → List ℕ
+kindBytes l kind block next = cond (eqb kind 4) (atomBytes l block next) (cond (eqb kind 5) (rowBytes l next) (headBytes l kind))
+
+-- a line, and the end of the text's line where a head or nothing follows
+unfoldable pub lineBytes : List ℤ → ℕ → ℕ → ℕ → List ℕ
+lineBytes l kind block next = kindBytes l kind block next ++ if (ltb next 4) (bytes "\n")
+
+-- the kind of the block that a line of a kind stands in, given that of the line before
+abbrev pub blockAt : ℕ → ℕ → ℕ
+blockAt kind block = cond (eqb kind 4) block (cond (eqb kind 5) block kind)
+
+-- the kind of the first of some lines; 0 where there is none
+abbrev pub firstKind : List (List ℤ) → ℕ
+firstKind [] = 0
+firstKind (l ∷ ls) = lineKind l
+
+-- lines that follow one of a block
+unfoldable pub linesFrom : ℕ → List (List ℤ) → List ℕ
+linesFrom block [] = []
+linesFrom block (l ∷ ls) = lineBytes l (lineKind l) (blockAt (lineKind l) block) (firstKind ls) ++ linesFrom (blockAt (lineKind l) block) ls
+
+-- the text of a number form
+unfoldable pub linesBytes : List ℤ → List ℕ
+linesBytes ws = linesFrom 0 (groups 7 (length ws / 7) ws)
+
+-- ---- causes
+
+-- what the causes 1 to 9 for sending back say
+abbrev pub causes : List (List ℕ)
+causes =
+    bytes "the sheet is too long"
+    ∷ bytes "a line or a field is malformed"
+    ∷ bytes "a line is out of place, or the question or the list is missing"
+    ∷ bytes "no such relation, or not its columns"
+    ∷ bytes "a term is out of range, or a row has a variable"
+    ∷ bytes "one atom, view or row too many"
+    ∷ bytes "a head or a row has the wrong length"
+    ∷ bytes "a block has no atoms, or a variable of its head is in none"
+    ∷ bytes "a row is not above the one before it"
+    ∷ []
+
+-- the text of a number that the list has, counted from 1; for any other number another text
+abbrev pub numbered : List (List ℕ) → List ℕ → ℕ → List ℕ
+numbered texts other zero = other
+numbered texts other (suc n) = getD texts n other
+
+-- what a cause says
+abbrev pub causeBytes : ℕ → List ℕ
+causeBytes number = numbered causes (bytes "there is not room enough") number
+
+-- a refusal without its first word: its cause, its line, and the line of the text, if any
+unfoldable pub refusalBytes : ℕ → ℕ → ℕ → List ℕ
+refusalBytes number line text =
+    unless0 number (bytes "cause " ++ numberBytes number)
+    ++ unless0 line (bytes " at line " ++ numberBytes line)
+    ++ unless0 text (bytes " of the sheet, line " ++ numberBytes text)
+    ++ unless0 text (bytes " of the text")
+    ++ bytes ": "
+    ++ causeBytes number
+    ++ bytes "\n"
+
+-- ---- what was expected
+
+-- how many columns, from one on
+abbrev pub counts : List (List ℕ)
+counts = bytes "one column in " ∷ bytes "two columns in " ∷ bytes "three columns in " ∷ []
+
+-- how many columns a relation has
+abbrev pub countBytes : ℕ → List ℕ
+countBytes columns = numbered counts (bytes "four columns in ") columns
+
+-- the columns of a relation, and its name; nothing where there is no such relation
+unfoldable pub columnsBytes : ℕ → List ℕ
+columnsBytes relation = cond (ltb 10 relation) [] (countBytes (columnsAt relation) ++ relationBytes relation)
+
+-- what is expected, by text_reader's numbers for it, from 1 on
+abbrev pub expectations : ℕ → List (List ℕ)
+expectations relation =
+    bytes "q, the question"
+    ∷ bytes "l, the saved list"
+    ∷ bytes "v, a view"
+    ∷ bytes "("
+    ∷ bytes "a variable, a number or )"
+    ∷ bytes "a variable or a number"
+    ∷ bytes ", or )"
+    ∷ bytes ":"
+    ∷ bytes "a relation: Rower, Strap, Worn, Sig, Beat, Noise, Pulse, Coach, Seat or Pause"
+    ∷ columnsBytes relation
+    ∷ bytes "at most four columns"
+    ∷ bytes ", or the end of the line"
+    ∷ bytes ", or = and the rows"
+    ∷ bytes "a row or the end of the line"
+    ∷ bytes "a row"
+    ∷ bytes ", or ; or the end of the line"
+    ∷ bytes "; or the end of the line"
+    ∷ []
+
+-- what was expected
+abbrev pub whatBytes : ℕ → ℕ → List ℕ
+whatBytes what relation = numbered (expectations relation) (bytes "at most 65536 bytes") what
+
+-- what was expected in a line, without the first word
+unfoldable pub expectedBytes : ℕ → ℕ → ℕ → List ℕ
+expectedBytes line what relation = numberBytes line ++ bytes ": expected " ++ whatBytes what relation ++ bytes "\n"
