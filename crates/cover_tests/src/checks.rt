@@ -6,7 +6,7 @@ use format::Ending;
 use format::LINE_WORDS;
 use format::MOST_LINES;
 use format::MOST_WORDS;
-use stored::print;
+use stored::output;
 ghost use mathlib.Core.Path.{_≡_};
 ghost use Prim.Native.Nat.{_+_, _*_, _<_, _≤_};
 ghost use lib.ListN.{length};
@@ -20,14 +20,20 @@ const ANSWERS: usize = 1024;
 
 const ROOM: usize = ANSWERS * ANSWER;
 
-// Prints a mark for each check.
-pub(crate) fn show(sheet: &[u8], facts: &[i32], missing: &[usize; 4]) {
+// Puts a mark for each check at a place.
+pub(crate) fn put_marks(
+    out: &mut [u8],
+    at: usize,
+    sheet: &[u8],
+    facts: &[i32],
+    missing: &[usize; 4],
+) -> usize {
     let mut words = [0i32; MOST_WORDS];
     sheet::read(sheet, &mut words);
-    print::mark(are_facts(sheet, &words, facts));
-    print::mark(agrees(sheet, &words, facts));
-    print::mark(is_least(sheet, facts, missing));
-    print::mark(is_bare(sheet, &words, facts));
+    let a = output::put_mark(out, at, are_facts(sheet, &words, facts));
+    let b = output::put_mark(out, a, agrees(sheet, &words, facts));
+    let c = output::put_mark(out, b, is_least(sheet, facts, missing));
+    output::put_mark(out, c, is_bare(sheet, &words, facts))
 }
 
 // Whether evaluation takes the facts, and each value stands in the sheet or is made up.

@@ -18,9 +18,14 @@
 // which of these are shown, since the case is free: 0 none, 1 the missing answer, 2 all. With any other verdict all are.
 mod checks;
 
+use libc::STDOUT_FILENO;
 use stored::input;
-use stored::print;
+use stored::marks;
+use stored::output;
 ghost use Prim.Native.Nat.{_≤_};
+
+// No result is longer: it has a name of at most 8192 bytes, at most 704 words of twelve bytes each, and eight numbers of some twenty.
+const ROOM: usize = 17408;
 
 // Runs every case: the count is one that no input reaches.
 fn main() {
@@ -37,58 +42,86 @@ fn run_next() -> bool {
     if n == 0 {
         return false;
     }
-    run(&line[0..n]);
-    print::byte(b'\n');
+    let mut out = [0u8; ROOM];
+    let end = run(&line[0..n], &mut out);
+    let after = puts::put_byte(&mut out, end, b'\n');
+    print(&out, after);
     true
 }
 
-// Runs a case. A line without a bar is a heading.
-fn run(case: &[u8]) {
-    let bar = input::place(case, b'|');
-    print::bytes(&case[0..bar]);
-    if bar == case.len() {
-        return;
+// Prints the first n bytes.
+fn print(s: &[u8], n: usize) {
+    if n <= s.len() {
+        io::write_all(STDOUT_FILENO, &s[0..n]);
     }
-    run_parts(&case[bar + 1..]);
+}
+
+// Runs a case, puts its result at the start of out, and returns its length. A line without a bar is a heading.
+fn run(case: &[u8], out: &mut [u8]) -> usize {
+    let bar = input::place(case, b'|');
+    let end = puts::put(out, 0, &case[0..bar]);
+    if bar == case.len() {
+        return end;
+    }
+    run_parts(&case[bar + 1..], out, end)
 }
 
 // Takes a case's two numbers and its text apart.
-fn run_parts(parts: &[u8]) {
+fn run_parts(parts: &[u8], out: &mut [u8], at: usize) -> usize {
     let gap = input::place(parts, b' ');
     let bar = input::place(parts, b'|');
     if bar == parts.len() {
-        return;
+        return at;
     }
     if bar < gap {
-        return;
+        return at;
     }
     let room = input::number(&parts[0..gap]);
     let shown = input::number(&parts[gap..bar]);
-    call(&parts[bar + 1..], room, shown);
+    call(&parts[bar + 1..], room, shown, out, at)
 }
 
 // Calls with the bytes that the text stands for.
-fn call(text: &[u8], room: usize, shown: usize) {
+fn call(text: &[u8], room: usize, shown: usize, out: &mut [u8], at: usize) -> usize {
     let mut bytes = [0u8; 8704];
     let n = input::bytes(text, &mut bytes);
     let mut lent = [0i32; 704];
-    print::put_marks(&mut lent);
+    marks::put_marks(&mut lent);
     let k = least(room, 704);
-    show(&bytes[0..n], shown, &mut lent[0..k]);
+    show(&bytes[0..n], shown, &mut lent[0..k], out, at)
 }
 
-// Calls, and prints what came of it.
-fn show(sheet: &[u8], shown: usize, lent: &mut [i32]) {
+// Calls, and puts what came of it at a place.
+fn show(sheet: &[u8], shown: usize, lent: &mut [i32], out: &mut [u8], at: usize) -> usize {
     let j = judge::judge(sheet, lent);
     let verdict = j.verdict;
     let count = j.count;
     let missing = j.missing;
     let done = least(words_of(count), lent.len());
-    show_ending(verdict, j.number, j.line);
-    print::mark(print::are_marked(lent, done));
-    show_checks(sheet, verdict, &lent[0..done], &missing);
-    show_missing(among(verdict, shown), &missing);
-    show_facts(among(verdict, shown), count, &lent[0..done]);
+    let a = put_ending(out, at, verdict, j.number, j.line);
+    let b = output::put_mark(out, a, marks::are_marked(lent, done));
+    let c = put_checks(out, b, sheet, verdict, &lent[0..done], &missing);
+    put_case(
+        out,
+        c,
+        among(verdict, shown),
+        &missing,
+        count,
+        &lent[0..done],
+    )
+}
+
+// The missing answer and the facts, as far as they are shown.
+fn put_case(
+    out: &mut [u8],
+    at: usize,
+    shown: usize,
+    missing: &[usize; 4],
+    count: usize,
+    facts: &[i32],
+) -> usize {
+    let end = put_missing(out, at, shown, missing);
+    put_facts(out, end, shown, count, facts)
 }
 
 // How many words that many facts have. More than the program lends count as ten thousand.
@@ -107,35 +140,42 @@ fn among(verdict: usize, shown: usize) -> usize {
     if verdict == 1 { shown } else { 2 }
 }
 
-fn show_ending(verdict: usize, number: usize, line: usize) {
-    print::bytes(b": ");
-    print::number(verdict, b' ');
-    print::number(number, b' ');
-    print::number(line, b' ');
+fn put_ending(out: &mut [u8], at: usize, verdict: usize, number: usize, line: usize) -> usize {
+    let a = puts::put(out, at, b": ");
+    let b = output::put_number(out, a, verdict, b' ');
+    let c = output::put_number(out, b, number, b' ');
+    output::put_number(out, c, line, b' ')
 }
 
-fn show_checks(sheet: &[u8], verdict: usize, facts: &[i32], missing: &[usize; 4]) {
+fn put_checks(
+    out: &mut [u8],
+    at: usize,
+    sheet: &[u8],
+    verdict: usize,
+    facts: &[i32],
+    missing: &[usize; 4],
+) -> usize {
     if verdict != 1 {
-        return;
+        return at;
     }
-    checks::show(sheet, facts, missing);
+    checks::put_marks(out, at, sheet, facts, missing)
 }
 
-fn show_missing(shown: usize, missing: &[usize; 4]) {
-    print::byte(b'|');
+fn put_missing(out: &mut [u8], at: usize, shown: usize, missing: &[usize; 4]) -> usize {
+    let a = puts::put_byte(out, at, b'|');
     if shown < 1 {
-        return;
+        return a;
     }
-    print::number(missing[0], b' ');
-    print::number(missing[1], b' ');
-    print::number(missing[2], b' ');
-    print::number(missing[3], b'|');
+    let b = output::put_number(out, a, missing[0], b' ');
+    let c = output::put_number(out, b, missing[1], b' ');
+    let d = output::put_number(out, c, missing[2], b' ');
+    output::put_number(out, d, missing[3], b'|')
 }
 
-fn show_facts(shown: usize, count: usize, facts: &[i32]) {
+fn put_facts(out: &mut [u8], at: usize, shown: usize, count: usize, facts: &[i32]) -> usize {
     if shown < 2 {
-        return;
+        return at;
     }
-    print::number(count, b'|');
-    print::words(facts, 5);
+    let bar = output::put_number(out, at, count, b'|');
+    output::put_words(out, bar, facts, 5)
 }

@@ -8,16 +8,21 @@
 //
 // What is printed: the number, the line and the count; "=" where the lent words after the answers are as they were lent, and "!" where they
 // are not; a bar; the answers, four words each, with "/" after each.
-mod output;
+mod ending;
 
+use libc::STDOUT_FILENO;
 use stored::input;
-use stored::print;
+use stored::marks;
+use stored::output;
 ghost use Prim.Native.Nat.{_≤_};
 
 // The words of a fact, and of an answer.
 const FACT: usize = 5;
 
 const ANSWER: usize = 4;
+
+// No result is longer: it has at most 8192 words of twelve bytes each, and how the call ended.
+const ROOM: usize = 98432;
 
 // Runs every case: the count is one that no input reaches.
 fn main() {
@@ -34,53 +39,60 @@ fn run_next() -> bool {
     if n == 0 {
         return false;
     }
-    run(&line[0..n]);
-    print::byte(b'\n');
+    let mut out = [0u8; ROOM];
+    let end = run(&line[0..n], &mut out);
+    let after = puts::put_byte(&mut out, end, b'\n');
+    print(&out, after);
     true
 }
 
-// Runs a case. A line without a bar is a heading.
-fn run(case: &[u8]) {
+// Prints the first n bytes.
+fn print(s: &[u8], n: usize) {
+    if n <= s.len() {
+        io::write_all(STDOUT_FILENO, &s[0..n]);
+    }
+}
+
+// Runs a case, puts its result at the start of out, and returns its length. A line without a bar is a heading.
+fn run(case: &[u8], out: &mut [u8]) -> usize {
     let bar = input::place(case, b'|');
     if bar == case.len() {
-        print::bytes(case);
-        return;
+        return puts::put(out, 0, case);
     }
-    run_parts(&case[0..bar], &case[bar + 1..]);
+    run_parts(&case[0..bar], &case[bar + 1..], out)
 }
 
 // Takes a case's two numbers apart, and its two texts.
-fn run_parts(numbers: &[u8], texts: &[u8]) {
+fn run_parts(numbers: &[u8], texts: &[u8], out: &mut [u8]) -> usize {
     let gap = input::place(numbers, b' ');
     let block = input::number(&numbers[0..gap]);
     let room = input::number(&numbers[gap..]);
     let bar = input::place(texts, b'|');
     if bar == texts.len() {
-        print::byte(b'?');
-        return;
+        return puts::put_byte(out, 0, b'?');
     }
-    call(&texts[0..bar], block, &texts[bar + 1..], room);
+    call(&texts[0..bar], block, &texts[bar + 1..], room, out)
 }
 
 // Calls with the bytes and words that the texts stand for.
-fn call(sheet: &[u8], block: usize, facts: &[u8], room: usize) {
+fn call(sheet: &[u8], block: usize, facts: &[u8], room: usize, out: &mut [u8]) -> usize {
     let mut bytes = [0u8; 8704];
     let n = input::bytes(sheet, &mut bytes);
     let mut words = [0i32; 704];
     let m = input::words(facts, FACT, &mut words);
     let mut lent = [0i32; 8192];
-    print::put_marks(&mut lent);
+    marks::put_marks(&mut lent);
     let k = least(room, 8192);
-    show(&bytes[0..n], block, &words[0..m], &mut lent[0..k]);
+    show(&bytes[0..n], block, &words[0..m], &mut lent[0..k], out)
 }
 
-// Calls, and prints what came of it.
-fn show(sheet: &[u8], block: usize, facts: &[i32], lent: &mut [i32]) {
-    let ending = evaluate::evaluate(sheet, block, facts, lent);
-    let done = least(words_of(output::count(ending)), lent.len());
-    output::ending(ending, print::are_marked(lent, done));
-    print::byte(b'|');
-    print::words(&lent[0..done], ANSWER);
+// Calls, and puts what came of it.
+fn show(sheet: &[u8], block: usize, facts: &[i32], lent: &mut [i32], out: &mut [u8]) -> usize {
+    let e = evaluate::evaluate(sheet, block, facts, lent);
+    let done = least(words_of(ending::count(e)), lent.len());
+    let end = ending::put_ending(out, e, marks::are_marked(lent, done));
+    let bar = puts::put_byte(out, end, b'|');
+    output::put_words(out, bar, &lent[0..done], ANSWER)
 }
 
 // How many words that many answers have. More than the program lends count as a hundred thousand.

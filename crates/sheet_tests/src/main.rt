@@ -12,13 +12,17 @@
 //
 // What is printed of reading and of writing: the number, the line and the count; "=" where the lent words or bytes after the count are as
 // they were lent, and "!" where they are not; a bar; the words or bytes written. Of a line: its length, a bar, its bytes.
-mod output;
+mod result;
 
 ghost use Prim.Native.Nat.{_≤_};
-ghost use lib.ListN.{length};
+use format::Ending;
 use format::LINE_WORDS;
+use libc::STDOUT_FILENO;
 use stored::input;
-use stored::print;
+use stored::output;
+
+// No result is longer: it has at most 704 words of twelve bytes each and 4352 bytes of three, and two answers.
+const ROOM: usize = 22016;
 
 // Runs every case: the count is one that no input reaches.
 fn main() {
@@ -35,29 +39,37 @@ fn run_next() -> bool {
     if n == 0 {
         return false;
     }
-    run(&line[0..n]);
-    print::byte(b'\n');
+    let mut out = [0u8; ROOM];
+    let end = run(&line[0..n], &mut out);
+    let after = puts::put_byte(&mut out, end, b'\n');
+    print(&out, after);
     true
 }
 
-// Runs a case. A line without a bar is a heading.
-fn run(case: &[u8]) {
-    let bar = input::place(case, b'|');
-    if bar == case.len() {
-        print::bytes(case);
-        return;
+// Prints the first n bytes.
+fn print(s: &[u8], n: usize) {
+    if n <= s.len() {
+        io::write_all(STDOUT_FILENO, &s[0..n]);
     }
-    let number = input::number(&case[0..bar]);
-    call(case[0], number, &case[bar + 1..]);
 }
 
-fn call(name: u8, number: usize, text: &[u8]) {
+// Runs a case, puts its result at the start of out, and returns its length. A line without a bar is a heading.
+fn run(case: &[u8], out: &mut [u8]) -> usize {
+    let bar = input::place(case, b'|');
+    if bar == case.len() {
+        return puts::put(out, 0, case);
+    }
+    let number = input::number(&case[0..bar]);
+    call(case[0], number, &case[bar + 1..], out)
+}
+
+fn call(name: u8, number: usize, text: &[u8], out: &mut [u8]) -> usize {
     match name {
-        b'r' => call_read(number, text),
-        b'w' => call_write(number, text),
-        b'l' => call_line(number, text),
-        b'b' => call_both(number, text),
-        _ => print::byte(b'?'),
+        b'r' => call_read(number, text, out),
+        b'w' => call_write(number, text, out),
+        b'l' => call_line(number, text, out),
+        b'b' => call_both(number, text, out),
+        _ => puts::put_byte(out, 0, b'?'),
     }
 }
 
@@ -76,60 +88,64 @@ fn words_of(lines: usize) -> usize {
     }
 }
 
-fn call_read(room: usize, text: &[u8]) {
+fn call_read(room: usize, text: &[u8], out: &mut [u8]) -> usize {
     let mut given = [0u8; 8704];
     let n = input::bytes(text, &mut given);
     let mut lent = [77777777i32; 704];
     let k = least(room, 704);
-    read(&given[0..n], &mut lent[0..k]);
+    read(&given[0..n], &mut lent[0..k], out)
 }
 
-// Returns how many words were written.
-fn read(given: &[u8], lent: &mut [i32]) -> usize
-    ensures { λ r. ⌜ r ≤ length (now (lent .exit)) ⌝ }
-{
+fn read(given: &[u8], lent: &mut [i32], out: &mut [u8]) -> usize {
     let answer = sheet::read(given, lent);
-    let done = least(words_of(output::count(answer)), lent.len());
-    output::answer(answer, output::are_words(lent, done, 77777777));
-    print::byte(b'|');
-    print::words(&lent[0..done], LINE_WORDS);
-    done
+    put_read(out, answer, lent)
 }
 
-fn call_write(room: usize, text: &[u8]) {
+// Puts what was read into the lent words.
+fn put_read(out: &mut [u8], answer: Ending, lent: &[i32]) -> usize {
+    let done = least(words_of(result::count(answer)), lent.len());
+    let end = result::put_answer(out, 0, answer, result::are_words(lent, done, 77777777));
+    let bar = puts::put_byte(out, end, b'|');
+    output::put_words(out, bar, &lent[0..done], LINE_WORDS)
+}
+
+fn call_write(room: usize, text: &[u8], out: &mut [u8]) -> usize {
     let mut given = [0i32; 704];
     let n = input::words(text, LINE_WORDS, &mut given);
     let mut lent = [35u8; 4352];
     let k = least(room, 4352);
-    write(&given[0..n], &mut lent[0..k]);
+    write(&given[0..n], &mut lent[0..k], out, 0)
 }
 
-fn write(given: &[i32], lent: &mut [u8]) {
+// Writes, and puts what was written at a place.
+fn write(given: &[i32], lent: &mut [u8], out: &mut [u8], at: usize) -> usize {
     let answer = sheet::write(given, lent);
-    let done = least(output::count(answer), lent.len());
-    output::answer(answer, output::are_bytes(lent, done, 35));
-    print::byte(b'|');
-    output::bytes(&lent[0..done]);
+    let done = least(result::count(answer), lent.len());
+    let end = result::put_answer(out, at, answer, result::are_bytes(lent, done, 35));
+    let bar = puts::put_byte(out, end, b'|');
+    result::put_bytes(out, bar, &lent[0..done])
 }
 
-fn call_line(number: usize, text: &[u8]) {
+fn call_line(number: usize, text: &[u8], out: &mut [u8]) -> usize {
     let mut given = [0u8; 8704];
     let n = input::bytes(text, &mut given);
-    line(&given[0..n], number);
+    line(&given[0..n], number, out)
 }
 
-fn line(given: &[u8], number: usize) {
+fn line(given: &[u8], number: usize, out: &mut [u8]) -> usize {
     let back = sheet::line(given, number);
-    print::number(back.len(), b'|');
-    output::bytes(back);
+    let bar = output::put_number(out, 0, back.len(), b'|');
+    result::put_bytes(out, bar, back)
 }
 
-fn call_both(room: usize, text: &[u8]) {
+fn call_both(room: usize, text: &[u8], out: &mut [u8]) -> usize {
     let mut given = [0u8; 8704];
     let n = input::bytes(text, &mut given);
     let mut words = [77777777i32; 704];
-    let m = read(&given[0..n], &mut words);
+    let answer = sheet::read(&given[0..n], &mut words);
+    let end = put_read(out, answer, &words);
+    let m = least(words_of(result::count(answer)), 704);
     let mut lent = [35u8; 4352];
     let k = least(room, 4352);
-    write(&words[0..m], &mut lent[0..k]);
+    write(&words[0..m], &mut lent[0..k], out, end)
 }

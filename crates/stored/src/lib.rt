@@ -1,7 +1,10 @@
-// Stored cases of the test programs: their text taken apart, and the parts of their results printed.
+// Stored cases of the test programs: their text taken apart, and the parts of their results put together.
 
 // Lines, numbers, bytes and words of the cases' text.
 pub mod input;
 
-// Bytes, numbers and words of the results, and marks that tell lent words that were written from those that were not.
-pub mod print;
+// Marks that tell lent words that were written from those that were not.
+pub mod marks;
+
+// Numbers, marks and words of the results.
+pub mod output;

@@ -7,13 +7,19 @@
 // where the sheet of that text is the same sheet, and "!" where it is not.
 use format::Ending;
 use format::MOST_BYTES;
+use libc::STDOUT_FILENO;
 use stored::input;
-use stored::print;
+use stored::output;
 use text::Made;
 use text::SPOKEN_BYTES;
 use text::TEXT_BYTES;
 ghost use Prim.Native.Nat.{_≤_};
 ghost use lib.ListN.{length};
+
+// The bytes of a case at most, and of its result: the name, what is said in words, a text, and a few marks.
+const LINE: usize = 8192;
+
+const ROOM: usize = LINE + SPOKEN_BYTES + TEXT_BYTES + 16;
 
 // Runs every case: the count is one that no input reaches.
 fn main() {
@@ -25,14 +31,23 @@ fn main() {
 
 // Runs the next case, and returns false where there is none.
 fn run_next() -> bool {
-    let mut line = [0u8; 8192];
+    let mut line = [0u8; LINE];
     let n = input::line(&mut line);
     if n == 0 {
         return false;
     }
     open_lines(&mut line);
-    run(&line[0..n]);
+    let mut out = [0u8; ROOM];
+    let end = run(&line[0..n], &mut out);
+    print(&out, end);
     true
+}
+
+// Prints the first n bytes.
+fn print(s: &[u8], n: usize) {
+    if n <= s.len() {
+        io::write_all(STDOUT_FILENO, &s[0..n]);
+    }
 }
 
 // Byte 10 for each "/".
@@ -48,58 +63,59 @@ fn opened(b: u8) -> u8 {
     if b == b'/' { b'\n' } else { b }
 }
 
-// Runs a case. A line without a bar is a heading.
-fn run(case: &[u8]) {
+// Runs a case, puts its result at the start of out, and returns its length. A line without a bar is a heading.
+fn run(case: &[u8], out: &mut [u8]) -> usize {
     let bar = input::place(case, b'|');
-    print::bytes(&case[0..bar]);
+    let end = puts::put(out, 0, &case[0..bar]);
     if bar == case.len() {
-        print::byte(b'\n');
-        return;
+        return puts::put_byte(out, end, b'\n');
     }
-    print::byte(b'|');
-    run_given(&case[bar + 1..]);
+    let after = puts::put_byte(out, end, b'|');
+    run_given(&case[bar + 1..], out, after)
 }
 
-fn run_given(given: &[u8]) {
+fn run_given(given: &[u8], out: &mut [u8], at: usize) -> usize {
     let mut words = [0u8; SPOKEN_BYTES];
     let n = text::answer(given, &mut words);
-    print_part(&words, n);
-    run_text(given);
+    let end = put_part(out, at, &words, n);
+    run_text(given, out, end)
 }
 
 // The sheet of a text, if it has one, and back.
-fn run_text(given: &[u8]) {
+fn run_text(given: &[u8], out: &mut [u8], at: usize) -> usize {
     let mut sheet = [0u8; MOST_BYTES];
     let Made::Sheet(n) = text::sheet_of(given, &mut sheet) else {
-        return;
+        return at;
     };
     if n <= sheet.len() {
-        run_back(&sheet[0..n]);
+        return run_back(&sheet[0..n], out, at);
     }
+    at
 }
 
 // The text of a sheet, and whether it has the same sheet.
-fn run_back(sheet: &[u8]) {
+fn run_back(sheet: &[u8], out: &mut [u8], at: usize) -> usize {
     let mut back = [0u8; TEXT_BYTES];
     let Ending::Done(n) = text::text_of(sheet, &mut back) else {
-        return;
+        return at;
     };
-    print_part(&back, n);
+    let end = put_part(out, at, &back, n);
     if n <= back.len() {
-        run_again(sheet, &back[0..n]);
+        return run_again(sheet, &back[0..n], out, end);
     }
+    end
 }
 
-fn run_again(sheet: &[u8], back: &[u8]) {
+fn run_again(sheet: &[u8], back: &[u8], out: &mut [u8], at: usize) -> usize {
     let mut again = [0u8; MOST_BYTES];
     let Made::Sheet(n) = text::sheet_of(back, &mut again) else {
-        print::bytes(b"!\n");
-        return;
+        return puts::put(out, at, b"!\n");
     };
     if n <= again.len() {
-        print::mark(are_equal(sheet, &again[0..n]));
-        print::byte(b'\n');
+        let end = output::put_mark(out, at, are_equal(sheet, &again[0..n]));
+        return puts::put_byte(out, end, b'\n');
     }
+    at
 }
 
 fn are_equal(a: &[u8], b: &[u8]) -> bool {
@@ -116,8 +132,10 @@ fn are_equal(a: &[u8], b: &[u8]) -> bool {
     true
 }
 
-fn print_part(s: &[u8], n: usize) {
+// The first n bytes of s.
+fn put_part(out: &mut [u8], at: usize, s: &[u8], n: usize) -> usize {
     if n <= s.len() {
-        print::bytes(&s[0..n]);
+        return puts::put(out, at, &s[0..n]);
     }
+    at
 }

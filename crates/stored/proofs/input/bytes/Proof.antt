@@ -1,19 +1,23 @@
--- The array keeps its length, and the count is cut to it. The measure is what is left of the text.
+-- What the first i bytes stand for is put. The measure is what is left of the text.
 use mathlib.Core.Path.{_≡_}
-use Prim.Native.Nat.{_-_}
+use Prim.Native.Nat.{_-_, _+_}
+use native.Mathlib.Omega.{arith}
+use lib.ListN.{length, getD, drop}
 use borrow.Author.Needs.{needs}
-use lib.ListN.{length}
+use Rattle.puts.proofs.Laws.{kept}
+use Rattle.stored.specs.Stored.{extent, meantBy, timesOf}
+use Rattle.stored.proofs.Meant.{Half, half-none, half-more, half-all, put-within}
 use Rattle.stored.proofs.input.bytes.Statement.{statement}
 use Rattle.stored.proofs.input.bytes.Tie as tie
 
 abbrev Inv-loop : tie.InvT-loop
-Inv-loop text out₀ n₀ i₀ out n i = length out ≡ length out₀
+Inv-loop text out₀ n₀ i₀ out n i = Half text out₀ out i n
 
 abbrev μ-loop : tie.MeasureT-loop
 μ-loop text out₀ n₀ i₀ out n i = length text - i
 
 loop-holds : tie.Need-loop-holds Inv-loop μ-loop
-loop-holds c = search needs
+loop-holds c = half-none (c .before .before .args .text .now) (c .before .before .args .out .now)
 
 byte-requires : tie.Need-byte-requires Inv-loop μ-loop
 byte-requires c κs = search needs
@@ -40,19 +44,19 @@ loop-less : tie.Need-loop-less Inv-loop μ-loop
 loop-less c = search needs
 
 loop-again : tie.Need-loop-again Inv-loop μ-loop
-loop-again c = search needs
+loop-again c =
+    let l = c .before .before .before .before .before .before .before .before .before .before .loop in
+    let s = c .before .before .before .before .before .before .before .before .before .before .before .before .before .args .text .now in
+    let w : c .width .result ≡ extent (getD s (l .i) 0) + 1 = c .width .ensures .1 in
+    let t : c .before .before .before .before .before .times .result ≡ timesOf (getD s (l .i) 0) = c .before .before .before .before .before .times .ensures in
+    let b : c .before .before .before .before .before .before .before .byte .result ≡ meantBy (getD s (l .i) 0) (drop (l .i + 1) s) = c .before .before .before .before .before .before .before .byte .ensures in
+    rw w (half-more (l .i) (omega arith) (l .inv) (rw (t, b) at (c .before .before .before .before .fill .ensures)))
 
 same-length : tie.Need-same-length Inv-loop μ-loop
-same-length c = search needs
+same-length c = kept (c .before .loop .inv .is)
 
 returns : tie.Need-returns Inv-loop μ-loop
-returns c = search needs
-
-same-length-2 : tie.Need-same-length-2 Inv-loop μ-loop
-same-length-2 c = search needs
-
-returns-2 : tie.Need-returns-2 Inv-loop μ-loop
-returns-2 c = search needs
+returns c = let p = half-all (omega arith) (c .before .loop .inv) in (put-within p, p)
 
 pub bytes-spec : {M : Type 1} → statement M
 bytes-spec =
@@ -71,6 +75,4 @@ bytes-spec =
     loop-less
     loop-again
     same-length
-    returns
-    same-length-2
-    returns-2)
+    returns)

@@ -1,22 +1,26 @@
--- The array keeps its length. The measure is what is left of the times.
+-- After i turns the byte is put i times. The measure is what is left of the times.
 use mathlib.Core.Path.{_≡_}
 use Prim.Native.Nat.{_≤_, _-_}
+use native.Mathlib.Omega.{arith}
+use lib.ListN.{replicate}
 use borrow.Author.Needs.{needs}
-use lib.ListN.{length}
+use Rattle.puts.specs.Puts.{Put}
+use Rattle.puts.proofs.Laws.{nothing, kept}
+use Rattle.stored.proofs.Meant.{same-more}
 use Rattle.stored.proofs.input.fill.Statement.{statement}
 use Rattle.stored.proofs.input.fill.Tie as tie
 
 abbrev Inv-loop : tie.InvT-loop
-Inv-loop out₀ at b times n₀ i₀ out n i = (i ≤ times) × (length out ≡ length out₀)
+Inv-loop out₀ at b times n₀ i₀ out n i = (i ≤ times) × Put out₀ out at (replicate i b) n
 
 abbrev μ-loop : tie.MeasureT-loop
 μ-loop out₀ at b times n₀ i₀ out n i = times - i
 
 loop-holds : tie.Need-loop-holds Inv-loop μ-loop
-loop-holds c = search needs
+loop-holds c = (omega arith, nothing (c .before .args .out .now) (c .before .args .at))
 
-put-requires : tie.Need-put-requires Inv-loop μ-loop
-put-requires c κs = search needs
+put-byte-requires : tie.Need-put-byte-requires Inv-loop μ-loop
+put-byte-requires c κs = search needs
 
 add-i : tie.Need-add-i Inv-loop μ-loop
 add-i c = search needs
@@ -25,13 +29,15 @@ loop-less : tie.Need-loop-less Inv-loop μ-loop
 loop-less c = search needs
 
 loop-again : tie.Need-loop-again Inv-loop μ-loop
-loop-again c = search needs
+loop-again c = (omega arith, same-more (c .before .before .before .before .before .loop .i) (c .before .before .before .before .before .before .before .args .b) (c .before .before .before .before .before .loop .inv .1) (c .before .before .put-byte .ensures))
 
 same-length : tie.Need-same-length Inv-loop μ-loop
-same-length c = search needs
+same-length c = kept (c .before .loop .inv .1)
 
 returns : tie.Need-returns Inv-loop μ-loop
-returns c = search needs
+returns c =
+    let e : c .before .loop .i ≡ c .before .before .before .args .times = omega arith in
+    rw (← e) (c .before .loop .inv .1)
 
 pub fill-spec : {M : Type 1} → statement M
 fill-spec =
@@ -40,7 +46,7 @@ fill-spec =
     Inv-loop
     μ-loop
     loop-holds
-    put-requires
+    put-byte-requires
     add-i
     loop-less
     loop-again

@@ -1,19 +1,22 @@
--- The array keeps its length, and the count is cut to it. The measure is what is left of the text.
-use mathlib.Core.Path.{_≡_}
+-- What is left of the text gives what the whole text gives. The measure is what is left.
+use mathlib.Core.Path.{ap}
 use Prim.Native.Nat.{_-_}
-use borrow.Author.Needs.{needs}
+use native.Mathlib.Omega.{arith}
 use lib.ListN.{length}
+use borrow.Author.Needs.{needs}
+use Rattle.stored.proofs.Laws.{back}
+use Rattle.stored.proofs.Read.{Going, going-none, going-more, going-all}
 use Rattle.stored.proofs.input.words.Statement.{statement}
 use Rattle.stored.proofs.input.words.Tie as tie
 
 abbrev Inv-loop : tie.InvT-loop
-Inv-loop text unit out₀ n₀ i₀ out n i = length out ≡ length out₀
+Inv-loop text unit out₀ n₀ i₀ out n i = Going unit text out₀ out n i
 
 abbrev μ-loop : tie.MeasureT-loop
 μ-loop text unit out₀ n₀ i₀ out n i = length text - i
 
 loop-holds : tie.Need-loop-holds Inv-loop μ-loop
-loop-holds c = search needs
+loop-holds c = going-none (c .before .args .unit) (c .before .args .text .now) (c .before .args .out .now)
 
 find-requires : tie.Need-find-requires Inv-loop μ-loop
 find-requires c κs = search needs
@@ -43,19 +46,31 @@ loop-less : tie.Need-loop-less Inv-loop μ-loop
 loop-less c = search needs
 
 loop-again : tie.Need-loop-again Inv-loop μ-loop
-loop-again c = search needs
+loop-again c =
+    let l = c .before .before .before .before .before .before .before .before .loop in
+    going-more (omega arith) (l .inv) (c .before .before .before .before .before .before .find .ensures .2) (c .before .before .before .word .ensures) (rw (back (record { sfits = c .before .before .before .word .ok })) at (c .before .before .store .ensures)) (c .close .ensures)
 
 same-length : tie.Need-same-length Inv-loop μ-loop
-same-length c = search needs
+same-length c = c .before .before .loop .inv .kept
 
 returns : tie.Need-returns Inv-loop μ-loop
-returns c = search needs
+returns c =
+    let l = c .before .before .loop in
+    let e = going-all (omega arith) (l .inv) in
+    let k = l .inv .kept in
+    let n = ap (λ r. r .next) e in
+    (omega arith, ap (λ r. r .words) e, omega arith)
 
 same-length-2 : tie.Need-same-length-2 Inv-loop μ-loop
-same-length-2 c = search needs
+same-length-2 c = c .before .before .loop .inv .kept
 
 returns-2 : tie.Need-returns-2 Inv-loop μ-loop
-returns-2 c = search needs
+returns-2 c =
+    let l = c .before .before .loop in
+    let e = going-all (omega arith) (l .inv) in
+    let k = l .inv .kept in
+    let n = ap (λ r. r .next) e in
+    (omega arith, ap (λ r. r .words) e, omega arith)
 
 pub words-spec : {M : Type 1} → statement M
 words-spec =
