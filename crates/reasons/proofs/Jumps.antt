@@ -54,7 +54,7 @@ module _ (ws lv : List ℕ) (size : length ws ≡ 533) (own : Owns ws) where
       go false = inr refl
 
   -- a constant of the relaxed state is kept
-  relaxed-constant : (marks : List Bool) (n : ℕ) → relaxed ws lv marks n < top → (kept lv marks n ≡ true) × (relaxed ws lv marks n ≡ stateOf top ws n)
+  pub relaxed-constant : (marks : List Bool) (n : ℕ) → relaxed ws lv marks n < top → (kept lv marks n ≡ true) × (relaxed ws lv marks n ≡ stateOf top ws n)
   unfolding relaxed
   relaxed-constant marks n lt = go (kept lv marks n) refl lt
     where
@@ -62,7 +62,7 @@ module _ (ws lv : List ℕ) (size : length ws ≡ 533) (own : Owns ws) where
       go true e l = (e, refl)
       go false e l = absurd (omega arith)
 
-  relaxed-kept : (marks : List Bool) (n : ℕ) → kept lv marks n ≡ true → relaxed ws lv marks n ≡ stateOf top ws n
+  pub relaxed-kept : (marks : List Bool) (n : ℕ) → kept lv marks n ≡ true → relaxed ws lv marks n ≡ stateOf top ws n
   unfolding relaxed
   relaxed-kept marks n e = ap (λ b. cond b (stateOf top ws n) (top + n)) e
 
@@ -80,10 +80,10 @@ module _ (ws lv : List ℕ) (size : length ws ≡ 533) (own : Owns ws) where
   module _ (out lw u r : List ℕ) (b : ℕ) (out-size : length out ≡ 533) (out-own : Owns out)
       (levels : (n : ℕ) → In (top + n) u → getD lw n 0 ≡ b) (others-level : (n : ℕ) → (In (top + n) u → ⊥) → getD lw n 0 ≡ getD lv n 0)
       (fresh : (n : ℕ) → In (top + n) u → stateOf top ws n ≡ top + n) (others : (n : ℕ) → (In (top + n) u → ⊥) → stateOf top out n ≡ stateOf top ws n) where
-    -- a failure that does not rest on the choice
-    pub jump : (y : Sheet) (marks : List Bool) → getD marks b true ≡ false → Rests y out lw marks → Rests y ws lv marks
+    -- without the choice the state is what it was before
+    pub relaxed-back : (marks : List Bool) → getD marks b true ≡ false → relaxed out lw marks ≡ relaxed ws lv marks
     unfolding relaxed
-    jump y marks e rests = subst (Refuted top y) (fun-ext (λ n. go n (in? same? (top + n) u))) rests
+    relaxed-back marks e = fun-ext (λ n. go n (in? same? (top + n) u))
       where
         go : (n : ℕ) → Dec (In (top + n) u) → relaxed out lw marks n ≡ relaxed ws lv marks n
         go n (yes m) = ap (λ k. cond (getD marks k true) (stateOf top out n) (top + n)) (levels n m) ∙ ap (λ k. cond k (stateOf top out n) (top + n)) e ∙ either (kept lv marks n)
@@ -92,6 +92,10 @@ module _ (ws lv : List ℕ) (size : length ws ≡ 533) (own : Owns ws) where
             either true = sym (fresh n m)
             either false = refl
         go n (no m) = ap (λ k. cond (getD marks k true) (stateOf top out n) (top + n)) (others-level n m) ∙ ap (λ v. cond (kept lv marks n) v (top + n)) (others n m)
+
+    -- a failure that does not rest on the choice
+    pub jump : (y : Sheet) (marks : List Bool) → getD marks b true ≡ false → Rests y out lw marks → Rests y ws lv marks
+    jump y marks e rests = subst (Refuted top y) (relaxed-back marks e) rests
 
     -- a failure below the choice, as an alternative refuted: all that it rests on besides the choice is among the marks
     pub refuted-below : (y : Sheet) (below marks : List Bool) → ((n : ℕ) → (In (top + n) u → ⊥) → stateOf top ws n < top → kept lv below n ≡ true → kept lv marks n ≡ true)

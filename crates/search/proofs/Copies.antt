@@ -38,7 +38,7 @@ use Rattle.search.proofs.Levels.{relaxed-all, own-proper, proper-own, z
 
 -- ---- copies by their numbers
 
-numbered-is : (js : List Job) (c : Copy) (d : Job) → In c (numbered js) → c .job ≡ getD js (c .number) d
+pub numbered-is : (js : List Job) (c : Copy) (d : Job) → In c (numbered js) → c .job ≡ getD js (c .number) d
 numbered-is (j ∷ js) c d (inl e) = ap (λ (q : Copy). q .job) e ∙ ap (λ n. getD (j ∷ js) n d) (sym (ap (λ (q : Copy). q .number) e))
 numbered-is (j ∷ js) c d (inr m) =
     let (q, i, e) = map-in later c (numbered js) m in
@@ -53,13 +53,13 @@ same-met h (m ∷ ms) (n ∷ ns) k l e w = ap (λ q. q ∷ map h ms) (w (m ≈ n
 
 module _ (p : List ℕ) (x : Sheet) (r : Ready p x) where
   -- copy i + 1 is that of row i
-  copy-job : (asked : Bool) (c : Copy) → In c (numbered (jobs (sheetBy asked x))) → (i : ℕ) → c .number ≡ suc i → (lt : i < rowCount p)
+  pub copy-job : (asked : Bool) (c : Copy) → In c (numbered (jobs (sheetBy asked x))) → (i : ℕ) → c .number ≡ suc i → (lt : i < rowCount p)
       → c .job ≡ record { block = nth (x .views) (rowAt p i 0) .block; is = map con (r .plan .rows i lt .row) }
   copy-job true c m i e lt = numbered-is (jobs x) c (record { block = x .question; is = [] }) m ∙ ap (λ n. getD (jobs x) n (record { block = x .question; is = [] })) e ∙ r .plan .rows i lt .copy
   copy-job false c m i e lt = numbered-is (jobs (bare x)) c (record { block = x .question; is = [] }) m ∙ ap (λ n. getD (jobs (bare x)) n (record { block = x .question; is = [] })) e ∙ r .plan .rows i lt .copy
 
   -- the question's copy has its own head
-  first-job : (asked : Bool) (c : Copy) → In c (numbered (jobs (sheetBy asked x))) → c .number ≡ 0 → c .job .block .head ≡ c .job .is
+  pub first-job : (asked : Bool) (c : Copy) → In c (numbered (jobs (sheetBy asked x))) → c .number ≡ 0 → c .job .block .head ≡ c .job .is
   first-job true c m e =
       let q = numbered-is (jobs x) c (record { block = x .question; is = [] }) m ∙ ap (λ n. getD (jobs x) n (record { block = x .question; is = [] })) e in
       subst (λ (j : Job). j .block .head ≡ j .is) (sym q) refl

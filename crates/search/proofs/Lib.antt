@@ -4,6 +4,8 @@ pub mod Heads
 pub mod Fresh
 pub mod ReadyLaws
 pub mod NodeLaws
+pub mod Columns
 pub mod Levels
 pub mod Copies
 pub mod Marks
+pub mod Mirror
