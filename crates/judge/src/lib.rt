@@ -42,6 +42,11 @@ const NUMBERS: usize = 630;
 
 const FACT: usize = 5;
 
+// The numbers of a plan, and the slots of a state.
+const PLAN_NUMBERS: usize = 1184;
+
+const SLOTS: usize = 533;
+
 // A judgement that hands nothing over.
 fn plain(verdict: usize, number: usize, line: usize) -> Judgement
     ensures { λ r. ⌜ r ≡ judgement verdict number line 0 [] ⌝ }
@@ -101,13 +106,11 @@ fn decide(p: &[usize; 1184], out: &mut [i32]) -> Judgement
     requires { ⌜ (640 ≤ length (now out)) × ((x : Sheet) × Ready (now p) x) ⌝ }
     ensures { λ r. ⌜ ((x : Sheet) → Ready (now (p .entry)) x → Decided x (now (out .entry)) (now (out .exit)) r) ⌝ }
 {
-    let case = search::find(p, true);
-    if case.found {
-        let words = case.words;
+    let mut words = [0usize; SLOTS];
+    if search::find(p, true, &mut words) {
         return hand_over(p, &words, out);
     }
-    let log = search::find(p, false);
-    if log.found {
+    if search::find(p, false, &mut words) {
         return plain(COVERED, 0, 0);
     }
     plain(NO_LOG, 0, 0)
@@ -121,7 +124,8 @@ fn judge_words(ws: &[i32], out: &mut [i32]) -> Judgement
     if out.len() < LEAST_ROOM {
         return plain(REFUSED, NO_ROOM, 0);
     }
-    let p = plan::plan(ws);
+    let mut p = [0usize; PLAN_NUMBERS];
+    plan::plan(ws, &mut p);
     decide(&p, out)
 }
 

@@ -277,13 +277,14 @@ fn put_counts(p: &mut [usize], atoms: usize, listed: usize, blocks: usize)
 }
 
 // The plan of an accepted number form.
-pub fn plan(ws: &[i32]) -> [usize; 1184]
-    ensures { λ r. ⌜ (refusalOf (wordLines (now (ws .entry))) .number ≡ 0 → Plan r (sheetOf (wordLines (now (ws .entry))))) ⌝ }
+pub fn plan(ws: &[i32], p: &mut [usize])
+    ensures { λ r. ⌜ (length (now (p .entry)) ≡ 1184 → refusalOf (wordLines (now (ws .entry))) .number ≡ 0 → Plan (now (p .exit)) (sheetOf (wordLines (now (ws .entry))))) ⌝ }
 {
-    let mut p = [0usize; PLAN_NUMBERS];
-    let blocks = put_blocks(ws, &mut p);
-    let listed = put_rows(ws, &mut p);
-    let atoms = put_tableau(&mut p, listed);
-    put_counts(&mut p, atoms, listed, blocks);
-    p
+    if p.len() != PLAN_NUMBERS {
+        return;
+    }
+    let blocks = put_blocks(ws, p);
+    let listed = put_rows(ws, p);
+    let atoms = put_tableau(p, listed);
+    put_counts(p, atoms, listed, blocks);
 }

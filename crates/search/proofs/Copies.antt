@@ -28,7 +28,7 @@ use Rattle.plan.specs.Plan.{rowAt, rowValues, rowCount, viewCount, blockNumbers
 use Rattle.state.specs.State.{made-up, Fresh, Constants, Equated, EquatedBy}
 use Rattle.state.specs.Parts.{Own}
 use Rattle.state.proofs.Laws.{own-free}
-use Rattle.search.specs.Parts.{Ready, sheetBy, fromBy, Proper, Settled, Stood, Fitting, Heads, HeadsBy, Begins, SoughtBy, FoundBy}
+use Rattle.search.specs.Parts.{Ready, sheetBy, fromBy, Proper, Settled, Stood, Fitting, Heads, HeadsBy, Begins, SoughtBy, Found, FoundBy}
 use Rattle.search.proofs.Heads.{inside}
 use Rattle.search.proofs.Fresh.{proper-value, copy-small}
 use Rattle.search.proofs.Node.{Task, nth-in, head-refuted, kept-row, fine-row}
@@ -201,10 +201,19 @@ module _ (p : List ℕ) (x : Sheet) (r : Ready p x) where
   }
 
   -- what the search below says of all
-  pub found-by : (asked : Bool) (b : Bool) (ws lv out lw : List ℕ) (marks : List Bool) (i : ℕ) → Heads x (sheetBy asked x) ws i → SoughtBy b x (sheetBy asked x) ws lv out lw marks → FoundBy b x (sheetBy asked x) out
-  found-by asked true ws lv out lw marks i h s = s
-  found-by asked false ws lv out lw marks i h s =
+  pub found-by : (asked : Bool) (b : Bool) (ws lv out lw : List ℕ) (marks : List Bool) (sl : List ℕ) (sm : List Bool) (i : ℕ) → Heads x (sheetBy asked x) ws i → SoughtBy b x (sheetBy asked x) ws lv out lw marks sl sm → FoundBy b x (sheetBy asked x) out
+  found-by asked true ws lv out lw marks sl sm i h s = s
+  found-by asked false ws lv out lw marks sl sm i h s =
       h .back (subst (Refuted top (sheetBy asked x)) (relaxed-all ws lv) (rests-more ws lv (h .proper .size) (h .proper .each) (sheetBy asked x) marks [] (λ k e. refl) (s .rests)))
+
+-- what a search found is copied, or there is nothing
+pub found-yes : (x y : Sheet) (b : Bool) (ws out : List ℕ) → b ≡ true → out ≡ ws → FoundBy b x y ws → FoundBy true x y out
+found-yes x y true ws out e same f = subst (Found x y) (sym same) f
+found-yes x y false ws out e same f = absurd (true≢false (sym e))
+
+pub found-no : (x y : Sheet) (b : Bool) (ws out : List ℕ) → b ≡ false → FoundBy b x y ws → FoundBy false x y out
+found-no x y true ws out e f = absurd (true≢false e)
+found-no x y false ws out e f = f
 
 -- a row's head was made the row, or not
 pub heads-yes : (x y : Sheet) (b : Bool) (ws : List ℕ) (i : ℕ) → b ≡ true → HeadsBy b x y ws i → Heads x y ws i

@@ -16,7 +16,7 @@ use Rattle.verdicts.specs.Handed.{Stands}
 use Rattle.verdicts.specs.Sheets.{top}
 use Rattle.verdicts.specs.Accepted.{Fine, Accepted}
 use Rattle.verdicts.specs.Tableau.{Job, Copy, State, jobs, numbered, copy, Meets, bare}
-use Rattle.verdicts.specs.Search.{Keeps, Clash, equations, _≈_, Met, after, Refuted, RefutedBy}
+use Rattle.verdicts.specs.Search.{Keeps, Clash, Below, equations, _≈_, Met, after, Refuted, RefutedBy}
 use Rattle.verdicts.specs.Words.{stateOf}
 use Rattle.verdicts.proofs.Decide.{less?, same?, in?}
 use Rattle.verdicts.proofs.Tableau.{numbered-job, of-listed, copy-block, job-is}
@@ -26,11 +26,14 @@ use Rattle.state.specs.State.{made-up, Fresh, Constants, Equated, EquatedBy}
 use Rattle.state.specs.Parts.{Own}
 use Rattle.reasons.specs.Reasons.{kept, relaxed, Rests, Within, Assigned, MarksAdded, MarksPut}
 use Rattle.reasons.proofs.Laws.{within-same, within-trans}
-use Rattle.reasons.proofs.Jumps.{relaxed-plain, rests-more, jump, refuted-below}
-use Rattle.search.specs.Parts.{Ready, sheetBy, Proper, Settled, NodeBy, Stood, Fitting, Found, Levelled, SameLevels, Lost, Opened, Taken, Passed, TakenBy, GivenTo, JumpsBy, turned, Tried, Going, Begins, SoughtBy}
+use Rattle.reasons.proofs.Jumps.{below-by, relaxed-plain, relaxed-constant, relaxed-kept, relaxed-back, rests-more, jump, refuted-below}
+use Rattle.strikes.specs.Strikes.{Forgot}
+use Rattle.struck.specs.Rows.{Unmarked, Learned}
+use Rattle.search.specs.Parts.{Ready, sheetBy, Proper, Settled, NodeBy, Stood, Fitting, Found, Levelled, SameLevels, Lost, Opened, Taken, Passed, TakenBy, GivenTo, JumpsBy, turned, Tried, Failed, Going, Begins, SoughtBy, Strikes, RefutedAs}
 use Rattle.search.proofs.Heads.{inside}
 use Rattle.search.proofs.Node.{Task, nth-in, in-nth, meets-kept}
 use Rattle.search.proofs.ReadyLaws.{ready-task}
+use Rattle.search.proofs.Struck.{strikes-under, strikes-back, strikes-learned}
 
 -- ---- words
 
@@ -95,7 +98,7 @@ stood-after x ws out u r size st fresh cs f q = record { each = λ n lt. go n lt
 -- ---- levels
 
 -- a relaxed state depends on the choices of bound slots alone
-relaxed-same : (ws lv lw : List ℕ) → Proper ws → SameLevels ws lv lw → (s : List Bool) → relaxed ws lw s ≡ relaxed ws lv s
+pub relaxed-same : (ws lv lw : List ℕ) → Proper ws → SameLevels ws lv lw → (s : List Bool) → relaxed ws lw s ≡ relaxed ws lv s
 unfolding relaxed
 relaxed-same ws lv lw pr e s = fun-ext (λ n. go n (relaxed-plain ws lv (pr .size) (pr .each) [] n))
   where
@@ -148,8 +151,8 @@ module _ (p : List ℕ) (x : Sheet) (r : Ready p x) where
 
   -- ---- a stray row, and the rows tried for it
 
-  module _ (asked : Bool) (ws lv : List ℕ) (next left : ℕ) (b : Begins x (sheetBy asked x) ws left) (g : Levelled ws lv next) (view : ℕ) (u st lw : List ℕ) (marks : List Bool) (at : ℕ → ℕ) (n : ℕ)
-      (here : Going p x (sheetBy asked x) ws lv st lw marks view u at n) (few : at n < rowCount p) where
+  module _ (asked : Bool) (ws lv : List ℕ) (next left : ℕ) (b : Begins x (sheetBy asked x) ws left) (g : Levelled ws lv next) (view : ℕ) (u st lw : List ℕ) (marks : List Bool) (at : ℕ → ℕ) (n : ℕ) (gone : List Bool) (last : ℕ) (sl : List ℕ) (sm : List Bool)
+      (here : Going p x (sheetBy asked x) ws lv st lw marks view u at n gone last sl sm) (few : at n < rowCount p) where
     abbrev y : Sheet
     y = sheetBy asked x
 
@@ -226,27 +229,53 @@ module _ (p : List ℕ) (x : Sheet) (r : Ready p x) where
           subst (Refuted top y) (relaxed-same ws lv lw (b .proper) (here .levels) below)
           (jump ws lw (b .proper .size) (b .proper .each) out lx u (rowValues p (at n)) c out-size out-own slot-levels (a .others) (λ k m. fresh-slot k m .1) other-slot y below e rests)
 
-      -- a failure below, and what it rests on besides the choice is marked
+      -- a slot of the stray row has the value that it was given
+      bound : (k : ℕ) → In (top + k) u → (h : ℕ → ℕ) → Keeps top h → Met h (equations u (rowValues p (at n))) → h (top + k) ≡ stateOf top out k
+      bound k m h keeps met =
+          let (small, e) = fresh-slot k m in
+          let there : stateOf top out k ≡ t .step .by (top + k) = (λ j. t .step .state j k) ∙ ap (t .step .by) e in
+          let (w, i, constant, f) = taken-value x ws out u (rowValues p (at n)) (b .proper .size) (o .fresh) (row-constants (at n) few) (o .fits (at n) few (t .view-is)) (t .step) k small m in
+          let v = inside out k 0 (top + k) (let z = out-size in omega arith) in
+          sym (t .step .unifier .general h keeps met (top + k)) ∙ ap h (sym there) ∙ keeps (stateOf top out k) (omega arith)
+
+      -- a failure below refutes the row, where all that it rests on besides the choice is among the choices
+      row-refuted : (below s : List Bool) → ((k : ℕ) → stateOf top ws k < top → kept lv below k ≡ true → kept lv s k ≡ true) → Rests y out lx below → RefutedBy top y (relaxed ws lv s) (equations u (rowValues p (at n)))
+      row-refuted below s among rests =
+          subst (λ (z : State). RefutedBy top y z (equations u (rowValues p (at n)))) (relaxed-same ws lv lw (b .proper) (here .levels) s)
+          (refuted-below ws lw (b .proper .size) (b .proper .each) out lx u (rowValues p (at n)) c out-size out-own slot-levels (a .others) (λ k m. fresh-slot k m .1) other-slot y below s
+          (λ k m h e. let q = here .levels .each k h in ap (λ j. getD s j true) q ∙ among k h (ap (λ j. getD below j true) (sym q) ∙ e)) bound rests)
+
+      -- what was marked below is marked, but for the next choice, to which no slot belongs yet
+      marks-among : (below more : List Bool) → MarksAdded marks below next more → (s : List Bool) → Within more s → (k : ℕ) → stateOf top ws k < top → kept lv below k ≡ true → kept lv s k ≡ true
+      marks-among below more d s w k h e = let z = g .each k h in w (getD lv k 0) (d .added (getD lv k 0) (λ same. omega arith) e)
+
       tried-taken : (below more : List Bool) → MarksAdded marks below next more → Rests y out lx below → Tried p y ws lv more view u at (n + 1)
       tried-taken below more d rests = record {
-        each = λ s w. below-more _ n (here .tried .each s (within-trans marks more s (d .more) w))
-            (λ e. subst (λ (z : State). RefutedBy top y z (equations u (rowValues p (at n)))) (relaxed-same ws lv lw (b .proper) (here .levels) s)
-            (refuted-below ws lw (b .proper .size) (b .proper .each) out lx u (rowValues p (at n)) c out-size out-own slot-levels (a .others) (λ k m. fresh-slot k m .1) other-slot y below s (among s w) bound rests));
+        each = λ s w. below-more _ n (here .tried .each s (within-trans marks more s (d .more) w)) (λ e. row-refuted below s (marks-among below more d s w) rests);
       }
-        where
-          among : (s : List Bool) → Within more s → (k : ℕ) → (In (top + k) u → ⊥) → stateOf top ws k < top → kept lw below k ≡ true → kept lw s k ≡ true
-          among s w k m h e =
-              let q = here .levels .each k h in
-              let z = g .each k h in
-              w (getD lw k 0) (d .added (getD lw k 0) (λ same. omega arith) e)
 
-          bound : (k : ℕ) → In (top + k) u → (h : ℕ → ℕ) → Keeps top h → Met h (equations u (rowValues p (at n))) → h (top + k) ≡ stateOf top out k
-          bound k m h keeps met =
-              let (small, e) = fresh-slot k m in
-              let there : stateOf top out k ≡ t .step .by (top + k) = (λ j. t .step .state j k) ∙ ap (t .step .by) e in
-              let (w, i, constant, f) = taken-value x ws out u (rowValues p (at n)) (b .proper .size) (o .fresh) (row-constants (at n) few) (o .fits (at n) few (t .view-is)) (t .step) k small m in
-              let v = inside out k 0 (top + k) (let z = out-size in omega arith) in
-              sym (t .step .unifier .general h keeps met (top + k)) ∙ ap h (sym there) ∙ keeps (stateOf top out k) (omega arith)
+      -- without the mark of the next choice, to which no slot belongs, the failure is the same
+      failed-taken : (below more less : List Bool) → MarksAdded marks below next more → Unmarked below next less → Rests y out lx below → Failed p y ws lv more less u (at n)
+      failed-taken below more less d cut rests = record {
+        refuted = row-refuted below less (λ k h e. let z = g .each k h in cut .others (getD lv k 0) (λ same. omega arith) ∙ e) rests;
+        among = λ s w k h e. let z = g .each k h in marks-among below more d s w k h (sym (cut .others (getD lv k 0) (λ same. omega arith)) ∙ e);
+      }
+
+      -- values that are struck stay so below
+      strikes-taken : Strikes y out lx sl sm
+      strikes-taken = strikes-under y ws lv out lx sl sm (λ more w d. below-by (relaxed ws lv more) w (relaxed-plain ws lv (b .proper .size) (b .proper .each) more) (λ k lt.
+          let (e, f) = relaxed-constant ws lv (b .proper .size) (b .proper .each) more k lt in
+          let h : stateOf top ws k < top = subst (λ v. v < top) f lt in
+          let q = other-slot k (λ m. let (small, z) = fresh-slot k m in absurd (omega arith)) in
+          let level : getD lx k 0 ≡ getD lv k 0 = a .others k (λ m. let (small, z) = fresh-slot k m in absurd (omega arith)) ∙ here .levels .each k h in
+          let same : relaxed out lx more k ≡ stateOf top out k = relaxed-kept out lx out-size out-own more k (ap (λ j. getD more j true) level ∙ e) in
+          sym (d .at k) ∙ ap (d .to) (same ∙ q ∙ sym f) ∙ d .keeps (relaxed ws lv more k) lt)) (here .strikes)
+
+      -- and those that do not rest on the choice stay after it
+      strikes-after : (tl : List ℕ) (tm : List Bool) (rl : List ℕ) (rm : List Bool) → Forgot tl tm c rl rm → Strikes y out lx tl tm → Strikes y ws lv rl rm
+      strikes-after tl tm rl rm f all = strikes-back y ws lv out lx tl tm c rl rm (λ more e.
+          relaxed-back ws lw (b .proper .size) (b .proper .each) out lx u (rowValues p (at n)) c out-size out-own slot-levels (a .others) (λ k m. fresh-slot k m .1) other-slot more e
+          ∙ relaxed-same ws lv lw (b .proper) (here .levels) more) f all
 
     -- more marks
     opened-more : (from more : List Bool) → Within from more → Opened p x y ws lv from view u → Opened p x y ws lv more view u
@@ -276,11 +305,11 @@ module _ (p : List ℕ) (x : Sheet) (r : Ready p x) where
     took false out take e = absurd (true≢false (sym e))
 
     -- the row was not taken
-    pub going-passed : (res : Bool) (out lx : List ℕ) (c : ℕ) → Take res out → GivenTo res lw lx u c → res ≡ false → Going p x y ws lv out lx marks view u at (n + 1)
+    pub going-passed : (res : Bool) (out lx : List ℕ) (c : ℕ) → Take res out → GivenTo res lw lx u c → res ≡ false → Going p x y ws lv out lx marks view u at (n + 1) gone last sl sm
     going-passed true out lx c take to e = absurd (true≢false e)
     going-passed false out lx c take to e =
         let t = at-words false out take in
-        record { same = t .kept; levels = subst (SameLevels ws lv) (sym to) (here .levels); opened = o; tried = tried-passed out t }
+        record { same = t .kept; levels = subst (SameLevels ws lv) (sym to) (here .levels); opened = o; tried = tried-passed out t; failed = here .failed; strikes = here .strikes }
 
     given-yes : (res : Bool) (lx : List ℕ) (c : ℕ) → res ≡ true → GivenTo res lw lx u c → Assigned lw lx u c
     given-yes true lx c e to = to
@@ -288,50 +317,56 @@ module _ (p : List ℕ) (x : Sheet) (r : Ready p x) where
 
     -- it was, and its slots belong to choice c
     module _ (res : Bool) (out : List ℕ) (take : Take res out) (yes : res ≡ true) (lx : List ℕ) (c deeper : ℕ) (size : length lw ≡ 533) (to : GivenTo res lw lx u c) (above : c < deeper) (le : next ≤ deeper)
-        (found : Bool) (end ly : List ℕ) (below : List Bool) (sought : Begins x y out (left - 1) → Levelled out lx deeper → SoughtBy found x y out lx end ly below) where
+        (found : Bool) (end ly : List ℕ) (below : List Bool) (tl : List ℕ) (tm : List Bool)
+        (sought : Begins x y out (left - 1) → Levelled out lx deeper → Strikes y out lx sl sm → SoughtBy found x y out lx end ly below tl tm) where
       taken : Taken p view (at n) ws out u
       taken = took res out take yes
 
       a : Assigned lw lx u c
       a = given-yes res lx c yes to
 
-      below-said : SoughtBy found x y out lx end ly below
-      below-said = sought (taken-begins out taken) (levelled out taken lx c deeper size a above le)
+      below-said : SoughtBy found x y out lx end ly below tl tm
+      below-said = sought (taken-begins out taken) (levelled out taken lx c deeper size a above le) (strikes-taken out taken lx c deeper size a)
 
       -- something good was found
       pub going-found : found ≡ true → Found x y end
       going-found e = go found e below-said
         where
-          go : (f : Bool) → f ≡ true → SoughtBy f x y out lx end ly below → Found x y end
+          go : (f : Bool) → f ≡ true → SoughtBy f x y out lx end ly below tl tm → Found x y end
           go true e s = s
           go false e s = absurd (true≢false (sym e))
 
-      lost : found ≡ false → Lost y out lx end ly below
+      lost : found ≡ false → Lost y out lx end ly below tl tm
       lost e = go found e below-said
         where
-          go : (f : Bool) → f ≡ false → SoughtBy f x y out lx end ly below → Lost y out lx end ly below
+          go : (f : Bool) → f ≡ false → SoughtBy f x y out lx end ly below tl tm → Lost y out lx end ly below tl tm
           go true e s = absurd (true≢false e)
           go false e s = s
 
       -- nothing was, and the row is given back
       module _ (none : found ≡ false) (back : List ℕ)
-          (release : (l : List ℕ) → Fresh l u → length l ≡ length end → ((k : ℕ) → (In (top + k) u → ⊥) → getD end k 0 ≡ getD l k 0) → back ≡ l) where
+          (release : (l : List ℕ) → Fresh l u → length l ≡ length end → ((k : ℕ) → (In (top + k) u → ⊥) → getD end k 0 ≡ getD l k 0) → back ≡ l) (rl : List ℕ) (rm : List Bool) (forgot : Forgot tl tm c rl rm) where
         back-is : back ≡ ws
         back-is =
             let e = lost none .kept in
             release ws (o .fresh) (sym (taken .step .same) ∙ sym (ap length e)) (λ k m. ap (λ l. getD l k 0) e ∙ taken .step .others k m)
 
         -- that does not rest on the choice
-        pub going-jumped : getD below c true ≡ false → (old last : List Bool) → MarksPut old below last → Lost y ws lv back ly last
+        pub going-jumped : getD below c true ≡ false → (old last : List Bool) → MarksPut old below last → Lost y ws lv back ly last rl rm
         going-jumped e old last put = record {
+          strikes = strikes-after out taken lx c deeper size a tl tm rl rm forgot (lost none .strikes);
           rests = rests-more ws lv (b .proper .size) (b .proper .each) y below last (put-within old below last put) (rests-jump out taken lx c deeper size a below e (lost none .rests));
           kept = back-is;
           levels = levels-back out taken lx c deeper size a ly (lost none .levels);
         }
 
         -- it may: the next row is tried
-        pub going-taken : (more : List Bool) → MarksAdded marks below next more → Going p x y ws lv back ly more view u at (n + 1)
-        going-taken more d = record {
+        pub going-taken : (more less : List Bool) → MarksAdded marks below next more → Unmarked below next less → (nl : List ℕ) (nm : List Bool) → Learned u (rowValues p (at n)) rl rm less nl nm
+            → Going p x y ws lv back ly more view u at (n + 1) less (at n) nl nm
+        going-taken more less d cut nl nm learned = record {
+          failed = λ lt. failed-taken out taken lx c deeper size a below more less d cut (lost none .rests);
+          strikes = strikes-learned y ws lv (b .proper) u (rowValues p (at n)) rl rm less nl nm (o .fresh) (row-constants (at n) few) refl (failed-taken out taken lx c deeper size a below more less d cut (lost none .rests) .refuted) learned
+              (strikes-after out taken lx c deeper size a tl tm rl rm forgot (lost none .strikes));
           same = back-is;
           levels = levels-back out taken lx c deeper size a ly (lost none .levels);
           opened = opened-more marks more (d .more) o;
@@ -366,8 +401,9 @@ turn-of first rows j a b = ⊎-elim
 
 -- all rows tried
 pub going-all : (p : List ℕ) (x y : Sheet) (ws lv st lw : List ℕ) (marks : List Bool) (view : ℕ) (u : List ℕ) (first rows n : ℕ) → rows ≤ n → rows ≡ rowCount p → (0 < rows → first < rows)
-    → Going p x y ws lv st lw marks view u (turned first rows) n → Lost y ws lv st lw marks
-going-all p x y ws lv st lw marks view u first rows n le e inside here = record {
+    → (gone : List Bool) (last : ℕ) (sl : List ℕ) (sm : List Bool) → Going p x y ws lv st lw marks view u (turned first rows) n gone last sl sm → Lost y ws lv st lw marks sl sm
+going-all p x y ws lv st lw marks view u first rows n le e inside gone last sl sm here = record {
+  strikes = here .strikes;
   rests = here .opened .refuted marks (within-same marks) (λ j lt.
       let (i, small, f) = turn-of first rows j (inside (omega arith)) (omega arith) in
       subst (λ k. rowAt p k 0 ≡ view → RefutedBy top y (relaxed ws lv marks) (equations u (rowValues p k))) f (here .tried .each marks (within-same marks) i (omega arith)));
@@ -376,8 +412,10 @@ going-all p x y ws lv st lw marks view u first rows n le e inside here = record 
 }
 
 -- none tried yet
-pub going-first : (p : List ℕ) (x y : Sheet) (ws lv : List ℕ) (marks : List Bool) (view : ℕ) (u : List ℕ) (at : ℕ → ℕ) → Opened p x y ws lv marks view u → Going p x y ws lv ws lv marks view u at 0
-going-first p x y ws lv marks view u at o = record {
+pub going-first : (p : List ℕ) (x y : Sheet) (ws lv : List ℕ) (marks : List Bool) (view : ℕ) (u : List ℕ) (at : ℕ → ℕ) → Opened p x y ws lv marks view u → (gone : List Bool) (last : ℕ) → rowCount p ≤ last → (sl : List ℕ) (sm : List Bool) → Strikes y ws lv sl sm → Going p x y ws lv ws lv marks view u at 0 gone last sl sm
+going-first p x y ws lv marks view u at o gone last far sl sm strikes = record {
+  failed = λ lt. absurd (omega arith);
+  strikes = strikes;
   same = refl;
   levels = record { each = λ n lt. refl };
   opened = o;
@@ -396,10 +434,10 @@ passed-other p view i ws u ne = record { clash = λ e. absurd (ne e); kept = ref
 -- ---- what a state was found to be
 
 pub done-by : (p : List ℕ) (x y : Sheet) (ws lv : List ℕ) (marks : List Bool) (view : ℕ) (u : List ℕ) (left : ℕ) (done good : Bool) → done ≡ true → Begins x y ws left → NodeBy done good p x y ws lv marks view u
-    → SoughtBy good x y ws lv ws lv marks
-done-by p x y ws lv marks view u left true true e b n = record { good = n (b .settled); size = b .proper .size; stood = b .stood }
-done-by p x y ws lv marks view u left true false e b n = record { rests = n; kept = refl; levels = record { each = λ k lt. refl } }
-done-by p x y ws lv marks view u left false good e b n = absurd (true≢false (sym e))
+    → (sl : List ℕ) (sm : List Bool) → Strikes y ws lv sl sm → SoughtBy good x y ws lv ws lv marks sl sm
+done-by p x y ws lv marks view u left true true e b n sl sm all = record { good = n (b .settled); size = b .proper .size; stood = b .stood }
+done-by p x y ws lv marks view u left true false e b n sl sm all = record { strikes = all; rests = n; kept = refl; levels = record { each = λ k lt. refl } }
+done-by p x y ws lv marks view u left false good e b n sl sm all = absurd (true≢false (sym e))
 
 pub open-by : (p : List ℕ) (x y : Sheet) (ws lv : List ℕ) (marks : List Bool) (view : ℕ) (u : List ℕ) (done good : Bool) → done ≡ false → NodeBy done good p x y ws lv marks view u → Opened p x y ws lv marks view u
 open-by p x y ws lv marks view u true good e n = absurd (true≢false e)

@@ -34,6 +34,7 @@ use Rattle.search.proofs.Fresh.{copy-small}
 use Rattle.search.proofs.Node.{nth-in, in-nth}
 use Rattle.search.proofs.NodeLaws.{only-saved}
 use Rattle.search.proofs.Levels.{row-constants}
+use Rattle.search.proofs.Struck.{own-slot}
 use Rattle.search.proofs.ReadyLaws.{ready-task}
 use Rattle.search.proofs.Copies.{copy-job, first-job, numbered-is}
 
@@ -222,15 +223,6 @@ module _ (p : List ℕ) (x : Sheet) (r : Ready p x) (one other : ℕ) (to : List
       go (inl (c, l, e, f)) = subst (λ z. z < top) (sym f) (row-constants p x r other b (getD (rowValues p other) c 0) (at-in (rowValues p other) c l))
       go (inr (inl (c, l, e, f))) = subst (λ z. z < top) (sym f) (row-constants p x r one a (getD (rowValues p one) c 0) (at-in (rowValues p one) c l))
       go (inr (inr e)) = subst (λ z. z < top) (sym e) lt
-
-module _ (ws lv : List ℕ) (pr : Proper ws) where
-  -- a slot that is not bound is not bound without choices either
-  own-slot : (marks : List Bool) (n : ℕ) → n < 533 → getD ws n 0 ≡ top + n → relaxed ws lv marks n ≡ top + n
-  own-slot marks n lt e = ⊎-elim (λ h.
-      let (k, f) = relaxed-constant ws lv (pr .size) (pr .each) marks n h in
-      let z = pr .size in
-      let w : stateOf top ws n ≡ getD ws n 0 = inside ws n (top + n) 0 (omega arith) in
-      absurd (omega arith)) (λ h. h) (relaxed-plain ws lv (pr .size) (pr .each) marks n)
 
 -- ---- the row refuted
 

@@ -14,7 +14,7 @@ use Rattle.verdicts.specs.Handed.{Stands}
 use Rattle.verdicts.specs.Sheets.{ten, top}
 use Rattle.verdicts.specs.Accepted.{Accepted}
 use Rattle.verdicts.specs.Tableau.{State, Copy, jobs, numbered, copy, Meets, Good, bare}
-use Rattle.verdicts.specs.Search.{free, equations, Clash, Refuted, RefutedBy}
+use Rattle.verdicts.specs.Search.{free, equations, Clash, Below, Refuted, RefutedBy}
 use Rattle.verdicts.specs.Words.{stateOf}
 use Rattle.joins.specs.Joins.{headRow}
 use Rattle.answers.specs.Answers.{WitnessAt}
@@ -22,7 +22,10 @@ use Rattle.plan.specs.Plan.{Plan, viewCount, askedSize, rowCount, rowAt, rowVal
 use Rattle.state.specs.State.{made-up, Fresh, Equated}
 use Rattle.state.specs.Parts.{Own}
 use Rattle.views.specs.Views.{GivenAt, StrayAt, NoStray}
-use Rattle.reasons.specs.Reasons.{relaxed, Rests, Within, Marked, HeadMarked, Assigned, MarksAdded, MarksPut}
+use Rattle.reasons.specs.Reasons.{kept, relaxed, Rests, Within, Marked, HeadMarked, Assigned, MarksAdded, MarksPut}
+use Rattle.mirrors.specs.Mirrors.{Mirrors}
+use Rattle.strikes.specs.Strikes.{slotAt, valueAt, marksAt, countOf}
+use Rattle.struck.specs.Rows.{StruckRow}
 
 -- a plan of an accepted sheet
 pub record Ready (p : List ℕ) (x : Sheet) : Type 0 where
@@ -82,15 +85,24 @@ pub record Levelled (ws lv : List ℕ) (next : ℕ) : Type 0 where
 pub record SameLevels (ws lv lw : List ℕ) : Type 0 where
   pub each : (n : ℕ) → stateOf top ws n < top → getD lw n 0 ≡ getD lv n 0
 
--- nothing below the state is good, and that rests on the choices marked; the words are as they were
-pub record Lost (y : Sheet) (ws lv out lw : List ℕ) (marks : List Bool) : Type 0 where
+-- slot n cannot have the value w in anything good below the state, whatever the choices that are not marked
+pub record Struck (y : Sheet) (ws lv : List ℕ) (n w : ℕ) (marks : List Bool) : Type 0 where
+  pub none : (t : State) → Below top (relaxed ws lv marks) t → t n ≡ w → Good y t → ⊥
+
+-- so are the entries of a table
+pub record Strikes (y : Sheet) (ws lv sl : List ℕ) (sm : List Bool) : Type 0 where
+  pub each : (e : ℕ) → e < countOf sl → Struck y ws lv (slotAt sl e) (valueAt sl e) (marksAt sm e)
+
+-- nothing below the state is good, and that rests on the choices marked; the words are as they were, and the values struck are still
+pub record Lost (y : Sheet) (ws lv out lw : List ℕ) (marks : List Bool) (sl : List ℕ) (sm : List Bool) : Type 0 where
   pub rests : Rests y ws lv marks
   pub kept : out ≡ ws
   pub levels : SameLevels ws lv lw
+  pub strikes : Strikes y ws lv sl sm
 
-abbrev pub SoughtBy : Bool → Sheet → Sheet → List ℕ → List ℕ → List ℕ → List ℕ → List Bool → Type 0
-SoughtBy true x y ws lv out lw marks = Found x y out
-SoughtBy false x y ws lv out lw marks = Lost y ws lv out lw marks
+abbrev pub SoughtBy : Bool → Sheet → Sheet → List ℕ → List ℕ → List ℕ → List ℕ → List Bool → List ℕ → List Bool → Type 0
+SoughtBy true x y ws lv out lw marks sl sm = Found x y out
+SoughtBy false x y ws lv out lw marks sl sm = Lost y ws lv out lw marks sl sm
 
 -- a state that is neither good nor refuted yet: a stray row, which is none of its view's listed rows, and whose alternatives decide, whatever
 -- the choices that are not marked
@@ -165,12 +177,24 @@ turned first rows i = cond (ltb (first + i) rows) (first + i) (first + i - rows)
 pub record Tried (p : List ℕ) (y : Sheet) (ws lv : List ℕ) (marks : List Bool) (view : ℕ) (u : List ℕ) (at : ℕ → ℕ) (n : ℕ) : Type 0 where
   pub each : (s : List Bool) → Within marks s → (i : ℕ) → i < n → rowAt p (at i) 0 ≡ view → RefutedBy top y (relaxed ws lv s) (equations u (rowValues p (at i)))
 
--- where a search stands with a stray row: the words as they were, and the first n rows tried
-pub record Going (p : List ℕ) (x y : Sheet) (ws lv st lw : List ℕ) (marks : List Bool) (view : ℕ) (u : List ℕ) (at : ℕ → ℕ) (n : ℕ) : Type 0 where
+-- listed row `last` is refuted as what the stray row becomes, and that rests on choices that are marked
+pub record Failed (p : List ℕ) (y : Sheet) (ws lv : List ℕ) (marks below : List Bool) (u : List ℕ) (last : ℕ) : Type 0 where
+  pub refuted : RefutedBy top y (relaxed ws lv below) (equations u (rowValues p last))
+  pub among : (s : List Bool) → Within marks s → (k : ℕ) → stateOf top ws k < top → kept lv below k ≡ true → kept lv s k ≡ true
+
+-- where a search stands with a stray row: the words as they were, the first n rows tried, the last failure and the values struck
+pub record Going (p : List ℕ) (x y : Sheet) (ws lv st lw : List ℕ) (marks : List Bool) (view : ℕ) (u : List ℕ) (at : ℕ → ℕ) (n : ℕ) (below : List Bool) (last : ℕ) (sl : List ℕ) (sm : List Bool) : Type 0 where
   pub same : st ≡ ws
   pub levels : SameLevels ws lv lw
   pub opened : Opened p x y ws lv marks view u
   pub tried : Tried p y ws lv marks view u at n
+  pub failed : last < rowCount p → Failed p y ws lv marks below u last
+  pub strikes : Strikes y ws lv sl sm
+
+-- row k is refuted already: it is like the last one that was, or a value of it is struck
+abbrev pub RefutedAs : Bool → List ℕ → List ℕ → List ℕ → List ℕ → ℕ → ℕ → List Bool → List ℕ → List Bool → List Bool → List Bool → Type 0
+RefutedAs true p ws lv u last k below sl sm old marks = (Mirrors p ws lv below u last k × (marks ≡ old)) ⊎ StruckRow p u k sl sm old marks
+RefutedAs false p ws lv u last k below sl sm old marks = marks ≡ old
 
 -- a state from which a search may go on: proper, settled, with fewer made-up values than choices left
 pub record Begins (x y : Sheet) (ws : List ℕ) (left : ℕ) : Type 0 where

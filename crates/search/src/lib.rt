@@ -12,7 +12,7 @@ ghost use Rattle.state.specs.State.{Fresh, Constants};
 ghost use Rattle.state.specs.Parts.{Own};
 ghost use Rattle.views.specs.Views.{GivenAt};
 ghost use Rattle.views.specs.Walks as walks;
-ghost use Rattle.search.specs.Parts.{Ready, Proper, sheetBy, fromBy, numbersOf, NodeBy, GivenBy, ShutBy, ByStrays, TakenBy, GivenTo, JumpsBy, turned, Begins, Levelled, SoughtBy, Counted, Heads, HeadsBy, FoundBy};
+ghost use Rattle.search.specs.Parts.{Ready, Proper, sheetBy, fromBy, numbersOf, NodeBy, GivenBy, ShutBy, ByStrays, TakenBy, GivenTo, JumpsBy, turned, Begins, Levelled, SoughtBy, Strikes, RefutedAs, Counted, Heads, HeadsBy, FoundBy};
 ghost use Rattle.verdicts.specs.Verdict.{Sheet};
 
 // The places of a plan's parts.
@@ -217,7 +217,7 @@ fn known_row(
     0
 }
 
-// What stray rows say of a state; of one, the choices are marked.
+// What stray rows say of a state; of one, the choices are marked. Those that facts with a slot of u give are looked at first.
 fn by_strays(
     p: &[usize; 1184],
     st: &[usize],
@@ -225,11 +225,12 @@ fn by_strays(
     from: usize,
     facts: &[usize],
     marks: &mut [bool],
+    u: &[usize; 4],
 ) -> Finding
     requires { ⌜ (length (now st) ≡ 533) × (length (now lv) ≡ 533) ⌝ }
     ensures { λ r. ⌜ (walks.Ready (now (p .entry)) → from + length (now (facts .entry)) / 5 ≤ 126 → ByStrays (r .done) (r .good) (now (p .entry)) (now (facts .entry)) (now (st .entry)) (now (lv .entry)) from (now (marks .exit)) (r .view) (r .values)) ⌝ }
 {
-    let s = strays::find(p, facts);
+    let s = strays::find(p, facts, from, u);
     if !s.some {
         return ended(true);
     }
@@ -280,17 +281,18 @@ fn by_facts(
     from: usize,
     facts: &[usize],
     marks: &mut [bool],
+    u: &[usize; 4],
 ) -> Finding
     requires { ⌜ (length (now st) ≡ 533) × (length (now lv) ≡ 533) ⌝ }
     ensures { λ r. ⌜ ((x : Sheet) → Ready (now (p .entry)) x → Proper (now (st .entry)) → from ≡ fromBy asked (now (p .entry)) → now (facts .entry) ≡ numbersOf asked (now (p .entry)) (stateOf top (now (st .entry))) → NodeBy (r .done) (r .good) (now (p .entry)) x (sheetBy asked x) (now (st .entry)) (now (lv .entry)) (now (marks .exit)) (r .view) (r .values)) ⌝ }
 {
     if !asked {
-        return by_strays(p, st, lv, from, facts, marks);
+        return by_strays(p, st, lv, from, facts, marks, u);
     }
     if is_shut(p, st, lv, facts, marks) {
         return ended(false);
     }
-    by_strays(p, st, lv, from, facts, marks)
+    by_strays(p, st, lv, from, facts, marks, u)
 }
 
 // Where a state's facts start in the tableau.
@@ -303,13 +305,15 @@ fn start(p: &[usize; 1184], asked: bool) -> usize
     p[ASKED]
 }
 
-// What a state is found to be, with the question or without. The choices that this rests on are marked.
+// What a state is found to be, with the question or without, where u is the stray row that has become a listed one. The choices that this rests on
+// are marked.
 fn judge_state(
     p: &[usize; 1184],
     st: &[usize; 533],
     lv: &[usize; 533],
     asked: bool,
     marks: &mut [bool; 64],
+    u: &[usize; 4],
 ) -> Finding
     requires { ⌜ (length (now st) ≡ 533) × (length (now lv) ≡ 533) ⌝ }
     ensures { λ r. ⌜ ((x : Sheet) → Ready (now (p .entry)) x → Proper (now (st .entry)) → NodeBy (r .done) (r .good) (now (p .entry)) x (sheetBy asked x) (now (st .entry)) (now (lv .entry)) (now (marks .exit)) (r .view) (r .values)) ⌝ }
@@ -321,7 +325,7 @@ fn judge_state(
     if MOST_FACTS < n {
         return ended(false);
     }
-    by_facts(p, st, lv, asked, from, &room[..n * 5], marks)
+    by_facts(p, st, lv, asked, from, &room[..n * 5], marks, u)
 }
 
 // How many rows are listed.
@@ -381,9 +385,9 @@ fn jumps(marks: &mut [bool; 64], below: &[bool; 64], b: usize, next: usize) -> b
     true
 }
 
-// The number of the choice that takes a row for a stray row: its own where several rows fit and there is one left, else the last one that the
-// stray row rests on.
-fn choice(fit: usize, next: usize, marks: &[bool]) -> usize
+// The number of the choice that takes a row for a stray row: its own where several rows fit and there is one left, or where there is none one that it
+// shares with choices far above it; else the last one that the stray row rests on.
+fn choice(fit: usize, next: usize, left: usize, marks: &[bool]) -> usize
     requires { ⌜ (0 < next) × (next ≤ 64) ⌝ }
     ensures { λ r. ⌜ r < 64 ⌝ }
 {
@@ -391,6 +395,7 @@ fn choice(fit: usize, next: usize, marks: &[bool]) -> usize
         if next < CHOICES {
             return next;
         }
+        return 1 + left % (CHOICES - 1);
     }
     reasons::last(marks, next)
 }
@@ -425,8 +430,36 @@ fn turn(first: usize, rows: usize, i: usize) -> usize
     k
 }
 
+// Whether listed row k is refuted already as what the stray row u of a view becomes: it is like the last one that was, or a value of it is
+// struck.
+fn is_refuted(
+    p: &[usize; 1184],
+    st: &[usize; 533],
+    lv: &[usize; 533],
+    view: usize,
+    u: &[usize; 4],
+    last: usize,
+    k: usize,
+    below: &[bool; 64],
+    sl: &[usize; 129],
+    sm: &[bool; 4096],
+    marks: &mut [bool; 64],
+) -> bool
+    requires { ⌜ k < 40 ⌝ }
+    ensures { λ r. ⌜ RefutedAs r (now (p .entry)) (now (st .entry)) (now (lv .entry)) (now (u .entry)) last k (now (below .entry)) (now (sl .entry)) (now (sm .entry)) (now (marks .entry)) (now (marks .exit)) ⌝ }
+{
+    if view_of(p, k) != view {
+        return false;
+    }
+    if mirrors::is_mirrored(p, st, lv, below, u, last, k) {
+        return true;
+    }
+    struck::is_struck(p, u, k, sl, sm, marks)
+}
+
 // Looks below a settled state for a good one, at most so many choices deep. True: it stands in the words. False: there is none, the words are
-// as they were, and the choices that this rests on are marked.
+// as they were, and the choices that this rests on are marked. Values that were refuted on the way are kept in a table. The last stray row that
+// became a listed one is u.
 fn seek(
     p: &[usize; 1184],
     st: &mut [usize; 533],
@@ -435,37 +468,59 @@ fn seek(
     next: usize,
     left: usize,
     marks: &mut [bool; 64],
+    sl: &mut [usize; 129],
+    sm: &mut [bool; 4096],
+    u: &[usize; 4],
 ) -> bool
-    requires { ⌜ (length (now st) ≡ 533) × (length (now lv) ≡ 533) × (0 < next) × (next ≤ 64) ⌝ }
-    ensures { λ r. ⌜ ((x : Sheet) → Ready (now (p .entry)) x → Begins x (sheetBy asked x) (now (st .entry)) left → Levelled (now (st .entry)) (now (lv .entry)) next → SoughtBy r x (sheetBy asked x) (now (st .entry)) (now (lv .entry)) (now (st .exit)) (now (lv .exit)) (now (marks .exit))) ⌝ }
-    ensures { λ r. ⌜ (length (now (st .exit)) ≡ length (now (st .entry))) × (length (now (lv .exit)) ≡ length (now (lv .entry))) ⌝ }
+    requires { ⌜ (length (now st) ≡ 533) × (length (now lv) ≡ 533) × (0 < next) × (next ≤ 64) × (length (now sl) ≡ 129) × (length (now sm) ≡ 4096) ⌝ }
+    ensures { λ r. ⌜ ((x : Sheet) → Ready (now (p .entry)) x → Begins x (sheetBy asked x) (now (st .entry)) left → Levelled (now (st .entry)) (now (lv .entry)) next → Strikes (sheetBy asked x) (now (st .entry)) (now (lv .entry)) (now (sl .entry)) (now (sm .entry)) → SoughtBy r x (sheetBy asked x) (now (st .entry)) (now (lv .entry)) (now (st .exit)) (now (lv .exit)) (now (marks .exit)) (now (sl .exit)) (now (sm .exit))) ⌝ }
+    ensures { λ r. ⌜ (length (now (st .exit)) ≡ length (now (st .entry))) × (length (now (lv .exit)) ≡ length (now (lv .entry))) × (length (now (sl .exit)) ≡ length (now (sl .entry))) × (length (now (sm .exit)) ≡ length (now (sm .entry))) ⌝ }
 {
     if left == 0 {
         return false;
     }
-    let f = judge_state(p, st, lv, asked, marks);
+    let f = judge_state(p, st, lv, asked, marks, u);
     if f.done {
         return f.good;
     }
-    let b = choice(f.fit, next, marks);
+    let b = choice(f.fit, next, left, marks);
     let deeper = following(b, next);
     let rows = row_count(p);
     let first = below_or_0(f.first, rows);
     let mut below = [false; CHOICES];
+    let mut last = MOST_ROWS;
     let mut i = 0;
     while i < rows {
         let k = turn(first, rows, i);
         i += 1;
+        if is_refuted(p, st, lv, f.view, &f.values, last, k, &below, sl, sm, marks) {
+            continue;
+        }
         if !take(p, st, lv, f.view, &f.values, k, b) {
             continue;
         }
-        if seek(p, st, lv, asked, deeper, left - 1, &mut below) {
+        if seek(
+            p,
+            st,
+            lv,
+            asked,
+            deeper,
+            left - 1,
+            &mut below,
+            sl,
+            sm,
+            &f.values,
+        ) {
             return true;
         }
         state::release(st, &f.values);
+        strikes::forget(sl, sm, b);
         if jumps(marks, &below, b, next) {
             return false;
         }
+        struck::unmark(&mut below, next);
+        struck::learn(p, &f.values, k, &below, sl, sm);
+        last = k;
     }
     false
 }
@@ -500,25 +555,49 @@ fn settle(p: &[usize; 1184], st: &mut [usize]) -> bool
     true
 }
 
-// A good state of the tableau, if there is one.
-pub struct Outcome {
-    pub found: bool,
-    pub words: [usize; 533],
+// Copies words to as many others.
+fn copy(words: &[usize], out: &mut [usize])
+    ensures { λ r. ⌜ (length (now (out .entry)) ≡ length (now (words .entry)) → now (out .exit) ≡ now (words .entry)) ⌝ }
+{
+    if out.len() != words.len() {
+        return;
+    }
+    let mut i = 0;
+    while i < words.len() {
+        out[i] = words[i];
+        i += 1;
+    }
 }
 
-// Searches for a good state: of the whole sheet where the question is asked, else of its views alone.
-pub fn find(p: &[usize; 1184], asked: bool) -> Outcome
-    ensures { λ r. ⌜ ((x : Sheet) → Ready (now (p .entry)) x → FoundBy (r .found) x (sheetBy asked x) (r .words)) ⌝ }
+// Searches for a good state: of the whole sheet where the question is asked, else of its views alone. True: there is one, and it stands in the 533
+// words that are lent.
+pub fn find(p: &[usize; 1184], asked: bool, out: &mut [usize]) -> bool
+    ensures { λ r. ⌜ ((x : Sheet) → Ready (now (p .entry)) x → length (now (out .entry)) ≡ 533 → FoundBy r x (sheetBy asked x) (now (out .exit))) ⌝ }
 {
-    let mut words = state::free();
+    let mut words = [0; 533];
+    state::free(&mut words);
     if !settle(p, &mut words) {
-        return Outcome {
-            found: false,
-            words,
-        };
+        return false;
     }
     let mut levels = [0; 533];
+    let first = [0; 4];
     let mut marks = [false; CHOICES];
-    let found = seek(p, &mut words, &mut levels, asked, 1, DEPTH, &mut marks);
-    Outcome { found, words }
+    let mut sl = [0; 129];
+    let mut sm = [false; 4096];
+    if !seek(
+        p,
+        &mut words,
+        &mut levels,
+        asked,
+        1,
+        DEPTH,
+        &mut marks,
+        &mut sl,
+        &mut sm,
+        &first,
+    ) {
+        return false;
+    }
+    copy(&words, out);
+    true
 }

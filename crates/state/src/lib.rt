@@ -28,17 +28,18 @@ const MOST_NUMBERS: usize = MOST_FACTS * WIDTH;
 // Where among the numbers of a plan the number of its tableau's atoms stands.
 const SIZE: usize = 1180;
 
-// The words of the first state: each slot its own made-up value.
-pub fn free() -> [usize; 533]
-    ensures { λ r. ⌜ (length r ≡ 533) × (stateOf top r ≡ search.free top) ⌝ }
+// Writes the words of the first state: each slot its own made-up value. There are no more of them than slots.
+pub fn free(ws: &mut [usize])
+    ensures { λ r. ⌜ (length (now (ws .entry)) ≤ 533 → stateOf top (now (ws .exit)) ≡ search.free top) ⌝ }
 {
-    let mut ws = [0; SLOTS];
+    if SLOTS < ws.len() {
+        return;
+    }
     let mut n = 0;
-    while n < SLOTS {
+    while n < ws.len() {
         ws[n] = TOP + n;
         n += 1;
     }
-    ws
 }
 
 // Gives the slot of a made-up value its own value back.

@@ -13,7 +13,7 @@ use Rattle.strikes.specs.Strikes.{slotAt, valueAt, marksAt, countOf, Sam
 use Rattle.strikes.specs.Parts.{Copied, Moved, Free, Kept, FreeTo, NoneTo}
 
 -- an empty table has no entries
-pub none-there : (sl : List ℕ) → getD sl 256 0 ≡ 0 → (e : ℕ) → e < countOf sl → ⊥
+pub none-there : (sl : List ℕ) → getD sl 128 0 ≡ 0 → (e : ℕ) → e < countOf sl → ⊥
 none-there sl z e lt = omega arith
 
 -- ---- marks
@@ -24,17 +24,17 @@ inside [] k d e h = absurd (omega arith)
 inside (x ∷ l) zero d e h = refl
 inside (x ∷ l) (suc k) d e h = inside l k d e (omega arith)
 
-marks-length : (sm : List Bool) (e : ℕ) → length sm ≡ 8192 → e < 128 → length (marksAt sm e) ≡ 64
+marks-length : (sm : List Bool) (e : ℕ) → length sm ≡ 4096 → e < 64 → length (marksAt sm e) ≡ 64
 marks-length sm e l lt = simp (length-take, length-drop) (omega arith)
 
 mark-at : (sm : List Bool) (e k : ℕ) (d : Bool) → k < 64 → getD (marksAt sm e) k d ≡ getD sm (e * 64 + k) d
 mark-at sm e k d lt = getD-take 64 (drop (e * 64) sm) k d lt ∙ getD-drop (e * 64) sm k d
 
-pub free-at : (sm : List Bool) (b e : ℕ) → length sm ≡ 8192 → e < 128 → b < 64 → getD sm (e * 64 + b) false ≡ false → Free sm b e
+pub free-at : (sm : List Bool) (b e : ℕ) → length sm ≡ 4096 → e < 64 → b < 64 → getD sm (e * 64 + b) false ≡ false → Free sm b e
 free-at sm b e l lt small off = mark-at sm e b true small ∙ inside sm (e * 64 + b) true false (omega arith) ∙ off
 
 -- entries with the same marks one by one have the same marks
-marks-same : (sm tm : List Bool) (e f : ℕ) → length sm ≡ 8192 → length tm ≡ 8192 → e < 128 → f < 128
+marks-same : (sm tm : List Bool) (e f : ℕ) → length sm ≡ 4096 → length tm ≡ 4096 → e < 64 → f < 64
     → ((k : ℕ) → k < 64 → getD tm (f * 64 + k) false ≡ getD sm (e * 64 + k) false) → marksAt tm f ≡ marksAt sm e
 marks-same sm tm e f ls lt se sf each =
     let long = marks-length tm f lt sf in
@@ -42,7 +42,7 @@ marks-same sm tm e f ls lt se sf each =
     ext-getD false (marksAt tm f) (marksAt sm e) (long ∙ sym long′) (λ k h. mark-at tm f k false (omega arith) ∙ each k (omega arith) ∙ sym (mark-at sm e k false (omega arith)))
 
 -- so have those that a copy left as they were
-marks-apart : (sm : List Bool) (to : ℕ) (src : List Bool) (from : ℕ) (tm : List Bool) (f : ℕ) → length sm ≡ 8192 → f < 128 → (f ≡ to → ⊥)
+marks-apart : (sm : List Bool) (to : ℕ) (src : List Bool) (from : ℕ) (tm : List Bool) (f : ℕ) → length sm ≡ 4096 → f < 64 → (f ≡ to → ⊥)
     → Copied sm (to * 64) 64 src from tm → marksAt tm f ≡ marksAt sm f
 marks-apart sm to src from tm f l small apart c =
     let long = c .long in
@@ -57,7 +57,7 @@ marks-apart sm to src from tm f l small apart c =
 pub copied-none : (sm : List Bool) (to : ℕ) (src : List Bool) (from : ℕ) → Copied sm to 0 src from sm
 copied-none sm to src from = record { long = refl; here = λ l k lt. absurd (omega arith); before = λ x lt. refl; after = λ x ge. refl }
 
-pub copied-more : (sm : List Bool) (to n : ℕ) (src : List Bool) (from : ℕ) (tm : List Bool) (v : Bool) → to + n < 8192 → v ≡ getD src (from + n) false
+pub copied-more : (sm : List Bool) (to n : ℕ) (src : List Bool) (from : ℕ) (tm : List Bool) (v : Bool) → to + n < 4096 → v ≡ getD src (from + n) false
     → Copied sm to n src from tm → Copied sm to (n + 1) src from (set tm (to + n) v)
 copied-more sm to n src from tm v room e c = record {
   long = length-set tm (to + n) v ∙ c .long;
@@ -82,8 +82,8 @@ same-trans al am e bl bm f cl cm g x y = record { slot = x .slot ∙ y .slot; va
 pub added-none : (sl : List ℕ) (sm : List Bool) (n w : ℕ) (marks : List Bool) → Added sl sm n w marks sl sm
 added-none sl sm n w marks = record { each = λ f lt. inl (f, lt, record { slot = refl; value = refl; marks = refl }) }
 
-pub added : (sl : List ℕ) (sm : List Bool) (n w : ℕ) (marks tm : List Bool) (e : ℕ) → e ≡ countOf sl → e < 128 → length sl ≡ 257 → length sm ≡ 8192
-    → length marks ≡ 64 → Copied sm (e * 64) 64 marks 0 tm → Added sl sm n w marks (set (set (set sl (e * 2) n) (e * 2 + 1) w) 256 (e + 1)) tm
+pub added : (sl : List ℕ) (sm : List Bool) (n w : ℕ) (marks tm : List Bool) (e : ℕ) → e ≡ countOf sl → e < 64 → length sl ≡ 129 → length sm ≡ 4096
+    → length marks ≡ 64 → Copied sm (e * 64) 64 marks 0 tm → Added sl sm n w marks (set (set (set sl (e * 2) n) (e * 2 + 1) w) 128 (e + 1)) tm
 added sl sm n w marks tm e count room ll lm k64 c = record { each = λ f lt. pick f (few f lt) (ℕ-discrete f e) }
   where
     one : List ℕ
@@ -93,23 +93,23 @@ added sl sm n w marks tm e count room ll lm k64 c = record { each = λ f lt. pic
     two = set one (e * 2 + 1) w
 
     tl : List ℕ
-    tl = set two 256 (e + 1)
+    tl = set two 128 (e + 1)
 
-    long : length two ≡ 257
+    long : length two ≡ 129
     long = length-set one (e * 2 + 1) w ∙ length-set sl (e * 2) n ∙ ll
 
     few : (f : ℕ) → f < countOf tl → f < e + 1
-    few f lt = let h = long in let q = getD-set-same two 256 (e + 1) 0 (omega arith) in omega arith
+    few f lt = let h = long in let q = getD-set-same two 128 (e + 1) 0 (omega arith) in omega arith
 
     -- the words of other entries
-    apart : (x : ℕ) → (x ≡ e * 2 → ⊥) → (x ≡ e * 2 + 1 → ⊥) → (x ≡ 256 → ⊥) → getD tl x 0 ≡ getD sl x 0
-    apart x a b d = getD-set-other two 256 x (e + 1) 0 d ∙ getD-set-other one (e * 2 + 1) x w 0 b ∙ getD-set-other sl (e * 2) x n 0 a
+    apart : (x : ℕ) → (x ≡ e * 2 → ⊥) → (x ≡ e * 2 + 1 → ⊥) → (x ≡ 128 → ⊥) → getD tl x 0 ≡ getD sl x 0
+    apart x a b d = getD-set-other two 128 x (e + 1) 0 d ∙ getD-set-other one (e * 2 + 1) x w 0 b ∙ getD-set-other sl (e * 2) x n 0 a
 
     slot-here : slotAt tl e ≡ n
-    slot-here = getD-set-other two 256 (e * 2) (e + 1) 0 (λ q. omega arith) ∙ getD-set-other one (e * 2 + 1) (e * 2) w 0 (λ q. omega arith) ∙ getD-set-same sl (e * 2) n 0 (omega arith)
+    slot-here = getD-set-other two 128 (e * 2) (e + 1) 0 (λ q. omega arith) ∙ getD-set-other one (e * 2 + 1) (e * 2) w 0 (λ q. omega arith) ∙ getD-set-same sl (e * 2) n 0 (omega arith)
 
     value-here : valueAt tl e ≡ w
-    value-here = getD-set-other two 256 (e * 2 + 1) (e + 1) 0 (λ q. omega arith) ∙ getD-set-same one (e * 2 + 1) w 0 (let h = length-set sl (e * 2) n in omega arith)
+    value-here = getD-set-other two 128 (e * 2 + 1) (e + 1) 0 (λ q. omega arith) ∙ getD-set-same one (e * 2 + 1) w 0 (let h = length-set sl (e * 2) n in omega arith)
 
     marks-here : marksAt tm e ≡ marks
     marks-here =
@@ -130,7 +130,7 @@ added sl sm n w marks tm e count room ll lm k64 c = record { each = λ f lt. pic
 
 -- ---- an entry moved
 
-pub moved : (sl : List ℕ) (sm : List Bool) (from to : ℕ) (tm : List Bool) → to < from → from < 128 → length sl ≡ 257 → length sm ≡ 8192
+pub moved : (sl : List ℕ) (sm : List Bool) (from to : ℕ) (tm : List Bool) → to < from → from < 64 → length sl ≡ 129 → length sm ≡ 4096
     → Copied sm (to * 64) 64 sm (from * 64) tm
     → Moved sl sm from to (set (set sl (to * 2) (getD sl (from * 2) 0)) (to * 2 + 1) (getD (set sl (to * 2) (getD sl (from * 2) 0)) (from * 2 + 1) 0)) tm
 moved sl sm from to tm less room ll lm c = record {
@@ -183,7 +183,7 @@ free-more sm b k a h = record { each = below-more (λ e. Free sm b e) k (a .each
 -- of the first e entries those that do not rest on choice b are the first k now; the later ones are as before
 pub record Settling (sl : List ℕ) (sm : List Bool) (b n k e : ℕ) (tl : List ℕ) (tm : List Bool) : Type 0 where
   pub kept : Kept sl sm b n k tl tm
-  pub rest : (f : ℕ) → e ≤ f → f < 128 → SameEntry tl tm f sl sm f
+  pub rest : (f : ℕ) → e ≤ f → f < 64 → SameEntry tl tm f sl sm f
 
 pub settle-start : (sl : List ℕ) (sm : List Bool) (b n k : ℕ) → k < n → FreeTo sm b k → Settling sl sm b n k (k + 1) sl sm
 settle-start sl sm b n k lt a = record {
@@ -195,7 +195,7 @@ module _ (sl : List ℕ) (sm : List Bool) (b n k e : ℕ) (tl : List ℕ) (tm : 
   pub settle-skip : Settling sl sm b n k (e + 1) tl tm
   settle-skip = record { kept = a .kept; rest = λ f le small. a .rest f (omega arith) small }
 
-  pub settle-move : (ul : List ℕ) (um : List Bool) → k < e → e < n → n ≤ 128 → b < 64 → length tm ≡ 8192 → getD tm (e * 64 + b) false ≡ false → Moved tl tm e k ul um
+  pub settle-move : (ul : List ℕ) (um : List Bool) → k < e → e < n → n ≤ 64 → b < 64 → length tm ≡ 4096 → getD tm (e * 64 + b) false ≡ false → Moved tl tm e k ul um
       → Settling sl sm b n (k + 1) (e + 1) ul um
   settle-move ul um less lt room small long off m = record {
     kept = record {
@@ -217,24 +217,24 @@ module _ (sl : List ℕ) (sm : List Bool) (b n k e : ℕ) (tl : List ℕ) (tm : 
 
 -- ---- the table without what rests on choice b
 
-pub forgot-all : (sl : List ℕ) (sm : List Bool) (b : ℕ) → length sl ≡ 257 → Forgot sl sm b (set sl 256 0) sm
-forgot-all sl sm b l = record { each = λ f lt. absurd (none-there (set sl 256 0) (getD-set-same sl 256 0 0 (omega arith)) f lt) }
+pub forgot-all : (sl : List ℕ) (sm : List Bool) (b : ℕ) → length sl ≡ 129 → Forgot sl sm b (set sl 128 0) sm
+forgot-all sl sm b l = record { each = λ f lt. absurd (none-there (set sl 128 0) (getD-set-same sl 128 0 0 (omega arith)) f lt) }
 
 pub forgot-none : (sl : List ℕ) (sm : List Bool) (b k : ℕ) → countOf sl ≤ k → FreeTo sm b k → Forgot sl sm b sl sm
 forgot-none sl sm b k le a = record { each = λ f lt. (f, lt, record { slot = refl; value = refl; marks = refl }, a .each f (omega arith)) }
 
-pub forgot-some : (sl : List ℕ) (sm : List Bool) (b n k : ℕ) (tl : List ℕ) (tm : List Bool) → n ≡ countOf sl → k ≤ n → length tl ≡ 257 → Kept sl sm b n k tl tm
-    → Forgot sl sm b (set tl 256 k) tm
+pub forgot-some : (sl : List ℕ) (sm : List Bool) (b n k : ℕ) (tl : List ℕ) (tm : List Bool) → n ≡ countOf sl → k ≤ n → length tl ≡ 129 → Kept sl sm b n k tl tm
+    → Forgot sl sm b (set tl 128 k) tm
 forgot-some sl sm b n k tl tm count le l a = record {
   each = λ f lt.
-      let q = getD-set-same tl 256 k 0 (omega arith) in
+      let q = getD-set-same tl 128 k 0 (omega arith) in
       let o = a .each f (omega arith) in (
         o .0,
         let h = o .1 in omega arith,
-        same-trans (set tl 256 k) tm f tl tm f sl sm (o .0)
+        same-trans (set tl 128 k) tm f tl tm f sl sm (o .0)
             (record {
-              slot = getD-set-other tl 256 (f * 2) k 0 (λ x. omega arith);
-              value = getD-set-other tl 256 (f * 2 + 1) k 0 (λ x. omega arith);
+              slot = getD-set-other tl 128 (f * 2) k 0 (λ x. omega arith);
+              value = getD-set-other tl 128 (f * 2 + 1) k 0 (λ x. omega arith);
               marks = refl;
             })
             (o .2),

@@ -9,14 +9,14 @@ use Rattle.strikes.specs.Strikes.{slotAt, valueAt, marksAt, SameEntry}
 -- n marks from place `from` of another list stand from place `to` on, and the others are as before
 pub record Copied (sm : List Bool) (to n : ℕ) (src : List Bool) (from : ℕ) (tm : List Bool) : Type 0 where
   pub long : length tm ≡ length sm
-  pub here : length sm ≡ 8192 → (k : ℕ) → k < n → getD tm (to + k) false ≡ getD src (from + k) false
+  pub here : length sm ≡ 4096 → (k : ℕ) → k < n → getD tm (to + k) false ≡ getD src (from + k) false
   pub before : (x : ℕ) → x < to → getD tm x false ≡ getD sm x false
   pub after : (x : ℕ) → to + n ≤ x → getD tm x false ≡ getD sm x false
 
 -- entry `to` is what entry `from` was, and the others are as before
 pub record Moved (sl : List ℕ) (sm : List Bool) (from to : ℕ) (tl : List ℕ) (tm : List Bool) : Type 0 where
   pub here : SameEntry tl tm to sl sm from
-  pub others : (f : ℕ) → f < 128 → (f ≡ to → ⊥) → SameEntry tl tm f sl sm f
+  pub others : (f : ℕ) → f < 64 → (f ≡ to → ⊥) → SameEntry tl tm f sl sm f
 
 -- entry e does not rest on choice b
 abbrev pub Free : List Bool → ℕ → ℕ → Type 0

@@ -6,7 +6,7 @@ use mathlib.Core.Logic.{_⊎_}
 use Prim.Native.Nat.{ℕ, _+_, _*_, _<_, _≤_, min}
 use lib.ListN.{length, getD, take, drop}
 
--- entry e: its slot, its value, and which of 64 choices it rests on; word 256 counts the entries, of which there are at most 128
+-- entry e: its slot, its value, and which of 64 choices it rests on; word 128 counts the entries, of which there are at most 64
 abbrev pub slotAt : List ℕ → ℕ → ℕ
 slotAt sl e = getD sl (e * 2) 0
 
@@ -17,7 +17,7 @@ abbrev pub marksAt : List Bool → ℕ → List Bool
 marksAt sm e = take 64 (drop (e * 64) sm)
 
 abbrev pub countOf : List ℕ → ℕ
-countOf sl = min (getD sl 256 0) 128
+countOf sl = min (getD sl 128 0) 64
 
 -- entry e of a table is entry f of another
 pub record SameEntry (sl : List ℕ) (sm : List Bool) (e : ℕ) (tl : List ℕ) (tm : List Bool) (f : ℕ) : Type 0 where

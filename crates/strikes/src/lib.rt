@@ -6,18 +6,18 @@ ghost use Rattle.strikes.specs.Strikes.{slotAt, valueAt, countOf, Added,
 ghost use Rattle.strikes.specs.Parts.{Copied, Moved, Kept, FreeTo, NoneTo};
 
 // The table holds at most this many entries.
-const MOST: usize = 128;
+const MOST: usize = 64;
 
 // Where the count of entries stands.
-const COUNT: usize = 256;
+const COUNT: usize = 128;
 
 // An entry's marks.
 const MARKS: usize = 64;
 
 // How many entries there are.
-pub fn count(sl: &[usize; 257]) -> usize
+pub fn count(sl: &[usize; 129]) -> usize
     ensures { λ r. ⌜ r ≡ countOf (now (sl .entry)) ⌝ }
-    ensures { λ r. ⌜ r ≤ 128 ⌝ }
+    ensures { λ r. ⌜ r ≤ 64 ⌝ }
 {
     let n = sl[COUNT];
     if MOST < n {
@@ -27,8 +27,8 @@ pub fn count(sl: &[usize; 257]) -> usize
 }
 
 // Puts marks in the place of entry e's. They come by value, so that all of them are copied at once.
-fn put_marks(sm: &mut [bool; 8192], e: usize, marks: [bool; 64])
-    requires { ⌜ e < 128 ⌝ }
+fn put_marks(sm: &mut [bool; 4096], e: usize, marks: [bool; 64])
+    requires { ⌜ e < 64 ⌝ }
     ensures { λ r. ⌜ Copied (now (sm .entry)) (e * 64) 64 marks 0 (now (sm .exit)) ⌝ }
 {
     let mut k = 0;
@@ -39,8 +39,8 @@ fn put_marks(sm: &mut [bool; 8192], e: usize, marks: [bool; 64])
 }
 
 // Adds an entry, if there is room.
-pub fn add(sl: &mut [usize; 257], sm: &mut [bool; 8192], n: usize, w: usize, marks: &[bool; 64])
-    ensures { λ r. ⌜ (length (now (sl .entry)) ≡ 257 → length (now (sm .entry)) ≡ 8192 → length (now (marks .entry)) ≡ 64 → Added (now (sl .entry)) (now (sm .entry)) n w (now (marks .entry)) (now (sl .exit)) (now (sm .exit))) ⌝ }
+pub fn add(sl: &mut [usize; 129], sm: &mut [bool; 4096], n: usize, w: usize, marks: &[bool; 64])
+    ensures { λ r. ⌜ (length (now (sl .entry)) ≡ 129 → length (now (sm .entry)) ≡ 4096 → length (now (marks .entry)) ≡ 64 → Added (now (sl .entry)) (now (sm .entry)) n w (now (marks .entry)) (now (sl .exit)) (now (sm .exit))) ⌝ }
     ensures { λ r. ⌜ length (now (sl .exit)) ≡ length (now (sl .entry)) ⌝ }
     ensures { λ r. ⌜ length (now (sm .exit)) ≡ length (now (sm .entry)) ⌝ }
 {
@@ -55,9 +55,9 @@ pub fn add(sl: &mut [usize; 257], sm: &mut [bool; 8192], n: usize, w: usize, mar
 }
 
 // The first entry with slot n and value w; the count if there is none.
-pub fn find(sl: &[usize; 257], n: usize, w: usize) -> usize
+pub fn find(sl: &[usize; 129], n: usize, w: usize) -> usize
     ensures { λ r. ⌜ (r < countOf (now (sl .entry)) → (slotAt (now (sl .entry)) r ≡ n) × (valueAt (now (sl .entry)) r ≡ w)) ⌝ }
-    ensures { λ r. ⌜ r ≤ 128 ⌝ }
+    ensures { λ r. ⌜ r ≤ 64 ⌝ }
     ensures { λ r. ⌜ NoneTo (now (sl .entry)) n w r ⌝ }
 {
     let m = count(sl);
@@ -76,10 +76,10 @@ pub fn find(sl: &[usize; 257], n: usize, w: usize) -> usize
 }
 
 // The first of n entries that rests on choice b; n if there is none.
-fn first_on(sm: &[bool; 8192], n: usize, b: usize) -> usize
-    requires { ⌜ (n ≤ 128) × (b < 64) ⌝ }
+fn first_on(sm: &[bool; 4096], n: usize, b: usize) -> usize
+    requires { ⌜ (n ≤ 64) × (b < 64) ⌝ }
     ensures { λ r. ⌜ r ≤ n ⌝ }
-    ensures { λ r. ⌜ (length (now (sm .entry)) ≡ 8192 → FreeTo (now (sm .entry)) b r) ⌝ }
+    ensures { λ r. ⌜ (length (now (sm .entry)) ≡ 4096 → FreeTo (now (sm .entry)) b r) ⌝ }
 {
     let mut e = 0;
     while e < n {
@@ -92,8 +92,8 @@ fn first_on(sm: &[bool; 8192], n: usize, b: usize) -> usize
 }
 
 // Puts an entry's marks in the place of those of an earlier entry.
-fn move_marks(sm: &mut [bool; 8192], from: usize, to: usize)
-    requires { ⌜ (to < from) × (from < 128) ⌝ }
+fn move_marks(sm: &mut [bool; 4096], from: usize, to: usize)
+    requires { ⌜ (to < from) × (from < 64) ⌝ }
     ensures { λ r. ⌜ Copied (now (sm .entry)) (to * 64) 64 (now (sm .entry)) (from * 64) (now (sm .exit)) ⌝ }
 {
     let mut k = 0;
@@ -104,9 +104,9 @@ fn move_marks(sm: &mut [bool; 8192], from: usize, to: usize)
 }
 
 // Puts an entry in the place of an earlier one.
-fn move_entry(sl: &mut [usize; 257], sm: &mut [bool; 8192], from: usize, to: usize)
-    requires { ⌜ (to < from) × (from < 128) ⌝ }
-    ensures { λ r. ⌜ (length (now (sl .entry)) ≡ 257 → length (now (sm .entry)) ≡ 8192 → Moved (now (sl .entry)) (now (sm .entry)) from to (now (sl .exit)) (now (sm .exit))) ⌝ }
+fn move_entry(sl: &mut [usize; 129], sm: &mut [bool; 4096], from: usize, to: usize)
+    requires { ⌜ (to < from) × (from < 64) ⌝ }
+    ensures { λ r. ⌜ (length (now (sl .entry)) ≡ 129 → length (now (sm .entry)) ≡ 4096 → Moved (now (sl .entry)) (now (sm .entry)) from to (now (sl .exit)) (now (sm .exit))) ⌝ }
     ensures { λ r. ⌜ length (now (sl .exit)) ≡ length (now (sl .entry)) ⌝ }
     ensures { λ r. ⌜ length (now (sm .exit)) ≡ length (now (sm .entry)) ⌝ }
 {
@@ -116,10 +116,10 @@ fn move_entry(sl: &mut [usize; 257], sm: &mut [bool; 8192], from: usize, to: usi
 }
 
 // Moves those of the first n entries that do not rest on choice b down; the one at `first` does, and none before it. How many there are then.
-fn settle(sl: &mut [usize; 257], sm: &mut [bool; 8192], n: usize, b: usize, first: usize) -> usize
-    requires { ⌜ (n ≤ 128) × (b < 64) × (first < n) ⌝ }
+fn settle(sl: &mut [usize; 129], sm: &mut [bool; 4096], n: usize, b: usize, first: usize) -> usize
+    requires { ⌜ (n ≤ 64) × (b < 64) × (first < n) ⌝ }
     ensures { λ r. ⌜ r ≤ n ⌝ }
-    ensures { λ r. ⌜ (length (now (sl .entry)) ≡ 257 → length (now (sm .entry)) ≡ 8192 → FreeTo (now (sm .entry)) b first → Kept (now (sl .entry)) (now (sm .entry)) b n r (now (sl .exit)) (now (sm .exit))) ⌝ }
+    ensures { λ r. ⌜ (length (now (sl .entry)) ≡ 129 → length (now (sm .entry)) ≡ 4096 → FreeTo (now (sm .entry)) b first → Kept (now (sl .entry)) (now (sm .entry)) b n r (now (sl .exit)) (now (sm .exit))) ⌝ }
     ensures { λ r. ⌜ length (now (sl .exit)) ≡ length (now (sl .entry)) ⌝ }
     ensures { λ r. ⌜ length (now (sm .exit)) ≡ length (now (sm .entry)) ⌝ }
 {
@@ -138,8 +138,8 @@ fn settle(sl: &mut [usize; 257], sm: &mut [bool; 8192], n: usize, b: usize, firs
 }
 
 // Keeps the entries that do not rest on choice b; none if there is no such choice.
-pub fn forget(sl: &mut [usize; 257], sm: &mut [bool; 8192], b: usize)
-    ensures { λ r. ⌜ (length (now (sl .entry)) ≡ 257 → length (now (sm .entry)) ≡ 8192 → Forgot (now (sl .entry)) (now (sm .entry)) b (now (sl .exit)) (now (sm .exit))) ⌝ }
+pub fn forget(sl: &mut [usize; 129], sm: &mut [bool; 4096], b: usize)
+    ensures { λ r. ⌜ (length (now (sl .entry)) ≡ 129 → length (now (sm .entry)) ≡ 4096 → Forgot (now (sl .entry)) (now (sm .entry)) b (now (sl .exit)) (now (sm .exit))) ⌝ }
     ensures { λ r. ⌜ length (now (sl .exit)) ≡ length (now (sl .entry)) ⌝ }
     ensures { λ r. ⌜ length (now (sm .exit)) ≡ length (now (sm .entry)) ⌝ }
 {

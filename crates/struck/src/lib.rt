@@ -23,7 +23,7 @@ const CHOICES: usize = 64;
 
 // Marks the choices that entry e of the table rests on, if it is there.
 fn mark_entry(sm: &[bool], e: usize, marks: &mut [bool]) -> bool
-    requires { ⌜ e ≤ 128 ⌝ }
+    requires { ⌜ e ≤ 64 ⌝ }
     ensures { λ r. ⌜ MarkedBy r (now (marks .entry)) (marksAt (now (sm .entry)) e) (now (marks .exit)) ⌝ }
 {
     let at = e * CHOICES;
@@ -40,8 +40,8 @@ fn is_struck_at(
     u: &[usize; 4],
     k: usize,
     c: usize,
-    sl: &[usize; 257],
-    sm: &[bool; 8192],
+    sl: &[usize; 129],
+    sm: &[bool; 4096],
     marks: &mut [bool; 64],
 ) -> bool
     requires { ⌜ (k < 40) × (c < 4) ⌝ }
@@ -63,8 +63,8 @@ pub fn is_struck(
     p: &[usize; 1184],
     u: &[usize; 4],
     k: usize,
-    sl: &[usize; 257],
-    sm: &[bool; 8192],
+    sl: &[usize; 129],
+    sm: &[bool; 4096],
     marks: &mut [bool; 64],
 ) -> bool
     ensures { λ r. ⌜ StruckBy r (now (p .entry)) (now (u .entry)) k (now (sl .entry)) (now (sm .entry)) (now (marks .entry)) (now (marks .exit)) ⌝ }
@@ -149,10 +149,10 @@ pub fn learn(
     u: &[usize; 4],
     k: usize,
     below: &[bool; 64],
-    sl: &mut [usize; 257],
-    sm: &mut [bool; 8192],
+    sl: &mut [usize; 129],
+    sm: &mut [bool; 4096],
 )
-    ensures { λ r. ⌜ (length (now (sl .entry)) ≡ 257 → length (now (sm .entry)) ≡ 8192 → Learned (now (u .entry)) (rowValues (now (p .entry)) k) (now (sl .entry)) (now (sm .entry)) (now (below .entry)) (now (sl .exit)) (now (sm .exit))) ⌝ }
+    ensures { λ r. ⌜ (length (now (sl .entry)) ≡ 129 → length (now (sm .entry)) ≡ 4096 → Learned (now (u .entry)) (rowValues (now (p .entry)) k) (now (sl .entry)) (now (sm .entry)) (now (below .entry)) (now (sl .exit)) (now (sm .exit))) ⌝ }
     ensures { λ r. ⌜ (length (now (sl .exit)) ≡ length (now (sl .entry))) × (length (now (sm .exit)) ≡ length (now (sm .entry))) ⌝ }
 {
     let c = made_up_column(u);

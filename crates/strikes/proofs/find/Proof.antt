@@ -10,7 +10,7 @@ use Rattle.strikes.proofs.find.Statement.{statement}
 use Rattle.strikes.proofs.find.Tie as tie
 
 abbrev Inv-loop : tie.InvT-loop
-Inv-loop sl n w m e₀ e = (e ≤ m) × (m ≡ countOf sl) × (m ≤ 128) × NoneTo sl n w e
+Inv-loop sl n w m e₀ e = (e ≤ m) × (m ≡ countOf sl) × (m ≤ 64) × NoneTo sl n w e
 
 abbrev μ-loop : tie.MeasureT-loop
 μ-loop sl n w m e₀ e = m - e

@@ -10,7 +10,7 @@ use Rattle.strikes.proofs.first_on.Statement.{statement}
 use Rattle.strikes.proofs.first_on.Tie as tie
 
 abbrev Inv-loop : tie.InvT-loop
-Inv-loop sm n b e₀ e = (e ≤ n) × (length sm ≡ 8192 → FreeTo sm b e)
+Inv-loop sm n b e₀ e = (e ≤ n) × (length sm ≡ 4096 → FreeTo sm b e)
 
 abbrev μ-loop : tie.MeasureT-loop
 μ-loop sm n b e₀ e = n - e

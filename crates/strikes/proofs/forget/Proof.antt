@@ -13,7 +13,7 @@ element-write-sl c = search needs
 returns : tie.Need-returns
 returns c =
     let a = c .before .args in
-    (λ ll lm. forgot-all (a .sl .now) (a .sm .now) (a .b) ll, (length-set (a .sl .now) 256 0, refl))
+    (λ ll lm. forgot-all (a .sl .now) (a .sm .now) (a .b) ll, (length-set (a .sl .now) 128 0, refl))
 
 count-requires : tie.Need-count-requires
 count-requires c κs = search needs
@@ -43,7 +43,7 @@ returns-3 c =
     let s = c .settle in
     let l = s .ensures .1 .1 .0 in (
       λ ll lm. forgot-some (a .sl .now) (a .sm .now) (a .b) (n .result) (s .result) (s .last .0) (s .last .1 .0) (n .ensures .0) (s .ensures .0) (l ∙ ll) (s .ensures .1 .0 ll lm (f .ensures .1 lm)),
-      (length-set (s .last .0) 256 (s .result) ∙ l, s .ensures .1 .1 .1),
+      (length-set (s .last .0) 128 (s .result) ∙ l, s .ensures .1 .1 .1),
     )
 
 pub forget-spec : {M : Type 1} → statement M

@@ -10,7 +10,7 @@ use Rattle.strikes.proofs.settle.Statement.{statement}
 use Rattle.strikes.proofs.settle.Tie as tie
 
 abbrev Inv-loop : tie.InvT-loop
-Inv-loop sl₀ sm₀ n b first k₀ e₀ sl sm k e = (k < e) × (e ≤ n) × (length sl ≡ length sl₀) × (length sm ≡ length sm₀) × (length sl₀ ≡ 257 → length sm₀ ≡ 8192 → FreeTo sm₀ b first → Settling sl₀ sm₀ b n k e sl sm)
+Inv-loop sl₀ sm₀ n b first k₀ e₀ sl sm k e = (k < e) × (e ≤ n) × (length sl ≡ length sl₀) × (length sm ≡ length sm₀) × (length sl₀ ≡ 129 → length sm₀ ≡ 4096 → FreeTo sm₀ b first → Settling sl₀ sm₀ b n k e sl sm)
 
 abbrev μ-loop : tie.MeasureT-loop
 μ-loop sl₀ sm₀ n b first k₀ e₀ sl sm k e = n - e
