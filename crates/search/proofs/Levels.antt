@@ -24,8 +24,9 @@ use Rattle.verdicts.proofs.Refute.{unified, clashed}
 use Rattle.plan.specs.Plan.{rowAt, rowValues, rowCount, viewCount}
 use Rattle.state.specs.State.{made-up, Fresh, Constants, Equated, EquatedBy}
 use Rattle.state.specs.Parts.{Own}
-use Rattle.reasons.specs.Reasons.{kept, relaxed, Rests, Within, Assigned, MarksAdded, MarksPut}
-use Rattle.reasons.proofs.Laws.{within-same, within-trans}
+use Rattle.marks.specs.Marks.{Within, MarksAdded, MarksPut}
+use Rattle.reasons.specs.Reasons.{kept, relaxed, Rests, Assigned}
+use Rattle.marks.proofs.Laws.{within-same, within-trans}
 use Rattle.reasons.proofs.Jumps.{relaxed-plain, rests-more, jump, refuted-below}
 use Rattle.search.specs.Parts.{Ready, sheetBy, Proper, Settled, NodeBy, Stood, Fitting, Found, Levelled, SameLevels, Lost, Opened, Taken, Passed, TakenBy, GivenTo, JumpsBy, turned, Tried, Going, Begins, SoughtBy}
 use Rattle.search.proofs.Heads.{inside}

@@ -22,7 +22,8 @@ use Rattle.plan.specs.Plan.{Plan, viewCount, askedSize, rowCount, rowAt, rowVal
 use Rattle.state.specs.State.{made-up, Fresh, Equated}
 use Rattle.state.specs.Parts.{Own}
 use Rattle.views.specs.Views.{GivenAt, StrayAt, NoStray}
-use Rattle.reasons.specs.Reasons.{relaxed, Rests, Within, Marked, HeadMarked, Assigned, MarksAdded, MarksPut}
+use Rattle.marks.specs.Marks.{Within, MarksAdded, MarksPut}
+use Rattle.reasons.specs.Reasons.{relaxed, Rests, Marked, HeadMarked, Assigned}
 
 -- a plan of an accepted sheet
 pub record Ready (p : List ℕ) (x : Sheet) : Type 0 where

@@ -2,9 +2,9 @@ use mathlib.Core.Path.{sym, _∙_}
 use Prim.Native.Nat.{_≤_}
 use native.Mathlib.Omega.{arith}
 use borrow.Author.Needs.{needs}
-use Rattle.reasons.proofs.Writes.{NoneFrom, none-start, none-more, last-found, last-none}
-use Rattle.reasons.proofs.last.Statement.{statement}
-use Rattle.reasons.proofs.last.Tie as tie
+use Rattle.marks.proofs.Writes.{NoneFrom, none-start, none-more, last-found, last-none}
+use Rattle.marks.proofs.last.Statement.{statement}
+use Rattle.marks.proofs.last.Tie as tie
 
 abbrev Inv-loop : tie.InvT-loop
 Inv-loop marks n k₀ k = (k ≤ n) × NoneFrom marks n k

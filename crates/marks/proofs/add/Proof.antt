@@ -4,9 +4,9 @@ use native.Mathlib.Omega.{arith}
 use borrow.Author.Needs.{needs}
 use borrow.Author.Tests.{not-true, not-false}
 use lib.ListN.{length, length-set}
-use Rattle.reasons.proofs.Writes.{AddedTo, added-none, added-skip, added-off, added-set, added-end}
-use Rattle.reasons.proofs.add.Statement.{statement}
-use Rattle.reasons.proofs.add.Tie as tie
+use Rattle.marks.proofs.Writes.{AddedTo, added-none, added-skip, added-off, added-set, added-end}
+use Rattle.marks.proofs.add.Statement.{statement}
+use Rattle.marks.proofs.add.Tie as tie
 
 abbrev Inv-loop : tie.InvT-loop
 Inv-loop marks₀ others skip n k₀ marks k = (k ≤ n) × (n ≡ length marks₀) × (length marks ≡ length marks₀) × AddedTo marks₀ others skip marks k

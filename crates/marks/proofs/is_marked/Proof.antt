@@ -1,10 +1,10 @@
 use mathlib.Core.Path.{sym}
 use mathlib.Core.Bool.{true, false}
 use lib.ListN.{List·getD-eq-default}
-use Rattle.reasons.proofs.Writes.{inside}
+use Rattle.marks.proofs.Writes.{inside}
 use borrow.Author.Needs.{needs}
-use Rattle.reasons.proofs.is_marked.Statement.{statement}
-use Rattle.reasons.proofs.is_marked.Tie as tie
+use Rattle.marks.proofs.is_marked.Statement.{statement}
+use Rattle.marks.proofs.is_marked.Tie as tie
 
 returns : tie.Need-returns
 returns c = sym (List·getD-eq-default (c .before .args .marks .now) true (c .if1 .taken))

@@ -4,9 +4,9 @@ use native.Mathlib.Omega.{arith}
 use borrow.Author.Needs.{needs}
 use mathlib.Core.Bool.{false}
 use lib.ListN.{length, length-set}
-use Rattle.reasons.proofs.Writes.{Filled, filled-none, filled-more, filled-all}
-use Rattle.reasons.proofs.clear.Statement.{statement}
-use Rattle.reasons.proofs.clear.Tie as tie
+use Rattle.marks.proofs.Writes.{Filled, filled-none, filled-more, filled-all}
+use Rattle.marks.proofs.clear.Statement.{statement}
+use Rattle.marks.proofs.clear.Tie as tie
 
 abbrev Inv-loop : tie.InvT-loop
 Inv-loop marks₀ n k₀ marks k = (k ≤ n) × (n ≡ length marks₀) × (length marks ≡ length marks₀) × Filled (λ j. false) marks k

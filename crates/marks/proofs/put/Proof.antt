@@ -4,9 +4,9 @@ use native.Mathlib.Omega.{arith}
 use borrow.Author.Needs.{needs}
 use mathlib.Core.Bool.{true}
 use lib.ListN.{length, getD, length-set}
-use Rattle.reasons.proofs.Writes.{Filled, filled-none, filled-more, filled-all}
-use Rattle.reasons.proofs.put.Statement.{statement}
-use Rattle.reasons.proofs.put.Tie as tie
+use Rattle.marks.proofs.Writes.{Filled, filled-none, filled-more, filled-all}
+use Rattle.marks.proofs.put.Statement.{statement}
+use Rattle.marks.proofs.put.Tie as tie
 
 abbrev Inv-loop : tie.InvT-loop
 Inv-loop marks₀ others n k₀ marks k = (k ≤ n) × (n ≡ length marks₀) × (length marks ≡ length marks₀) × Filled (λ j. getD others j true) marks k
