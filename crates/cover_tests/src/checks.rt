@@ -6,7 +6,6 @@ use format::Ending;
 use format::LINE_WORDS;
 use format::MOST_LINES;
 use format::MOST_WORDS;
-use stored::output;
 ghost use mathlib.Core.Path.{_≡_};
 ghost use Prim.Native.Nat.{_+_, _*_, _<_, _≤_};
 ghost use lib.ListN.{length};
@@ -30,10 +29,10 @@ pub(crate) fn put_marks(
 ) -> usize {
     let mut words = [0i32; MOST_WORDS];
     sheet::read(sheet, &mut words);
-    let a = output::put_mark(out, at, are_facts(sheet, &words, facts));
-    let b = output::put_mark(out, a, agrees(sheet, &words, facts));
-    let c = output::put_mark(out, b, is_least(sheet, facts, missing));
-    output::put_mark(out, c, is_bare(sheet, &words, facts))
+    let a = stored_results::put_mark(out, at, are_facts(sheet, &words, facts));
+    let b = stored_results::put_mark(out, a, agrees(sheet, &words, facts));
+    let c = stored_results::put_mark(out, b, is_least(sheet, facts, missing));
+    stored_results::put_mark(out, c, is_bare(sheet, &words, facts))
 }
 
 // Whether evaluation takes the facts, and each value stands in the sheet or is made up.

@@ -19,9 +19,6 @@
 mod checks;
 
 use libc::STDOUT_FILENO;
-use stored::input;
-use stored::marks;
-use stored::output;
 ghost use Prim.Native.Nat.{_≤_};
 
 // No result is longer: it has a name of at most 8192 bytes, at most 704 words of twelve bytes each, and eight numbers of some twenty.
@@ -38,7 +35,7 @@ fn main() {
 // Runs the next case, and returns false where there is none.
 fn run_next() -> bool {
     let mut line = [0u8; 8192];
-    let n = input::line(&mut line);
+    let n = stored_lines::line(&mut line);
     if n == 0 {
         return false;
     }
@@ -58,7 +55,7 @@ fn print(s: &[u8], n: usize) {
 
 // Runs a case, puts its result at the start of out, and returns its length. A line without a bar is a heading.
 fn run(case: &[u8], out: &mut [u8]) -> usize {
-    let bar = input::place(case, b'|');
+    let bar = stored_words::place(case, b'|');
     let end = puts::put(out, 0, &case[0..bar]);
     if bar == case.len() {
         return end;
@@ -68,25 +65,25 @@ fn run(case: &[u8], out: &mut [u8]) -> usize {
 
 // Takes a case's two numbers and its text apart.
 fn run_parts(parts: &[u8], out: &mut [u8], at: usize) -> usize {
-    let gap = input::place(parts, b' ');
-    let bar = input::place(parts, b'|');
+    let gap = stored_words::place(parts, b' ');
+    let bar = stored_words::place(parts, b'|');
     if bar == parts.len() {
         return at;
     }
     if bar < gap {
         return at;
     }
-    let room = input::number(&parts[0..gap]);
-    let shown = input::number(&parts[gap..bar]);
+    let room = stored_numbers::number(&parts[0..gap]);
+    let shown = stored_numbers::number(&parts[gap..bar]);
     call(&parts[bar + 1..], room, shown, out, at)
 }
 
 // Calls with the bytes that the text stands for.
 fn call(text: &[u8], room: usize, shown: usize, out: &mut [u8], at: usize) -> usize {
     let mut bytes = [0u8; 8704];
-    let n = input::bytes(text, &mut bytes);
+    let n = stored_bytes::bytes(text, &mut bytes);
     let mut lent = [0i32; 704];
-    marks::put_marks(&mut lent);
+    stored_marks::put_marks(&mut lent);
     let k = least(room, 704);
     show(&bytes[0..n], shown, &mut lent[0..k], out, at)
 }
@@ -99,7 +96,7 @@ fn show(sheet: &[u8], shown: usize, lent: &mut [i32], out: &mut [u8], at: usize)
     let missing = j.missing;
     let done = least(words_of(count), lent.len());
     let a = put_ending(out, at, verdict, j.number, j.line);
-    let b = output::put_mark(out, a, marks::are_marked(lent, done));
+    let b = stored_results::put_mark(out, a, stored_marks::are_marked(lent, done));
     let c = put_checks(out, b, sheet, verdict, &lent[0..done], &missing);
     put_case(
         out,
@@ -142,9 +139,9 @@ fn among(verdict: usize, shown: usize) -> usize {
 
 fn put_ending(out: &mut [u8], at: usize, verdict: usize, number: usize, line: usize) -> usize {
     let a = puts::put(out, at, b": ");
-    let b = output::put_number(out, a, verdict, b' ');
-    let c = output::put_number(out, b, number, b' ');
-    output::put_number(out, c, line, b' ')
+    let b = stored_results::put_number(out, a, verdict, b' ');
+    let c = stored_results::put_number(out, b, number, b' ');
+    stored_results::put_number(out, c, line, b' ')
 }
 
 fn put_checks(
@@ -166,16 +163,16 @@ fn put_missing(out: &mut [u8], at: usize, shown: usize, missing: &[usize; 4]) ->
     if shown < 1 {
         return a;
     }
-    let b = output::put_number(out, a, missing[0], b' ');
-    let c = output::put_number(out, b, missing[1], b' ');
-    let d = output::put_number(out, c, missing[2], b' ');
-    output::put_number(out, d, missing[3], b'|')
+    let b = stored_results::put_number(out, a, missing[0], b' ');
+    let c = stored_results::put_number(out, b, missing[1], b' ');
+    let d = stored_results::put_number(out, c, missing[2], b' ');
+    stored_results::put_number(out, d, missing[3], b'|')
 }
 
 fn put_facts(out: &mut [u8], at: usize, shown: usize, count: usize, facts: &[i32]) -> usize {
     if shown < 2 {
         return at;
     }
-    let bar = output::put_number(out, at, count, b'|');
-    output::put_words(out, bar, facts, 5)
+    let bar = stored_results::put_number(out, at, count, b'|');
+    stored_results::put_words(out, bar, facts, 5)
 }

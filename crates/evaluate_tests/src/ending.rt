@@ -1,11 +1,10 @@
 // How a call ended.
 use format::Ending;
-use stored::output;
 
 // Number, line and count, then whether what comes after the answers is as it was lent.
 pub(crate) fn put_ending(out: &mut [u8], e: Ending, kept: bool) -> usize {
     let end = put_numbers(out, e);
-    output::put_mark(out, end, kept)
+    stored_results::put_mark(out, end, kept)
 }
 
 fn put_numbers(out: &mut [u8], e: Ending) -> usize {
@@ -16,9 +15,9 @@ fn put_numbers(out: &mut [u8], e: Ending) -> usize {
 }
 
 fn put_three(out: &mut [u8], number: usize, line: usize, count: usize) -> usize {
-    let i = output::put_number(out, 0, number, b' ');
-    let j = output::put_number(out, i, line, b' ');
-    output::put_number(out, j, count, b' ')
+    let i = stored_results::put_number(out, 0, number, b' ');
+    let j = stored_results::put_number(out, i, line, b' ');
+    stored_results::put_number(out, j, count, b' ')
 }
 
 // How many answers were written.

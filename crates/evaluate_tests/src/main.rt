@@ -11,9 +11,6 @@
 mod ending;
 
 use libc::STDOUT_FILENO;
-use stored::input;
-use stored::marks;
-use stored::output;
 ghost use Prim.Native.Nat.{_≤_};
 
 // The words of a fact, and of an answer.
@@ -35,7 +32,7 @@ fn main() {
 // Runs the next case, and returns false where there is none.
 fn run_next() -> bool {
     let mut line = [0u8; 8192];
-    let n = input::line(&mut line);
+    let n = stored_lines::line(&mut line);
     if n == 0 {
         return false;
     }
@@ -55,7 +52,7 @@ fn print(s: &[u8], n: usize) {
 
 // Runs a case, puts its result at the start of out, and returns its length. A line without a bar is a heading.
 fn run(case: &[u8], out: &mut [u8]) -> usize {
-    let bar = input::place(case, b'|');
+    let bar = stored_words::place(case, b'|');
     if bar == case.len() {
         return puts::put(out, 0, case);
     }
@@ -64,10 +61,10 @@ fn run(case: &[u8], out: &mut [u8]) -> usize {
 
 // Takes a case's two numbers apart, and its two texts.
 fn run_parts(numbers: &[u8], texts: &[u8], out: &mut [u8]) -> usize {
-    let gap = input::place(numbers, b' ');
-    let block = input::number(&numbers[0..gap]);
-    let room = input::number(&numbers[gap..]);
-    let bar = input::place(texts, b'|');
+    let gap = stored_words::place(numbers, b' ');
+    let block = stored_numbers::number(&numbers[0..gap]);
+    let room = stored_numbers::number(&numbers[gap..]);
+    let bar = stored_words::place(texts, b'|');
     if bar == texts.len() {
         return puts::put_byte(out, 0, b'?');
     }
@@ -77,11 +74,11 @@ fn run_parts(numbers: &[u8], texts: &[u8], out: &mut [u8]) -> usize {
 // Calls with the bytes and words that the texts stand for.
 fn call(sheet: &[u8], block: usize, facts: &[u8], room: usize, out: &mut [u8]) -> usize {
     let mut bytes = [0u8; 8704];
-    let n = input::bytes(sheet, &mut bytes);
+    let n = stored_bytes::bytes(sheet, &mut bytes);
     let mut words = [0i32; 704];
-    let m = input::words(facts, FACT, &mut words);
+    let m = stored_words::words(facts, FACT, &mut words);
     let mut lent = [0i32; 8192];
-    marks::put_marks(&mut lent);
+    stored_marks::put_marks(&mut lent);
     let k = least(room, 8192);
     show(&bytes[0..n], block, &words[0..m], &mut lent[0..k], out)
 }
@@ -90,9 +87,9 @@ fn call(sheet: &[u8], block: usize, facts: &[u8], room: usize, out: &mut [u8]) -
 fn show(sheet: &[u8], block: usize, facts: &[i32], lent: &mut [i32], out: &mut [u8]) -> usize {
     let e = evaluate::evaluate(sheet, block, facts, lent);
     let done = least(words_of(ending::count(e)), lent.len());
-    let end = ending::put_ending(out, e, marks::are_marked(lent, done));
+    let end = ending::put_ending(out, e, stored_marks::are_marked(lent, done));
     let bar = puts::put_byte(out, end, b'|');
-    output::put_words(out, bar, &lent[0..done], ANSWER)
+    stored_results::put_words(out, bar, &lent[0..done], ANSWER)
 }
 
 // How many words that many answers have. More than the program lends count as a hundred thousand.

@@ -267,7 +267,7 @@ fn is_kept(lv: &[usize], marks: &[bool], n: usize) -> bool
     requires { ⌜ n < length (now lv) ⌝ }
     ensures { λ r. ⌜ r ≡ kept (now (lv .entry)) (now (marks .entry)) n ⌝ }
 {
-    reasons::is_marked(marks, lv[n])
+    marks::is_marked(marks, lv[n])
 }
 
 // Whether the kept bound slots of copy k become those of copy m.

@@ -15,7 +15,8 @@ use Rattle.verdicts.specs.Tableau.{State}
 use Rattle.verdicts.specs.Search.{Keeps, Below, Equation, equations, Met, Refuted, RefutedBy}
 use Rattle.verdicts.specs.Words.{stateOf}
 use Rattle.verdicts.proofs.Decide.{less?, same?, in?}
-use Rattle.reasons.specs.Reasons.{kept, relaxed, Rests, Within}
+use Rattle.marks.specs.Marks.{Within}
+use Rattle.reasons.specs.Reasons.{kept, relaxed, Rests}
 use Rattle.reasons.proofs.Relaxed.{Owns}
 
 -- each slot has a constant or its own made-up value

@@ -8,26 +8,9 @@ use native.Mathlib.Omega.{arith}
 use borrow.Author.Count.{below-more}
 use lib.ListN.{length, getD, set, List·getD-eq-default}
 use Rattle.verdicts.specs.Sheets.{top}
-use Rattle.reasons.specs.Reasons.{kept, Within, Held, AtomHeld, Marked, HeadMarked, SlotMarked, FactMarked}
-
-pub within-same : (a : List Bool) → Within a a
-within-same a k e = e
-
-pub within-trans : (a b c : List Bool) → Within a b → Within b c → Within a c
-within-trans a b c f g k e = g k (f k e)
-
--- a mark set
-pub within-set : (a : List Bool) (k : ℕ) → Within a (set a k true)
-within-set [] k j e = e
-within-set (x ∷ a) zero zero e = refl
-within-set (x ∷ a) zero (suc j) e = e
-within-set (x ∷ a) (suc k) zero e = e
-within-set (x ∷ a) (suc k) (suc j) e = within-set a k j e
-
-pub set-there : (a : List Bool) (k : ℕ) → getD (set a k true) k true ≡ true
-set-there [] k = refl
-set-there (x ∷ a) zero = refl
-set-there (x ∷ a) (suc k) = set-there a k
+use Rattle.marks.specs.Marks.{Within}
+use Rattle.marks.proofs.Laws.{within-same, within-trans, within-set, set-there}
+use Rattle.reasons.specs.Reasons.{kept, Held, AtomHeld, Marked, HeadMarked, SlotMarked, FactMarked}
 
 -- what is held stays held by more marks
 pub held-more : (ws lv : List ℕ) (a b : List Bool) (t : ℕ) → Within a b → Held ws lv a t → Held ws lv b t

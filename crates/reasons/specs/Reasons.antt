@@ -3,8 +3,7 @@
 use mathlib.Core.Path.{_≡_}
 use mathlib.Core.Bool.{Bool, true, false, cond}
 use mathlib.Core.List.{List}
-use mathlib.Core.Logic.{_⊎_}
-use Prim.Native.Nat.{ℕ, _+_, _-_, _*_, _<_, _≤_}
+use Prim.Native.Nat.{ℕ, _+_, _*_, _<_}
 use lib.ListN.{length, getD}
 use Rattle.meaning.specs.Meaning.{In}
 use Rattle.verdicts.specs.Verdict.{Sheet}
@@ -12,6 +11,7 @@ use Rattle.verdicts.specs.Sheets.{top}
 use Rattle.verdicts.specs.Tableau.{State}
 use Rattle.verdicts.specs.Search.{Refuted}
 use Rattle.verdicts.specs.Words.{stateOf}
+use Rattle.marks.specs.Marks.{Within}
 
 -- the choice that bound slot n is one of those marked; what is bound by none that can be marked stays
 abbrev pub kept : List ℕ → List Bool → ℕ → Bool
@@ -24,10 +24,6 @@ relaxed ws lv marks n = cond (kept lv marks n) (stateOf top ws n) (top + n)
 -- nothing below that state is good
 abbrev pub Rests : Sheet → List ℕ → List ℕ → List Bool → Type 0
 Rests y ws lv marks = Refuted top y (relaxed ws lv marks)
-
--- what is marked in the first is marked in the second
-abbrev pub Within : List Bool → List Bool → Type 0
-Within a b = (k : ℕ) → getD a k true ≡ true → getD b k true ≡ true
 
 -- slot t is kept, or not bound
 abbrev pub Held : List ℕ → List ℕ → List Bool → ℕ → Type 0
@@ -69,28 +65,3 @@ pub record Assigned (lv lw u : List ℕ) (b : ℕ) : Type 0 where
   pub same : length lw ≡ length lv
   pub slots : (n : ℕ) → In (top + n) u → n < length lv → getD lw n 0 ≡ b
   pub others : (n : ℕ) → (In (top + n) u → ⊥) → getD lw n 0 ≡ getD lv n 0
-
--- ---- marks
-
--- what is marked in a second list was marked besides, but for one choice
-pub record MarksAdded (old others : List Bool) (skip : ℕ) (marks : List Bool) : Type 0 where
-  pub same : length marks ≡ length old
-  pub more : Within old marks
-  pub added : (k : ℕ) → (k ≡ skip → ⊥) → getD others k true ≡ true → getD marks k true ≡ true
-  pub only : (k : ℕ) → k < length old → getD marks k true ≡ true → (getD old k true ≡ true) ⊎ ((k ≡ skip → ⊥) × (getD others k true ≡ true))
-
--- what is marked there, and nothing else
-pub record MarksPut (old others marks : List Bool) : Type 0 where
-  pub same : length marks ≡ length old
-  pub each : (k : ℕ) → k < length old → getD marks k true ≡ getD others k true
-
--- nothing
-pub record Cleared (old marks : List Bool) : Type 0 where
-  pub same : length marks ≡ length old
-  pub each : (k : ℕ) → k < length old → getD marks k true ≡ false
-
--- the last of the first n choices that is marked, or 0
-pub record LastMarked (marks : List Bool) (n r : ℕ) : Type 0 where
-  pub inside : 0 < n → r < n
-  pub here : 0 < r → getD marks r true ≡ true
-  pub later : (k : ℕ) → r < k → k < n → getD marks k true ≡ false

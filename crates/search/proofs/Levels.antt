@@ -24,8 +24,9 @@ use Rattle.verdicts.proofs.Refute.{unified, clashed}
 use Rattle.plan.specs.Plan.{rowAt, rowValues, rowCount, viewCount}
 use Rattle.state.specs.State.{made-up, Fresh, Constants, Equated, EquatedBy}
 use Rattle.state.specs.Parts.{Own}
-use Rattle.reasons.specs.Reasons.{kept, relaxed, Rests, Within, Assigned, MarksAdded, MarksPut}
-use Rattle.reasons.proofs.Laws.{within-same, within-trans}
+use Rattle.marks.specs.Marks.{Within, MarksAdded, MarksPut}
+use Rattle.marks.proofs.Laws.{within-same, within-trans}
+use Rattle.reasons.specs.Reasons.{kept, relaxed, Rests, Assigned}
 use Rattle.reasons.proofs.Jumps.{below-by, relaxed-plain, relaxed-constant, relaxed-kept, relaxed-back, rests-more, jump, refuted-below}
 use Rattle.strikes.specs.Strikes.{Forgot}
 use Rattle.struck.specs.Rows.{Unmarked, Learned}

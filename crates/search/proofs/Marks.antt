@@ -18,7 +18,8 @@ use Rattle.verdicts.specs.Words.{stateOf}
 use Rattle.verdicts.proofs.Decide.{less?}
 use Rattle.plan.specs.Plan.{Plan, rowAt, rowValues, rowCount, blockNumbers, blockSize, tableauSize, tableauFacts}
 use Rattle.views.specs.Views.{GivenAt, StrayAt}
-use Rattle.reasons.specs.Reasons.{relaxed, Within, Held, AtomHeld, Marked, HeadMarked}
+use Rattle.marks.specs.Marks.{Within}
+use Rattle.reasons.specs.Reasons.{relaxed, Held, AtomHeld, Marked, HeadMarked}
 use Rattle.reasons.proofs.Laws.{held-more}
 use Rattle.reasons.proofs.Relaxed.{relaxed-held, given-held}
 use Rattle.search.specs.Parts.{Ready, sheetBy, fromBy, numbersOf, Proper, GivenBy, askedRow, Shut, ByStrays, NodeBy}

@@ -23,7 +23,8 @@ use Rattle.verdicts.proofs.Judge.{bare-accepted}
 use Rattle.plan.specs.Plan.{Plan, tableauFacts, tableauSize, askedSize, rowAt, rowValues, rowCount, viewCount, blockNumbers, blockSize}
 use Rattle.views.specs.Views.{GivenAt, Listed, StrayAt, NoStray}
 use Rattle.state.specs.State.{Fresh}
-use Rattle.reasons.specs.Reasons.{relaxed, Rests, Within}
+use Rattle.marks.specs.Marks.{Within}
+use Rattle.reasons.specs.Reasons.{relaxed, Rests}
 use Rattle.search.specs.Parts.{Ready, sheetBy, fromBy, Proper, Opened}
 use Rattle.search.proofs.Node.{Task, log-plain, shaped-log, nth-in}
 use Rattle.search.proofs.Fresh.{fresh-answer}

@@ -14,8 +14,9 @@ use Rattle.verdicts.specs.Search.{equations, RefutedBy}
 use Rattle.verdicts.specs.Words.{stateOf}
 use Rattle.verdicts.proofs.Decide.{less?}
 use Rattle.plan.specs.Plan.{rowAt, rowValues, rowCount}
-use Rattle.reasons.specs.Reasons.{kept, relaxed, Within}
-use Rattle.reasons.proofs.Laws.{within-same, within-trans}
+use Rattle.marks.specs.Marks.{Within}
+use Rattle.marks.proofs.Laws.{within-same, within-trans}
+use Rattle.reasons.specs.Reasons.{kept, relaxed}
 use Rattle.mirrors.specs.Mirrors.{Mirrors}
 use Rattle.strikes.specs.Strikes.{slotAt, valueAt, marksAt, countOf}
 use Rattle.struck.specs.Rows.{StruckRow, StruckBy}

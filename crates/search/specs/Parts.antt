@@ -22,7 +22,8 @@ use Rattle.plan.specs.Plan.{Plan, viewCount, askedSize, rowCount, rowAt, rowVal
 use Rattle.state.specs.State.{made-up, Fresh, Equated}
 use Rattle.state.specs.Parts.{Own}
 use Rattle.views.specs.Views.{GivenAt, StrayAt, NoStray}
-use Rattle.reasons.specs.Reasons.{kept, relaxed, Rests, Within, Marked, HeadMarked, Assigned, MarksAdded, MarksPut}
+use Rattle.marks.specs.Marks.{Within, MarksAdded, MarksPut}
+use Rattle.reasons.specs.Reasons.{kept, relaxed, Rests, Marked, HeadMarked, Assigned}
 use Rattle.mirrors.specs.Mirrors.{Mirrors}
 use Rattle.strikes.specs.Strikes.{slotAt, valueAt, marksAt, countOf}
 use Rattle.struck.specs.Rows.{StruckRow}

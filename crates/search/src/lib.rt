@@ -318,7 +318,7 @@ fn judge_state(
     requires { ⌜ (length (now st) ≡ 533) × (length (now lv) ≡ 533) ⌝ }
     ensures { λ r. ⌜ ((x : Sheet) → Ready (now (p .entry)) x → Proper (now (st .entry)) → NodeBy (r .done) (r .good) (now (p .entry)) x (sheetBy asked x) (now (st .entry)) (now (lv .entry)) (now (marks .exit)) (r .view) (r .values)) ⌝ }
 {
-    reasons::clear(marks);
+    marks::clear(marks);
     let mut room = [0; 630];
     let from = start(p, asked);
     let n = state::facts(p, st, from, &mut room);
@@ -377,11 +377,11 @@ fn take(
 fn jumps(marks: &mut [bool; 64], below: &[bool; 64], b: usize, next: usize) -> bool
     ensures { λ r. ⌜ JumpsBy r (now (marks .entry)) (now (below .entry)) b next (now (marks .exit)) ⌝ }
 {
-    if reasons::is_marked(below, b) {
-        reasons::add(marks, below, next);
+    if marks::is_marked(below, b) {
+        marks::add(marks, below, next);
         return false;
     }
-    reasons::put(marks, below);
+    marks::put(marks, below);
     true
 }
 
@@ -397,7 +397,7 @@ fn choice(fit: usize, next: usize, left: usize, marks: &[bool]) -> usize
         }
         return 1 + left % (CHOICES - 1);
     }
-    reasons::last(marks, next)
+    marks::last(marks, next)
 }
 
 // The next number for a choice below one.

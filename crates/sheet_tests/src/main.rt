@@ -18,8 +18,6 @@ ghost use Prim.Native.Nat.{_≤_};
 use format::Ending;
 use format::LINE_WORDS;
 use libc::STDOUT_FILENO;
-use stored::input;
-use stored::output;
 
 // No result is longer: it has at most 704 words of twelve bytes each and 4352 bytes of three, and two answers.
 const ROOM: usize = 22016;
@@ -35,7 +33,7 @@ fn main() {
 // Runs the next case, and returns false where there is none.
 fn run_next() -> bool {
     let mut line = [0u8; 4096];
-    let n = input::line(&mut line);
+    let n = stored_lines::line(&mut line);
     if n == 0 {
         return false;
     }
@@ -55,11 +53,11 @@ fn print(s: &[u8], n: usize) {
 
 // Runs a case, puts its result at the start of out, and returns its length. A line without a bar is a heading.
 fn run(case: &[u8], out: &mut [u8]) -> usize {
-    let bar = input::place(case, b'|');
+    let bar = stored_words::place(case, b'|');
     if bar == case.len() {
         return puts::put(out, 0, case);
     }
-    let number = input::number(&case[0..bar]);
+    let number = stored_numbers::number(&case[0..bar]);
     call(case[0], number, &case[bar + 1..], out)
 }
 
@@ -90,7 +88,7 @@ fn words_of(lines: usize) -> usize {
 
 fn call_read(room: usize, text: &[u8], out: &mut [u8]) -> usize {
     let mut given = [0u8; 8704];
-    let n = input::bytes(text, &mut given);
+    let n = stored_bytes::bytes(text, &mut given);
     let mut lent = [77777777i32; 704];
     let k = least(room, 704);
     read(&given[0..n], &mut lent[0..k], out)
@@ -106,12 +104,12 @@ fn put_read(out: &mut [u8], answer: Ending, lent: &[i32]) -> usize {
     let done = least(words_of(result::count(answer)), lent.len());
     let end = result::put_answer(out, 0, answer, result::are_words(lent, done, 77777777));
     let bar = puts::put_byte(out, end, b'|');
-    output::put_words(out, bar, &lent[0..done], LINE_WORDS)
+    stored_results::put_words(out, bar, &lent[0..done], LINE_WORDS)
 }
 
 fn call_write(room: usize, text: &[u8], out: &mut [u8]) -> usize {
     let mut given = [0i32; 704];
-    let n = input::words(text, LINE_WORDS, &mut given);
+    let n = stored_words::words(text, LINE_WORDS, &mut given);
     let mut lent = [35u8; 4352];
     let k = least(room, 4352);
     write(&given[0..n], &mut lent[0..k], out, 0)
@@ -128,19 +126,19 @@ fn write(given: &[i32], lent: &mut [u8], out: &mut [u8], at: usize) -> usize {
 
 fn call_line(number: usize, text: &[u8], out: &mut [u8]) -> usize {
     let mut given = [0u8; 8704];
-    let n = input::bytes(text, &mut given);
+    let n = stored_bytes::bytes(text, &mut given);
     line(&given[0..n], number, out)
 }
 
 fn line(given: &[u8], number: usize, out: &mut [u8]) -> usize {
     let back = sheet::line(given, number);
-    let bar = output::put_number(out, 0, back.len(), b'|');
+    let bar = stored_results::put_number(out, 0, back.len(), b'|');
     result::put_bytes(out, bar, back)
 }
 
 fn call_both(room: usize, text: &[u8], out: &mut [u8]) -> usize {
     let mut given = [0u8; 8704];
-    let n = input::bytes(text, &mut given);
+    let n = stored_bytes::bytes(text, &mut given);
     let mut words = [77777777i32; 704];
     let answer = sheet::read(&given[0..n], &mut words);
     let end = put_read(out, answer, &words);

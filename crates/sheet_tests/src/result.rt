@@ -1,13 +1,12 @@
 // Puts the parts of a case's result.
 use format::Ending;
-use stored::output;
 
 // Number, line and count, then whether what comes after the count is as it was lent.
 pub(crate) fn put_answer(out: &mut [u8], at: usize, a: Ending, kept: bool) -> usize {
-    let i = output::put_number(out, at, cause(a), b' ');
-    let j = output::put_number(out, i, line(a), b' ');
-    let k = output::put_number(out, j, count(a), b' ');
-    output::put_mark(out, k, kept)
+    let i = stored_results::put_number(out, at, cause(a), b' ');
+    let j = stored_results::put_number(out, i, line(a), b' ');
+    let k = stored_results::put_number(out, j, count(a), b' ');
+    stored_results::put_mark(out, k, kept)
 }
 
 fn cause(a: Ending) -> usize {

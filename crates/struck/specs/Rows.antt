@@ -7,7 +7,7 @@ use Prim.Native.Nat.{ℕ, _+_, _*_, _<_, _≤_}
 use lib.ListN.{length, getD}
 use Rattle.verdicts.specs.Sheets.{top}
 use Rattle.plan.specs.Plan.{rowAt}
-use Rattle.reasons.specs.Reasons.{MarksAdded}
+use Rattle.marks.specs.Marks.{MarksAdded}
 use Rattle.strikes.specs.Strikes.{slotAt, valueAt, marksAt, countOf, SameEntry}
 
 -- marks were added, or nothing changed

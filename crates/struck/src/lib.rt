@@ -30,7 +30,7 @@ fn mark_entry(sm: &[bool], e: usize, marks: &mut [bool]) -> bool
     if sm.len() < at + CHOICES {
         return false;
     }
-    reasons::add(marks, &sm[at..at + CHOICES], CHOICES);
+    marks::add(marks, &sm[at..at + CHOICES], CHOICES);
     true
 }
 

@@ -10,10 +10,12 @@ use format::QUESTION_KIND;
 use format::ROW_KIND;
 use format::SAVED_KIND;
 use format::VIEW_KIND;
+use text_begins::blanks;
+use text_begins::letter;
 ghost use mathlib.Core.Path.{_≡_};
 ghost use Prim.Native.Nat.{_+_, _≤_, _<_};
 ghost use lib.ListN.{length, drop};
-ghost use Rattle.text_reader.specs.Begins.{letterOf, isBlank, beginsText, isText, blanks};
+ghost use Rattle.text_begins.specs.Begins.{blanks};
 
 // The lines of the number form that are kept: one more than a sheet can have, so that a longer one is refused. Their words.
 const LINES: usize = MOST_LINES + 1;
@@ -126,16 +128,6 @@ fn kind_of(b: u8) -> u8 {
     }
 }
 
-// Whether a text begins with a byte.
-fn begins(b: u8) -> bool
-    ensures { λ r. ⌜ r ≡ beginsText b ⌝ }
-{
-    match b {
-        b'a'..=b'z' | b'A'..=b'Z' | b'#' | b'\n' => true,
-        _ => false,
-    }
-}
-
 // The kind of a token; an empty one ends the line.
 fn kind(token: &[u8]) -> u8 {
     if token.len() == 0 {
@@ -177,28 +169,12 @@ fn token_end(text: &[u8], at: usize) -> usize
     e
 }
 
-fn is_blank(b: u8) -> bool
-    ensures { λ r. ⌜ r ≡ isBlank b ⌝ }
-{
-    match b {
-        b' ' | b'\t' | b'\r' => true,
-        _ => false,
-    }
-}
-
 // The first place from `at` on that has no blank.
 fn skip(text: &[u8], at: usize) -> usize
     requires { ⌜ at ≤ length (now text) ⌝ }
     ensures { λ r. ⌜ (at ≤ r) × (r ≤ length (now (text .entry))) × (r ≡ at + blanks (drop at (now (text .entry)))) ⌝ }
 {
-    let mut i = at;
-    while i < text.len() {
-        if !is_blank(text[i]) {
-            return i;
-        }
-        i += 1;
-    }
-    i
+    at + blanks(&text[at..])
 }
 
 fn are_equal(a: &[u8], b: &[u8]) -> bool {
@@ -380,16 +356,6 @@ fn next_block(block: usize) -> usize
         0 => QUESTION_KIND,
         1 => SAVED_KIND,
         _ => VIEW_KIND,
-    }
-}
-
-pub fn letter(block: usize) -> u8
-    ensures { λ r. ⌜ r ≡ letterOf block ⌝ }
-{
-    match block {
-        1 => b'q',
-        2 => b'l',
-        _ => b'v',
     }
 }
 
@@ -693,15 +659,4 @@ fn one_at_end(b: u8) -> usize
     ensures { λ r. ⌜ r ≤ 1 ⌝ }
 {
     if b == b'\n' { 1 } else { 0 }
-}
-
-// Whether bytes are a text and no sheet: a letter, "#" or an empty line comes first.
-pub fn is_text(given: &[u8]) -> bool
-    ensures { λ r. ⌜ r ≡ isText (now (given .entry)) ⌝ }
-{
-    let at = skip(given, 0);
-    if at < given.len() {
-        return begins(given[at]);
-    }
-    false
 }

@@ -8,8 +8,6 @@
 use format::Ending;
 use format::MOST_BYTES;
 use libc::STDOUT_FILENO;
-use stored::input;
-use stored::output;
 use text::Made;
 use text::SPOKEN_BYTES;
 use text::TEXT_BYTES;
@@ -32,7 +30,7 @@ fn main() {
 // Runs the next case, and returns false where there is none.
 fn run_next() -> bool {
     let mut line = [0u8; LINE];
-    let n = input::line(&mut line);
+    let n = stored_lines::line(&mut line);
     if n == 0 {
         return false;
     }
@@ -65,7 +63,7 @@ fn opened(b: u8) -> u8 {
 
 // Runs a case, puts its result at the start of out, and returns its length. A line without a bar is a heading.
 fn run(case: &[u8], out: &mut [u8]) -> usize {
-    let bar = input::place(case, b'|');
+    let bar = stored_words::place(case, b'|');
     let end = puts::put(out, 0, &case[0..bar]);
     if bar == case.len() {
         return puts::put_byte(out, end, b'\n');
@@ -112,7 +110,7 @@ fn run_again(sheet: &[u8], back: &[u8], out: &mut [u8], at: usize) -> usize {
         return puts::put(out, at, b"!\n");
     };
     if n <= again.len() {
-        let end = output::put_mark(out, at, are_equal(sheet, &again[0..n]));
+        let end = stored_results::put_mark(out, at, are_equal(sheet, &again[0..n]));
         return puts::put_byte(out, end, b'\n');
     }
     at

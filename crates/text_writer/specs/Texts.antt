@@ -12,7 +12,7 @@ use Rattle.format.specs.Relations.{columnsAt, columnsOf}
 use Rattle.format.specs.declared.Term.{Term}
 use Rattle.format.specs.declared.Term.the-variants.{Constant, Variable, OutOfRange}
 use Rattle.puts.specs.Words.{bytes}
-use Rattle.text_reader.specs.Begins.{letterOf}
+use Rattle.text_begins.specs.Begins.{letterOf}
 
 -- ---- parts
 

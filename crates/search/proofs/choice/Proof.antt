@@ -5,7 +5,7 @@ use Rattle.search.proofs.choice.Statement.{statement}
 use Rattle.search.proofs.choice.Tie as tie
 use Rattle.search.proofs.choice.Reads as reads
 use Rattle.search.proofs.choice.Lts as lts
-use Rattle.reasons.proofs.last.Reads as last-reads
+use Rattle.marks.proofs.last.Reads as last-reads
 
 -- src/lib.rt:396:13
 returns : tie.Need-returns

@@ -12,7 +12,7 @@ use Rattle.search.proofs.judge_state.Statement.{statement}
 use Rattle.search.proofs.judge_state.Tie as tie
 use Rattle.search.proofs.judge_state.Reads as reads
 use Rattle.search.proofs.judge_state.Lts as lts
-use Rattle.reasons.proofs.clear.Reads as clear-reads
+use Rattle.marks.proofs.clear.Reads as clear-reads
 use Rattle.search.proofs.by_facts.Reads as by-facts-reads
 use Rattle.search.proofs.ended.Reads as ended-reads
 use Rattle.search.proofs.start.Reads as start-reads

@@ -8,9 +8,9 @@ use Rattle.search.proofs.jumps.Statement.{statement}
 use Rattle.search.proofs.jumps.Tie as tie
 use Rattle.search.proofs.jumps.Reads as reads
 use Rattle.search.proofs.jumps.Lts as lts
-use Rattle.reasons.proofs.add.Reads as add-reads
-use Rattle.reasons.proofs.is_marked.Reads as is-marked-reads
-use Rattle.reasons.proofs.put.Reads as put-reads
+use Rattle.marks.proofs.add.Reads as add-reads
+use Rattle.marks.proofs.is_marked.Reads as is-marked-reads
+use Rattle.marks.proofs.put.Reads as put-reads
 
 -- src/lib.rt:272:8
 is-marked-requires : tie.Need-is-marked-requires

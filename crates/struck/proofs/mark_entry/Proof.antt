@@ -3,13 +3,13 @@ use mathlib.Core.Bool.{Bool, true, false, true≢false}
 use Prim.Native.Nat.{ℕ, _≤_, _<_, _-_, _+_, _*_}
 use native.Mathlib.Omega.{arith}
 use lib.ListN.{length, getD, take, drop}
-use Rattle.reasons.specs.Reasons.{MarksAdded}
+use Rattle.marks.specs.Marks.{MarksAdded}
 use borrow.Author.Needs.{needs}
 use Rattle.struck.proofs.mark_entry.Statement.{statement}
 use Rattle.struck.proofs.mark_entry.Tie as tie
 use Rattle.struck.proofs.mark_entry.Reads as reads
 use Rattle.struck.proofs.mark_entry.Lts as lts
-use Rattle.reasons.proofs.add.Reads as add-reads
+use Rattle.marks.proofs.add.Reads as add-reads
 
 mul-at : tie.Need-mul-at
 mul-at c = search needs

@@ -1,0 +1,109 @@
+use mathlib.Core.Logic.{inl, inr}
+use native.Mathlib.Omega.{arith}
+use borrow.Author.Needs.{needs}
+use Rattle.text_answer.proofs.Calls.{sheet-fits, sheet-accepted, why-expected, why-refused}
+use Rattle.text_answer.proofs.answer.Statement.{statement}
+use Rattle.text_answer.proofs.answer.Tie as tie
+
+is-text-requires : tie.Need-is-text-requires
+is-text-requires c κs = search needs
+
+verdict-requires : tie.Need-verdict-requires
+verdict-requires c κs = search needs
+
+same-length : tie.Need-same-length
+same-length c = search needs
+
+returns : tie.Need-returns
+returns c = inl (c .before .before .verdict .ensures)
+
+slice-aggregate-sheet-of : tie.Need-slice-aggregate-sheet-of
+slice-aggregate-sheet-of c = search needs
+
+sheet-of-requires : tie.Need-sheet-of-requires
+sheet-of-requires c κs = search needs
+
+enum-known-made : tie.Need-enum-known-made
+enum-known-made c = search needs
+
+sub-verdict : tie.Need-sub-verdict
+sub-verdict c = search needs
+
+part-verdict-start : tie.Need-part-verdict-start
+part-verdict-start c = search needs
+
+part-verdict-end : tie.Need-part-verdict-end
+part-verdict-end c =
+    let m = c .before .before .before .before .before .sheet-of in
+    let f = sheet-fits (m .result) (c .before .before .made .given .0 .0) _ (m .last .1 .0) (m .ensures) (c .before .before .made .given .1) in
+    omega arith
+
+verdict-requires-2 : tie.Need-verdict-requires-2
+verdict-requires-2 c κs = search needs
+
+enum-told : tie.Need-enum-told
+enum-told c = search needs
+
+message-requires : tie.Need-message-requires
+message-requires c κs = search needs
+
+enum-told-2 : tie.Need-enum-told-2
+enum-told-2 c = search needs
+
+message-requires-2 : tie.Need-message-requires-2
+message-requires-2 c κs = search needs
+
+same-length-2 : tie.Need-same-length-2
+same-length-2 c = search needs
+
+returns-2 : tie.Need-returns-2
+returns-2 c =
+    let m = c .before .before .before .before .before .before .before .before .before .before .sheet-of in
+    let g = c .before .before .before .before .before .before .before .made .given in
+    inr (inl (record { sheet = _; accepted = sheet-accepted (m .result) (g .0 .0) _ (m .last .1 .0) (m .ensures) (g .1); spoken = c .before .before .verdict2 .ensures }))
+
+same-length-3 : tie.Need-same-length-3
+same-length-3 c = search needs
+
+returns-3 : tie.Need-returns-3
+returns-3 c =
+    let m = c .before .before .before .before .before .before .before .sheet-of .result in
+    let g = c .before .before .before .before .enum-told .given in
+    let t = c .before .before .message in
+    inr (inr (why-expected m (g .0 .0) (g .0 .1 .0) (g .0 .1 .1 .0) _ (t .last .1 .0) (t .result) (t .ensures) (g .1)))
+
+same-length-4 : tie.Need-same-length-4
+same-length-4 c = search needs
+
+returns-4 : tie.Need-returns-4
+returns-4 c =
+    let m = c .before .before .before .before .before .before .before .sheet-of .result in
+    let g = c .before .before .before .before .enum-told2 .given in
+    let t = c .before .before .message2 in
+    inr (inr (why-refused m (g .0 .0) (g .0 .1 .0) (g .0 .1 .1 .0) _ (t .last .1 .0) (t .result) (t .ensures) (g .1)))
+
+pub answer-spec : {M : Type 1} → statement M
+answer-spec =
+    tie.close
+    (tie.spec
+    is-text-requires
+    verdict-requires
+    same-length
+    returns
+    slice-aggregate-sheet-of
+    sheet-of-requires
+    enum-known-made
+    sub-verdict
+    part-verdict-start
+    part-verdict-end
+    verdict-requires-2
+    enum-told
+    message-requires
+    enum-told-2
+    message-requires-2
+    same-length-2
+    returns-2
+    same-length-3
+    returns-3
+    same-length-4
+    returns-4)

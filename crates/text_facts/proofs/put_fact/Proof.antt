@@ -1,0 +1,68 @@
+-- The relation's name, and a term for each of its columns.
+use mathlib.Core.Path.{ap, _∙_}
+use borrow.Author.Needs.{needs}
+use Rattle.text_writer.proofs.Parts.{fact-parts}
+use Rattle.puts.proofs.Laws.{said, followed}
+use Rattle.text_writer.proofs.Laws.{word-back}
+use Rattle.format.specs.Line.{natural}
+use Rattle.format.specs.Relations.{columnsOf}
+use Rattle.text_facts.proofs.put_fact.Statement.{statement}
+use Rattle.text_facts.proofs.put_fact.Tie as tie
+
+shared-slice-copy-out-relation : tie.Need-shared-slice-copy-out-relation
+shared-slice-copy-out-relation c = search needs
+
+columns-requires : tie.Need-columns-requires
+columns-requires c κs = search needs
+
+least-requires : tie.Need-least-requires
+least-requires c κs = search needs
+
+natural-requires : tie.Need-natural-requires
+natural-requires c κs = search needs
+
+put-relation-requires : tie.Need-put-relation-requires
+put-relation-requires c κs = search needs
+
+add-put-terms : tie.Need-add-put-terms
+add-put-terms c = search needs
+
+sub-put-terms : tie.Need-sub-put-terms
+sub-put-terms c = search needs
+
+part-put-terms-start : tie.Need-part-put-terms-start
+part-put-terms-start c = search needs
+
+part-put-terms-end : tie.Need-part-put-terms-end
+part-put-terms-end c = search needs
+
+put-terms-requires : tie.Need-put-terms-requires
+put-terms-requires c κs = search needs
+
+same-length : tie.Need-same-length
+same-length c = search needs
+
+returns : tie.Need-returns
+returns c =
+    let ws = c .before .before .before .before .before .before .before .before .before .before .before .before .before .before .args .fact .now in
+    let b = word-back ws 0 (c .before .before .before .before .before .before .before .before .before .before .before .before .relation .given) in
+    let n = c .before .before .before .before .before .before .before .before .natural .ensures ∙ ap natural b in
+    let k = c .before .before .before .before .before .before .before .before .before .before .before .columns .ensures ∙ ap columnsOf b in
+    said (fact-parts ws (c .before .before .before .before .before .before .before .before .before .before .least .result) (c .before .before .before .before .before .before .before .before .before .before .before .before .before .before .pre) n k (c .before .before .before .before .before .before .before .before .before .before .least .ensures)) (followed (c .before .before .before .before .before .before .before .put-relation .ensures) (c .before .before .put-terms .ensures))
+
+pub put-fact-spec : {M : Type 1} → statement M
+put-fact-spec =
+    tie.close
+    (tie.spec
+    shared-slice-copy-out-relation
+    columns-requires
+    least-requires
+    natural-requires
+    put-relation-requires
+    add-put-terms
+    sub-put-terms
+    part-put-terms-start
+    part-put-terms-end
+    put-terms-requires
+    same-length
+    returns)

@@ -1,0 +1,67 @@
+-- The letter, the terms and the colon.
+use mathlib.Core.Path.{ap, _∙_}
+use borrow.Author.Needs.{needs}
+use Rattle.text_writer.proofs.Parts.{line-terms}
+use Rattle.puts.proofs.Laws.{said, followed}
+use Rattle.text_writer.proofs.Laws.{word-back}
+use Rattle.text_writer.specs.Texts.{small, termsBytes}
+use mathlib.Core.List.{[], _∷_}
+use Rattle.text_lines.proofs.put_head.Statement.{statement}
+use Rattle.text_lines.proofs.put_head.Tie as tie
+
+shared-slice-copy-out-small : tie.Need-shared-slice-copy-out-small
+shared-slice-copy-out-small c = search needs
+
+small-requires : tie.Need-small-requires
+small-requires c κs = search needs
+
+terms-end-requires : tie.Need-terms-end-requires
+terms-end-requires c κs = search needs
+
+letter-requires : tie.Need-letter-requires
+letter-requires c κs = search needs
+
+put-byte-requires : tie.Need-put-byte-requires
+put-byte-requires c κs = search needs
+
+sub-put-terms : tie.Need-sub-put-terms
+sub-put-terms c = search needs
+
+part-put-terms-start : tie.Need-part-put-terms-start
+part-put-terms-start c = search needs
+
+part-put-terms-end : tie.Need-part-put-terms-end
+part-put-terms-end c = search needs
+
+put-terms-requires : tie.Need-put-terms-requires
+put-terms-requires c κs = search needs
+
+put-byte-requires-2 : tie.Need-put-byte-requires-2
+put-byte-requires-2 c κs = search needs
+
+same-length : tie.Need-same-length
+same-length c = search needs
+
+returns : tie.Need-returns
+returns c =
+    let l = c .before .before .before .before .before .before .before .before .before .before .before .before .before .before .before .before .before .before .args .line .now in
+    let ts = line-terms l (c .before .before .before .before .before .before .before .before .before .before .before .before .before .before .terms-end .result) (c .before .before .before .before .before .before .before .before .before .before .before .before .before .before .before .small .ensures .0 ∙ ap small (word-back l 0 (c .before .before .before .before .before .before .before .before .before .before .before .before .before .before .before .before .small-arg .given))) (c .before .before .before .before .before .before .before .before .before .before .before .before .before .before .terms-end .ensures .2) in
+    let a = said (ap (λ b. b ∷ []) (c .before .before .before .before .before .before .before .before .before .before .before .before .letter .ensures)) (c .before .before .before .before .before .before .before .before .before .before .before .put-byte .ensures) in
+    followed (followed a (said (ap termsBytes ts) (c .before .before .before .before .before .before .put-terms .ensures))) (c .before .before .put-byte2 .ensures)
+
+pub put-head-spec : {M : Type 1} → statement M
+put-head-spec =
+    tie.close
+    (tie.spec
+    shared-slice-copy-out-small
+    small-requires
+    terms-end-requires
+    letter-requires
+    put-byte-requires
+    sub-put-terms
+    part-put-terms-start
+    part-put-terms-end
+    put-terms-requires
+    put-byte-requires-2
+    same-length
+    returns)

@@ -1,0 +1,22 @@
+-- Nothing where the number is 0.
+use borrow.Author.Needs.{needs}
+use Rattle.text_writer.proofs.Parts.{where-is, unless-is}
+use Rattle.puts.proofs.Laws.{nothing, said}
+use mathlib.Core.List.{[]}
+use Rattle.text_refusals.proofs.put_after_one.Statement.{statement}
+use Rattle.text_refusals.proofs.put_after_one.Tie as tie
+
+returns : tie.Need-returns
+returns c = said (where-is (c .before .before .before .args .s .now) (c .if1 .taken)) (nothing (c .before .before .before .args .out .now) (c .before .before .before .args .at))
+
+put-requires : tie.Need-put-requires
+put-requires c κs = search needs
+
+same-length : tie.Need-same-length
+same-length c = search needs
+
+returns-2 : tie.Need-returns-2
+returns-2 c = said (unless-is [] (c .before .before .before .before .if1 .left)) (c .before .before .put .ensures)
+
+pub put-after-one-spec : {M : Type 1} → statement M
+put-after-one-spec = tie.close (tie.spec returns put-requires same-length returns-2)

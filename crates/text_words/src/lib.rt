@@ -1,0 +1,83 @@
+// What causes say, and what was expected, in words, put at a place of a buffer.
+use puts::put;
+use text_writer::put_relation;
+ghost use Rattle.puts.specs.Puts.{Put};
+ghost use Rattle.text_writer.specs.Texts.{causeBytes, countBytes, columnsBytes, whatBytes};
+
+// What a cause for sending back says.
+pub fn put_cause(out: &mut [u8], at: usize, number: usize) -> usize
+    ensures { λ r. ⌜ Put (now (out .entry)) (now (out .exit)) at (causeBytes number) r ⌝ }
+{
+    match number {
+        1 => put(out, at, b"the sheet is too long"),
+        2 => put(out, at, b"a line or a field is malformed"),
+        3 => put(
+            out,
+            at,
+            b"a line is out of place, or the question or the list is missing",
+        ),
+        4 => put(out, at, b"no such relation, or not its columns"),
+        5 => put(out, at, b"a term is out of range, or a row has a variable"),
+        6 => put(out, at, b"one atom, view or row too many"),
+        7 => put(out, at, b"a head or a row has the wrong length"),
+        8 => put(
+            out,
+            at,
+            b"a block has no atoms, or a variable of its head is in none",
+        ),
+        9 => put(out, at, b"a row is not above the one before it"),
+        _ => put(out, at, b"there is not room enough"),
+    }
+}
+
+// How many columns a relation has.
+fn put_count(out: &mut [u8], at: usize, columns: usize) -> usize
+    ensures { λ r. ⌜ Put (now (out .entry)) (now (out .exit)) at (countBytes columns) r ⌝ }
+{
+    match columns {
+        1 => put(out, at, b"one column in "),
+        2 => put(out, at, b"two columns in "),
+        3 => put(out, at, b"three columns in "),
+        _ => put(out, at, b"four columns in "),
+    }
+}
+
+fn put_columns(out: &mut [u8], at: usize, relation: usize) -> usize
+    ensures { λ r. ⌜ Put (now (out .entry)) (now (out .exit)) at (columnsBytes relation) r ⌝ }
+{
+    if 10 < relation {
+        return at;
+    }
+    let n = put_count(out, at, terms::columns(relation as i32));
+    put_relation(out, n, relation)
+}
+
+// What was expected, by text_reader's numbers for it.
+pub fn put_what(out: &mut [u8], at: usize, what: usize, relation: usize) -> usize
+    ensures { λ r. ⌜ Put (now (out .entry)) (now (out .exit)) at (whatBytes what relation) r ⌝ }
+{
+    match what {
+        1 => put(out, at, b"q, the question"),
+        2 => put(out, at, b"l, the saved list"),
+        3 => put(out, at, b"v, a view"),
+        4 => put(out, at, b"("),
+        5 => put(out, at, b"a variable, a number or )"),
+        6 => put(out, at, b"a variable or a number"),
+        7 => put(out, at, b", or )"),
+        8 => put(out, at, b":"),
+        9 => put(
+            out,
+            at,
+            b"a relation: Rower, Strap, Worn, Sig, Beat, Noise, Pulse, Coach, Seat or Pause",
+        ),
+        10 => put_columns(out, at, relation),
+        11 => put(out, at, b"at most four columns"),
+        12 => put(out, at, b", or the end of the line"),
+        13 => put(out, at, b", or = and the rows"),
+        14 => put(out, at, b"a row or the end of the line"),
+        15 => put(out, at, b"a row"),
+        16 => put(out, at, b", or ; or the end of the line"),
+        17 => put(out, at, b"; or the end of the line"),
+        _ => put(out, at, b"at most 65536 bytes"),
+    }
+}
