@@ -49,14 +49,7 @@ fn keep(by: &mut [usize; 240], r: usize, at: [usize; 6])
 
 // Whether fact i is at one of the places.
 fn uses(at: [usize; 6], i: usize) -> bool {
-    let mut j = 0;
-    while j < PLACES {
-        if at[j] == i {
-            return true;
-        }
-        j += 1;
-    }
-    false
+    at[0] == i || at[1] == i || at[2] == i || at[3] == i || at[4] == i || at[5] == i
 }
 
 // The places where fact i is left out: those after it are one lower.
