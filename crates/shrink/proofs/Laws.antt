@@ -1,6 +1,6 @@
 -- Numbers without a fact, parts of facts, and facts tried, over lists.
 use mathlib.Core.Path.{_≡_, refl, sym, ap, _∙_, subst}
-use mathlib.Core.Bool.{true≢false, Bool, true, false, cond}
+use mathlib.Core.Bool.{Bool, true, false, cond}
 use mathlib.Core.List.{List}
 use Prim.Native.Nat.{ℕ, suc, _+_, _-_, _*_, _<_, _≤_, min}
 use native.Mathlib.Omega.{arith}
@@ -12,7 +12,7 @@ use lib.ListN.{length, getD, take, drop, set, length-set, length-append, length-
 use lib.Seq.{getD-set-same, getD-set-other, ext-getD, getD-take, getD-drop, getD-append-add, length-take-le}
 use Rattle.joins.specs.Joins.{AtomMet, Given}
 use Rattle.plan.specs.Plan.{rowCount, blockNumbers, blockSize}
-use Rattle.views.specs.Views.{Agree, AgreeBy, NoStray, Missing, MissingBy}
+use Rattle.views.specs.Views.{NoStray, Missing, MissingBy}
 use Rattle.views.specs.Walks.{GivenTo}
 use Rattle.shrink.specs.Shrink.{IsCase, CaseBy, without, Part, Shrunk}
 use Rattle.shrink.specs.Parts.{Tried}
@@ -128,6 +128,10 @@ no-stray-without p ns n i l lt s v h u g =
     s v h u
     (given-part (blockNumbers p (2 + v)) (min (blockSize p (2 + v)) 6) ns n (without ns i) (n - 1) u l (length-without ns n i l lt) (part-without ns n i l lt) g)
 
+-- whether a case is left without fact i, asked of the same facts in another place
+pub left-without : (b : Bool) (p ms ks : List ℕ) (m i : ℕ) → length ms ≡ m * 5 → i < m → ks ≡ without ms i → NoStray p ms → (NoStray p ks → CaseBy b p ks) → CaseBy b p (without ms i)
+left-without b p ms ks m i l lt e s f = subst (λ (l : List ℕ). NoStray p l → CaseBy b p l) e f (no-stray-without p ms m i l lt s)
+
 -- ---- numbers copied, and moved down
 
 -- the first n numbers are the same
@@ -180,6 +184,54 @@ moved-all xs ys n i y lt h k m =
     go t z g (yes q) = getD-take ((n - 1) * 5) ys z 0 g ∙ m .below z q ∙ sym (without-below (take (n * 5) xs) n i z t lt q ∙ getD-take (n * 5) xs z 0 (omega arith))
     go t z g (no q) = getD-take ((n - 1) * 5) ys z 0 g ∙ m .moved z (omega arith) (omega arith) ∙ sym (without-above (take (n * 5) xs) n i z t lt (omega arith) ∙ getD-take (n * 5) xs (z + 5) 0 (omega arith))
 
+-- ---- a fact put back
+
+-- the numbers from place a to before place y are those of xs, and the others those of ys
+pub record Patched (xs ys zs : List ℕ) (a y : ℕ) : Type 0 where
+  pub size : length zs ≡ length ys
+  pub from : a ≤ y
+  pub inside : (z : ℕ) → a ≤ z → z < y → getD zs z 0 ≡ getD xs z 0
+  pub below : (z : ℕ) → z < a → getD zs z 0 ≡ getD ys z 0
+  pub above : (z : ℕ) → y ≤ z → getD zs z 0 ≡ getD ys z 0
+
+pub patched-none : (xs ys : List ℕ) (a : ℕ) → Patched xs ys ys a a
+patched-none xs ys a = record { size = refl; from = omega arith; inside = λ z h k. absurd (omega arith); below = λ z h. refl; above = λ z h. refl }
+
+pub patched-more : (xs ys zs : List ℕ) (a y : ℕ) → y < length ys → Patched xs ys zs a y → Patched xs ys (set zs y (getD xs y 0)) a (y + 1)
+patched-more xs ys zs a y lt m = record {
+  size = length-set zs y v ∙ m .size;
+  from = let f = m .from in omega arith;
+  inside = λ z h k. go z h (decLt z y) k;
+  below = λ z h. getD-set-other zs y z v 0 (λ e. let f = m .from in absurd (omega arith)) ∙ m .below z h;
+  above = λ z h. getD-set-other zs y z v 0 (λ e. absurd (omega arith)) ∙ m .above z (omega arith);
+}
+  where
+    v : ℕ
+    v = getD xs y 0
+
+    go : (z : ℕ) → a ≤ z → Dec (z < y) → z < y + 1 → getD (set zs y v) z 0 ≡ getD xs z 0
+    go z h (yes b) k = getD-set-other zs y z v 0 (λ e. absurd (omega arith)) ∙ m .inside z h b
+    go z h (no b) k =
+        let e : z ≡ y = omega arith in
+        subst (λ x. getD (set zs y v) x 0 ≡ getD xs x 0) (sym e) (getD-set-same zs y v 0 (let s = m .size in omega arith))
+
+-- where ys lacks fact i, it lacks the next one with fact i put back
+pub patched-all : (xs ys zs : List ℕ) (n i y : ℕ) → i + 1 < n → n * 5 ≤ length xs → n * 5 ≤ length ys → y ≡ i * 5 + 5 → Patched xs ys zs (i * 5) y
+    → take ((n - 1) * 5) ys ≡ without (take (n * 5) xs) i → take ((n - 1) * 5) zs ≡ without (take (n * 5) xs) (i + 1)
+patched-all xs ys zs n i y lt lx ly at m e =
+    let t = length-take-le (n * 5) xs lx in
+    let b = length-take-le ((n - 1) * 5) zs (let s = m .size in omega arith) in
+    ext-getD 0 (take ((n - 1) * 5) zs) (without (take (n * 5) xs) (i + 1)) (b ∙ sym (length-without (take (n * 5) xs) n (i + 1) t lt))
+    (λ z g. getD-take ((n - 1) * 5) zs z 0 (omega arith) ∙ go t z (omega arith) (decLt z (i * 5)) (decLt z y))
+  where
+    old : (z : ℕ) → z < (n - 1) * 5 → getD ys z 0 ≡ getD (without (take (n * 5) xs) i) z 0
+    old z g = sym (getD-take ((n - 1) * 5) ys z 0 g) ∙ ap (λ l. getD l z 0) e
+
+    go : length (take (n * 5) xs) ≡ n * 5 → (z : ℕ) → z < (n - 1) * 5 → Dec (z < i * 5) → Dec (z < y) → getD zs z 0 ≡ getD (without (take (n * 5) xs) (i + 1)) z 0
+    go t z g (yes q) w = m .below z q ∙ old z g ∙ without-below (take (n * 5) xs) n i z t (omega arith) q ∙ sym (without-below (take (n * 5) xs) n (i + 1) z t lt (omega arith))
+    go t z g (no q) (yes w) = m .inside z (omega arith) w ∙ sym (without-below (take (n * 5) xs) n (i + 1) z t lt (omega arith) ∙ getD-take (n * 5) xs z 0 (omega arith))
+    go t z g (no q) (no w) = m .above z (omega arith) ∙ old z g ∙ without-above (take (n * 5) xs) n i z t (omega arith) (omega arith) ∙ sym (without-above (take (n * 5) xs) n (i + 1) z t lt (omega arith))
+
 -- ---- facts tried
 
 pub tried-none : (p ns : List ℕ) (n before : ℕ) → IsCase p ns → Tried p ns n ns n before 0
@@ -206,9 +258,3 @@ tried-again p ns n ms m before i ks k t u = record { part = part-part ns ms ks n
 
 pub shrunk : (p ns : List ℕ) (n : ℕ) (ms : List ℕ) (m before : ℕ) → length ms ≡ m * 5 → m ≡ before → Tried p ns n ms m before m → Shrunk p ns n ms m
 shrunk p ns n ms m before l e t = record { count = l; part = t .part; still = t .still; spare-free = t .needed e }
-
--- ---- facts that do not agree
-
-pub disagrees : (b : Bool) (p ns : List ℕ) → b ≡ false → AgreeBy b p ns → Agree p ns → ⊥
-disagrees true p ns e a = absurd (true≢false e)
-disagrees false p ns e a = a

@@ -1,28 +1,22 @@
-use Rattle.shrink.proofs.Laws.{tried-start, tried-again, shrunk, disagrees}
-use Rattle.shrink.specs.Parts.{Tried}
-use Rattle.shrink.specs.Shrink.{IsCase}
-use Rattle.views.specs.Walks.{Ready}
-use borrow.Author.Tests.{not-true}
+-- `shrink::shrink` meets its contract. The loop's invariant: m facts are left, a case, and where the last pass dropped none, none is to spare. The measure is how many facts there were before the last pass. Assumes nothing.
+use lib.ListN.{take, length}
 use lib.Seq.{length-take-le}
-use lib.ListN.{take}
-use mathlib.Core.Path.{_≡_, refl, sym, ap, _∙_}
-use mathlib.Core.Logic.{⊎-elim}
-use Prim.Native.Nat.{ℕ, _≤_, _<_, _-_, _%_, _+_, _*_}
+use Rattle.views.specs.Walks.{Ready}
+use Rattle.shrink.specs.Shrink.{IsCase}
+use Rattle.shrink.specs.Parts.{Tried}
+use Rattle.shrink.proofs.Laws.{tried-start, tried-again, shrunk}
+use mathlib.Core.Path.{_≡_, refl, _∙_}
+use Prim.Native.Nat.{_≤_, _+_, _*_}
 use native.Mathlib.Omega.{arith}
 use borrow.Author.Needs.{needs}
-use lib.ListN.{length, getD}
 use Rattle.shrink.proofs.shrink.Statement.{statement}
 use Rattle.shrink.proofs.shrink.Tie as tie
-use Rattle.shrink.proofs.shrink.Reads as reads
-use Rattle.shrink.proofs.shrink.Lts as lts
-use Rattle.shrink.proofs.agrees.Reads as agrees-reads
-use Rattle.shrink.proofs.pass.Reads as pass-reads
 
 abbrev Inv-loop : tie.InvT-loop
-Inv-loop p facts₀ n before₀ m₀ facts before m = (m ≤ n) × (m ≤ before) × (length facts ≡ length facts₀) × (Ready p → IsCase p (take (n * 5) facts₀) → Tried p (take (n * 5) facts₀) n (take (m * 5) facts) m before m)
+Inv-loop p facts₀ n by₀ before₀ m₀ facts by before m = (m ≤ n) × (m ≤ before) × (length facts ≡ length facts₀) × (Ready p → IsCase p (take (n * 5) facts₀) → Tried p (take (n * 5) facts₀) n (take (m * 5) facts) m before m)
 
 abbrev μ-loop : tie.MeasureT-loop
-μ-loop p facts₀ n before₀ m₀ facts before m = before
+μ-loop p facts₀ n by₀ before₀ m₀ facts by before m = before
 
 returns : tie.Need-returns Inv-loop μ-loop
 returns c = λ ready few fit k. absurd (omega arith)
@@ -33,23 +27,15 @@ mul-if2 c = search needs
 returns-2 : tie.Need-returns-2 Inv-loop μ-loop
 returns-2 c = λ ready few fit k. absurd (omega arith)
 
-agrees-requires : tie.Need-agrees-requires Inv-loop μ-loop
-agrees-requires c κs = search needs
-
-same-length : tie.Need-same-length Inv-loop μ-loop
-same-length c = search needs
-
-returns-3 : tie.Need-returns-3 Inv-loop μ-loop
-returns-3 c = λ ready few fit k.
-    let a = c .before .before .before .before .before .before .args in
-    let t = c .before .agrees in
-    absurd (disagrees (t .result) (a .p .now) (take (a .n * 5) (a .facts .now)) (not-true (t .result) (c .if3 .taken)) (t .ensures ready) (k .0))
+places-requires : tie.Need-places-requires Inv-loop μ-loop
+places-requires c κs = search needs
 
 add-before : tie.Need-add-before Inv-loop μ-loop
 add-before c = search needs
 
 loop-holds : tie.Need-loop-holds Inv-loop μ-loop
-loop-holds c = let a = c .before .before .before .before .before .before .args in
+loop-holds c =
+    let a = c .before .before .before .before .before .args in
     (omega arith, omega arith, refl, λ ready k. tried-start (a .p .now) (take (a .n * 5) (a .facts .now)) (a .n) (a .n + 1) (omega arith) k)
 
 pass-requires : tie.Need-pass-requires Inv-loop μ-loop
@@ -59,8 +45,9 @@ loop-less : tie.Need-loop-less Inv-loop μ-loop
 loop-less c = search needs
 
 loop-again : tie.Need-loop-again Inv-loop μ-loop
-loop-again c = let r = c .before .before .pass in
-    let l = c .before .before .before .before .before .loop in
+loop-again c =
+    let r = c .before .before .pass in
+    let l = c .before .before .before .before .before .before .loop in
     let a = c .before .before .before .before .before .before .before .before .before .before .before .before .args in
     let e = r .ensures .0 in (
       omega arith,
@@ -71,12 +58,13 @@ loop-again c = let r = c .before .before .pass in
           tried-again (a .p .now) (take (a .n * 5) (a .facts .now)) (a .n) (take (l .m * 5) (l .facts)) (l .m) (l .before) (l .m) (take (r .result * 5) (r .last .1 .0)) (r .result) t (r .ensures .1 ready (t .still)),
     )
 
-same-length-2 : tie.Need-same-length-2 Inv-loop μ-loop
-same-length-2 c = search needs
+same-length : tie.Need-same-length Inv-loop μ-loop
+same-length c = search needs
 
-returns-4 : tie.Need-returns-4 Inv-loop μ-loop
-returns-4 c = let l = c .before .loop in
-    let a = c .before .before .before .before .before .before .before .before .args in
+returns-3 : tie.Need-returns-3 Inv-loop μ-loop
+returns-3 c =
+    let l = c .before .loop in
+    let a = c .before .before .before .before .before .before .before .args in
     λ ready few fit k.
     shrunk (a .p .now) (take (a .n * 5) (a .facts .now)) (a .n) (take (l .m * 5) (l .facts)) (l .m) (l .before) (length-take-le (l .m * 5) (l .facts) (omega arith)) (omega arith) (l .inv .3 ready k)
 
@@ -89,13 +77,11 @@ shrink-spec =
     returns
     mul-if2
     returns-2
-    agrees-requires
-    same-length
-    returns-3
+    places-requires
     add-before
     loop-holds
     pass-requires
     loop-less
     loop-again
-    same-length-2
-    returns-4)
+    same-length
+    returns-3)
