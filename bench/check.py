@@ -19,7 +19,7 @@ from cover_cases import (COLUMNS, MADE_UP, Dice, answers_in_steps, blocks_of, co
 from sheet_cases import MOST_WORDS, read, sheet_of  # noqa: E402
 
 BENCH = pathlib.Path(__file__).resolve().parent / "target/release/bench"
-STRATEGIES = 10
+STRATEGIES = 11
 
 
 def wider_sheet(dice):

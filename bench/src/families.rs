@@ -64,6 +64,14 @@ fn choices_first(n: i32) -> Sheet {
     page(FOUR_JOINED, NEVER, views)
 }
 
+/// n seats with three free choices of two each; then the same: more choices than the library tells apart. Covered.
+fn choices_wide(n: i32) -> Sheet {
+    let mut views = vec![view("(a): Seat(a,b,c,d)", single(1..=n))];
+    views.extend(["b", "c", "d"].map(|column| view(&format!("({column}): Seat(a,b,c,d)"), single([1, 2]))));
+    views.push(view("(x,y): Beat(x,y)", unequal(3)));
+    page(FOUR_JOINED, NEVER, views)
+}
+
 /// A contradiction that takes two choices of two, before n free choices of three. Covered.
 fn choices_after(n: i32) -> Sheet {
     let mut views = free(n, 3);
@@ -534,6 +542,9 @@ pub fn hard() -> Vec<Sample> {
     for n in [8, 14, 20, 32] {
         add("choices, then a contradiction", format!("{n}"), choices_first(n));
     }
+    for n in [20, 28] {
+        add("choices, then a contradiction", format!("{n}, three each"), choices_wide(n));
+    }
     for n in [8, 20, 33] {
         add("a contradiction, then choices", format!("{n}"), choices_after(n));
     }
@@ -615,7 +626,7 @@ pub fn hard() -> Vec<Sample> {
     }
     add("largest case", "126 facts".into(), largest());
     add("largest case", "126 facts, made up".into(), largest_made_up());
-    add("largest case", "forced".into(), largest_forced());
+    add("forced step by step", "452 made up".into(), largest_forced());
     for (crews, rowers, more, dropped) in [(2, 4, 0, 0), (2, 4, 2, 0), (4, 3, 0, 0), (8, 2, 0, 0), (1, 6, 3, 0)] {
         for question in 0..3 {
             add("pairs in one boat", format!("{crews}x{rowers}+{more}-{dropped}, {question}"), pairs(crews, rowers, more, dropped, question));

@@ -97,7 +97,7 @@ fn shown(time: Duration) -> String {
 }
 
 /// The strategy that the library has too.
-const SAME: &str = "+jump";
+const SAME: &str = "library";
 
 fn strategy_of(name: &str) -> Strategy {
     STRATEGIES.iter().find(|s| s.0 == name).expect("a strategy").1

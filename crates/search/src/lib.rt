@@ -89,15 +89,15 @@ fn row_of(p: &[usize; 1184], i: usize) -> [usize; 4]
     [p[at + 1], p[at + 2], p[at + 3], p[at + 4]]
 }
 
-// What a state is found to be: done and good, done and refuted, or open, with a stray row of a view, how many listed rows fit it, and which
-// to try first.
+// What a state is found to be: done and good, done and refuted, or open, with a stray row of a view, whether several listed rows fit it, and which
+// to try first. It stands on the stack once for each level of the search.
 struct Finding {
+    values: [usize; 4],
     done: bool,
     good: bool,
-    view: usize,
-    values: [usize; 4],
-    fit: usize,
-    first: usize,
+    several: bool,
+    first: u8,
+    view: u8,
 }
 
 // A state that is done.
@@ -107,10 +107,10 @@ fn ended(good: bool) -> Finding
     Finding {
         done: true,
         good,
+        several: false,
+        first: 0,
         view: 0,
         values: [0; 4],
-        fit: 0,
-        first: 0,
     }
 }
 
@@ -201,6 +201,7 @@ fn known_row(
     at: &[usize; 6],
 ) -> usize
     requires { ⌜ view < 8 ⌝ }
+    ensures { λ r. ⌜ r < 40 ⌝ }
 {
     let n = p[SIZES + (2 + view)];
     let all = row_count(p);
@@ -241,14 +242,15 @@ fn by_strays(
     }
     let at = s.at;
     let first = known_row(p, facts, view, &values, &at);
+    let several = 1 < s.fit;
     reasons::mark_facts(p, st, lv, from, at, p[SIZES + (2 + view)], marks);
     Finding {
         done: false,
         good: false,
-        view,
+        several,
+        first: first as u8,
+        view: view as u8,
         values,
-        fit: s.fit,
-        first,
     }
 }
 
@@ -387,11 +389,11 @@ fn jumps(marks: &mut [bool; 64], below: &[bool; 64], b: usize, next: usize) -> b
 
 // The number of the choice that takes a row for a stray row: its own where several rows fit and there is one left, or where there is none one that it
 // shares with choices far above it; else the last one that the stray row rests on.
-fn choice(fit: usize, next: usize, left: usize, marks: &[bool]) -> usize
+fn choice(several: bool, next: usize, left: usize, marks: &[bool]) -> usize
     requires { ⌜ (0 < next) × (next ≤ 64) ⌝ }
     ensures { λ r. ⌜ r < 64 ⌝ }
 {
-    if 1 < fit {
+    if several {
         if next < CHOICES {
             return next;
         }
@@ -483,20 +485,21 @@ fn seek(
     if f.done {
         return f.good;
     }
-    let b = choice(f.fit, next, left, marks);
+    let b = choice(f.several, next, left, marks);
+    let view = f.view as usize;
     let deeper = following(b, next);
     let rows = row_count(p);
-    let first = below_or_0(f.first, rows);
+    let first = below_or_0(f.first as usize, rows);
     let mut below = [false; CHOICES];
     let mut last = MOST_ROWS;
     let mut i = 0;
     while i < rows {
         let k = turn(first, rows, i);
         i += 1;
-        if is_refuted(p, st, lv, f.view, &f.values, last, k, &below, sl, sm, marks) {
+        if is_refuted(p, st, lv, view, &f.values, last, k, &below, sl, sm, marks) {
             continue;
         }
-        if !take(p, st, lv, f.view, &f.values, k, b) {
+        if !take(p, st, lv, view, &f.values, k, b) {
             continue;
         }
         if seek(

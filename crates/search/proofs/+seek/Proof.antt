@@ -45,13 +45,13 @@ abbrev claims : ℕ → seek-lts.Claims
 claims t = (judge-state-reads.Asked, judge-state-reads.Learnt, choice-reads.Asked, choice-reads.Learnt, following-reads.Asked, following-reads.Learnt, row-count-reads.Asked, row-count-reads.Learnt, below-or-0-reads.Asked, below-or-0-reads.Learnt, turn-reads.Asked, turn-reads.Learnt, is-refuted-reads.Asked, is-refuted-reads.Learnt, take-reads.Asked, take-reads.Learnt, seek-below t, seek.Post, release-reads.Asked, release-reads.Learnt, forget-reads.Asked, forget-reads.Learnt, jumps-reads.Asked, jumps-reads.Learnt, unmark-reads.Asked, unmark-reads.Learnt, learn-reads.Asked, learn-reads.Learnt)
 
 abbrev seek-Inv-loop : seek-lts.InvT-loop
-seek-Inv-loop p st₀ lv₀ asked next left marks₀ sl₀ sm₀ u f b deeper rows first below₀ last₀ i₀ st lv marks sl sm below last i =
+seek-Inv-loop p st₀ lv₀ asked next left marks₀ sl₀ sm₀ u f b view deeper rows first below₀ last₀ i₀ st lv marks sl sm below last i =
     (length st ≡ 533) × (length lv ≡ 533) × (i ≤ rows) × (length (f .values) ≡ 4) × (length sl ≡ 129) × (length sm ≡ 4096)
     × ((x : Sheet) → Ready p x → Begins x (sheetBy asked x) st₀ left → Levelled st₀ lv₀ next → Strikes (sheetBy asked x) st₀ lv₀ sl₀ sm₀
     → Going p x (sheetBy asked x) st₀ lv₀ st lv marks (f .view) (f .values) (turned first rows) i below last sl sm)
 
 abbrev seek-μ-loop : seek-lts.MeasureT-loop
-seek-μ-loop p st₀ lv₀ asked next left marks₀ sl₀ sm₀ u f b deeper rows first below₀ last₀ i₀ st lv marks sl sm below last i = rows - i
+seek-μ-loop p st₀ lv₀ asked next left marks₀ sl₀ sm₀ u f b view deeper rows first below₀ last₀ i₀ st lv marks sl sm below last i = rows - i
 
 seek-returns : (t : ℕ) → seek-lts.Need-returns (claims t) (seek-at t) seek.Post seek-Inv-loop seek-μ-loop
 seek-returns t c = (λ x r b g h. let k = b .room in let z = c .if1 .taken in absurd (omega arith), (refl, refl, refl, refl))
@@ -72,11 +72,17 @@ seek-returns-2 t c = let s = c .before .before .before .before .before .before i
 seek-choice-requires : (t : ℕ) → seek-lts.Need-choice-requires (claims t) (seek-at t) seek.Post seek-Inv-loop seek-μ-loop
 seek-choice-requires t c κs = search needs
 
+seek-cast-view : (t : ℕ) → seek-lts.Need-cast-view (claims t) (seek-at t) seek.Post seek-Inv-loop seek-μ-loop
+seek-cast-view t c = search needs
+
 seek-following-requires : (t : ℕ) → seek-lts.Need-following-requires (claims t) (seek-at t) seek.Post seek-Inv-loop seek-μ-loop
 seek-following-requires t c κs = search needs
 
 seek-row-count-requires : (t : ℕ) → seek-lts.Need-row-count-requires (claims t) (seek-at t) seek.Post seek-Inv-loop seek-μ-loop
 seek-row-count-requires t c κs = search needs
+
+seek-cast-below-or-0 : (t : ℕ) → seek-lts.Need-cast-below-or-0 (claims t) (seek-at t) seek.Post seek-Inv-loop seek-μ-loop
+seek-cast-below-or-0 t c = search needs
 
 seek-below-or-0-requires : (t : ℕ) → seek-lts.Need-below-or-0-requires (claims t) (seek-at t) seek.Post seek-Inv-loop seek-μ-loop
 seek-below-or-0-requires t c κs = search needs
@@ -348,8 +354,10 @@ pub +seek-spec : {M : Type 1} → statement M
     (seek-judge-state-requires t)
     (seek-returns-2 t)
     (seek-choice-requires t)
+    (seek-cast-view t)
     (seek-following-requires t)
     (seek-row-count-requires t)
+    (seek-cast-below-or-0 t)
     (seek-below-or-0-requires t)
     (seek-loop-holds t)
     (seek-turn-requires t)

@@ -70,15 +70,21 @@ mark-facts-requires : tie.Need-mark-facts-requires
 mark-facts-requires c κs = search needs
 
 -- src/lib.rt:215:1
+cast-t27 : tie.Need-cast-t27
+cast-t27 c = search needs
+
+cast-t28 : tie.Need-cast-t28
+cast-t28 c = search needs
+
 same-length : tie.Need-same-length
 same-length c = search needs
 
 -- src/lib.rt:215:1
 returns-3 : tie.Need-returns-3
 returns-3 c = λ ready room.
-    let s = c .before .before .before .before .before .before .before .before .before .before .before .before .before .before .before .before .before .before in
-    let t = c .before .before .before .before .before .before .before .before .before .before .before .before .before .find in
-    let some = not-false (t .result .some) (c .before .before .before .before .before .before .before .before .before .before .before .if1 .left) in
+    let s = c .before .before .before .before .before .before .before .before .before .before .before .before .before .before .before .before .before .before .before in
+    let t = c .before .before .before .before .before .before .before .before .before .before .before .before .before .before .find in
+    let some = not-false (t .result .some) (c .before .before .before .before .before .before .before .before .before .before .before .before .if1 .left) in
     let v = stray-is (s .args .p .now) (s .args .facts .now) (t .result .some) (t .result .view) (t .result .values) some (t .ensures .0 ready) in
     let w = t .ensures .1 ready some in
     let m = c .before .before .mark-facts .ensures (s .pre .0) (s .pre .1) (λ j lt. let z = w .inside j lt in omega arith) in
@@ -99,5 +105,7 @@ by-strays-spec =
     mul-mark-facts
     element-copy-out-mark-facts
     mark-facts-requires
+    cast-t27
+    cast-t28
     same-length
     returns-3)
