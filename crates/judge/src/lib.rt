@@ -89,7 +89,7 @@ fn hand_over(p: &[usize; 1184], st: &[usize], out: &mut [i32]) -> Judgement
 {
     let mut room = [0usize; NUMBERS];
     let count = spare_free(p, st, &mut room);
-    let row = views::missing(p, &room[..count * FACT]);
+    let row = missing::missing(p, &room[..count * FACT]);
     put_facts(out, &room[..count * FACT]);
     let missing = row.values;
     Judgement {

@@ -69,7 +69,7 @@ fn lowered(at: [usize; 6], i: usize) -> [usize; 6] {
 fn places_of(p: &[usize; 1184], facts: &[usize], n: usize, r: usize) -> [usize; 6]
     requires { ⌜ (n ≤ 126) × (n * 5 ≤ length (now facts)) ⌝ }
 {
-    views::row_witness(p, &facts[..n * WIDTH], r)
+    given::row_witness(p, &facts[..n * WIDTH], r)
 }
 
 // Places of facts by which the listed rows are given.
@@ -115,7 +115,7 @@ fn loses(p: &[usize; 1184], facts: &[usize], by: &[usize; 240], i: usize) -> boo
     while r < rows {
         let at = kept(by, r);
         if uses(at, i) {
-            if !views::row_given_by(p, facts, r, nowhere) {
+            if !given::row_given_by(p, facts, r, nowhere) {
                 return true;
             }
         }
@@ -133,7 +133,7 @@ fn keeps(p: &[usize; 1184], facts: &[usize], by: &[usize; 240], i: usize) -> boo
     while r < rows {
         let old = kept(by, r);
         let at = lowered(old, i);
-        if !views::row_given_by(p, facts, r, at) {
+        if !given::row_given_by(p, facts, r, at) {
             return false;
         }
         r += 1;
@@ -155,10 +155,10 @@ fn all_given(p: &[usize; 1184], facts: &[usize], by: &[usize; 240], i: usize) ->
 fn lacks(p: &[usize; 1184], facts: &[usize], row: [usize; 4]) -> bool
     ensures { λ r. ⌜ (walks.Ready (now (p .entry)) → r ≡ true → Missing (now (p .entry)) (now (facts .entry)) row) ⌝ }
 {
-    if !views::question_gives(p, facts, row) {
+    if !given::question_gives(p, facts, row) {
         return false;
     }
-    !views::list_gives(p, facts, row)
+    !given::list_gives(p, facts, row)
 }
 
 // Whether facts without fact i that give no stray row are a case, and then an answer that the list lacks. The places kept and the row seen are
@@ -184,7 +184,7 @@ fn is_left(
             values: seen,
         };
     }
-    views::missing(p, facts)
+    missing::missing(p, facts)
 }
 
 // Copies the first `count` numbers.

@@ -14,7 +14,7 @@ use Rattle.judge.proofs.hand_over.Reads as reads
 use Rattle.judge.proofs.hand_over.Lts as lts
 use Rattle.judge.proofs.put_facts.Reads as put-facts-reads
 use Rattle.judge.proofs.spare_free.Reads as spare-free-reads
-use Rattle.views.proofs.missing.Reads as missing-reads
+use Rattle.missing.proofs.missing.Reads as missing-reads
 
 slice-aggregate-spare-free : tie.Need-slice-aggregate-spare-free
 slice-aggregate-spare-free c = search needs

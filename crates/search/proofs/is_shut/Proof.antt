@@ -16,7 +16,7 @@ use Rattle.search.proofs.is_shut.Lts as lts
 use Rattle.reasons.proofs.mark_head.Reads as mark-head-reads
 use Rattle.search.proofs.head_of.Reads as head-of-reads
 use Rattle.search.proofs.mark_given.Reads as mark-given-reads
-use Rattle.views.proofs.list_gives.Reads as list-gives-reads
+use Rattle.given.proofs.list_gives.Reads as list-gives-reads
 
 -- src/lib.rt:168:9
 head-of-requires : tie.Need-head-of-requires
