@@ -1,6 +1,5 @@
 use Prim.Native.Nat.{ℕ, _≤_, _-_}
 use native.Mathlib.Omega.{arith}
-use borrow.Author.Needs.{needs}
 use Rattle.mirrors.proofs.Laws.{ended}
 use Rattle.mirrors.proofs.Laws.{never, back-more}
 use Rattle.mirrors.specs.Steps.{ComeBack}
@@ -17,28 +16,28 @@ loop-holds : tie.Need-loop-holds Inv-loop μ-loop
 loop-holds c = (omega arith, record { each = λ d lt. absurd (omega arith) })
 
 mul-j : tie.Need-mul-j Inv-loop μ-loop
-mul-j c = search needs
+mul-j c = omega arith
 
 element-copy-out-j : tie.Need-element-copy-out-j Inv-loop μ-loop
-element-copy-out-j c = search needs
+element-copy-out-j c = omega arith
 
 returns : tie.Need-returns Inv-loop μ-loop
 returns c = never
 
 mul-if2 : tie.Need-mul-if2 Inv-loop μ-loop
-mul-if2 c = search needs
+mul-if2 c = omega arith
 
 element-copy-out-if2 : tie.Need-element-copy-out-if2 Inv-loop μ-loop
-element-copy-out-if2 c = search needs
+element-copy-out-if2 c = omega arith
 
 returns-2 : tie.Need-returns-2 Inv-loop μ-loop
 returns-2 c = never
 
 add-i : tie.Need-add-i Inv-loop μ-loop
-add-i c = search needs
+add-i c = omega arith
 
 loop-less : tie.Need-loop-less Inv-loop μ-loop
-loop-less c = search needs
+loop-less c = omega arith
 
 loop-again : tie.Need-loop-again Inv-loop μ-loop
 loop-again c =

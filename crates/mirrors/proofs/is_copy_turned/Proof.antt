@@ -2,7 +2,6 @@ use mathlib.Core.Path.{sym, _∙_}
 use Prim.Native.Nat.{ℕ, _≤_, _-_}
 use native.Mathlib.Omega.{arith}
 use borrow.Author.Tests.{not-true, not-false}
-use borrow.Author.Needs.{needs}
 use Rattle.mirrors.proofs.Laws.{never, ended, copy-more}
 use Rattle.mirrors.specs.Steps.{CopyTurned}
 use Rattle.mirrors.proofs.is_copy_turned.Statement.{statement}
@@ -18,28 +17,28 @@ loop-holds : tie.Need-loop-holds Inv-loop μ-loop
 loop-holds c = (omega arith, record { each = λ d lt. absurd (omega arith) })
 
 mul-n : tie.Need-mul-n Inv-loop μ-loop
-mul-n c = search needs
+mul-n c = omega arith
 
 add-n : tie.Need-add-n Inv-loop μ-loop
-add-n c = search needs
+add-n c = omega arith
 
 mul-l : tie.Need-mul-l Inv-loop μ-loop
-mul-l c = search needs
+mul-l c = omega arith
 
 add-l : tie.Need-add-l Inv-loop μ-loop
-add-l c = search needs
+add-l c = omega arith
 
 add-x : tie.Need-add-x Inv-loop μ-loop
-add-x c = search needs
+add-x c = omega arith
 
 mul-v : tie.Need-mul-v Inv-loop μ-loop
-mul-v c = search needs
+mul-v c = omega arith
 
 shared-slice-read-v : tie.Need-shared-slice-read-v Inv-loop μ-loop
-shared-slice-read-v c = search needs
+shared-slice-read-v c = omega arith
 
 loop-less : tie.Need-loop-less Inv-loop μ-loop
-loop-less c = search needs
+loop-less c = omega arith
 
 loop-again : tie.Need-loop-again Inv-loop μ-loop
 loop-again c =
@@ -50,10 +49,10 @@ loop-again c =
     (omega arith, copy-more (a .ws .now) (a .lv .now) (a .marks .now) (a .a .now) (a .b .now) (a .k) (a .m) (l .x) (l .inv .1) (λ h lt. absurd (omega arith)))
 
 is-kept-requires : tie.Need-is-kept-requires Inv-loop μ-loop
-is-kept-requires c κs = search needs
+is-kept-requires c κs = omega arith
 
 loop-less-2 : tie.Need-loop-less-2 Inv-loop μ-loop
-loop-less-2 c = search needs
+loop-less-2 c = omega arith
 
 loop-again-2 : tie.Need-loop-again-2 Inv-loop μ-loop
 loop-again-2 c =
@@ -63,25 +62,25 @@ loop-again-2 c =
     (omega arith, copy-more (a .ws .now) (a .lv .now) (a .marks .now) (a .a .now) (a .b .now) (a .k) (a .m) (l .x) (l .inv .1) (λ h lt. never (sym (not-true _ (c .if2 .taken)) ∙ c .before .is-kept .ensures ∙ h)))
 
 is-kept-requires-2 : tie.Need-is-kept-requires-2 Inv-loop μ-loop
-is-kept-requires-2 c κs = search needs
+is-kept-requires-2 c κs = omega arith
 
 returns : tie.Need-returns Inv-loop μ-loop
 returns c = never
 
 mul-if4 : tie.Need-mul-if4 Inv-loop μ-loop
-mul-if4 c = search needs
+mul-if4 c = omega arith
 
 shared-slice-read-if4 : tie.Need-shared-slice-read-if4 Inv-loop μ-loop
-shared-slice-read-if4 c = search needs
+shared-slice-read-if4 c = omega arith
 
 turn-requires : tie.Need-turn-requires Inv-loop μ-loop
-turn-requires c κs = search needs
+turn-requires c κs = omega arith
 
 returns-2 : tie.Need-returns-2 Inv-loop μ-loop
 returns-2 c = never
 
 loop-less-3 : tie.Need-loop-less-3 Inv-loop μ-loop
-loop-less-3 c = search needs
+loop-less-3 c = omega arith
 
 loop-again-3 : tie.Need-loop-again-3 Inv-loop μ-loop
 loop-again-3 c =

@@ -1,6 +1,6 @@
 use mathlib.Core.Path.{ap}
+use native.Mathlib.Omega.{arith}
 use borrow.Author.Tests.{not-false}
-use borrow.Author.Needs.{needs}
 use lib.ListN.{length}
 use Rattle.mirrors.proofs.Laws.{never, all-found}
 use Rattle.mirrors.proofs.is_mirrored.Statement.{statement}
@@ -13,10 +13,10 @@ returns-2 : tie.Need-returns-2
 returns-2 c = never
 
 element-copy-out-rows : tie.Need-element-copy-out-rows
-element-copy-out-rows c = search needs
+element-copy-out-rows c = omega arith
 
 element-copy-out-views : tie.Need-element-copy-out-views
-element-copy-out-views c = search needs
+element-copy-out-views c = omega arith
 
 returns-3 : tie.Need-returns-3
 returns-3 c = never
@@ -34,43 +34,43 @@ returns-7 : tie.Need-returns-7
 returns-7 c = never
 
 row-values-requires : tie.Need-row-values-requires
-row-values-requires c κs = search needs
+row-values-requires c κs = omega arith
 
 row-values-requires-2 : tie.Need-row-values-requires-2
-row-values-requires-2 c κs = search needs
+row-values-requires-2 c κs = omega arith
 
 agrees-requires : tie.Need-agrees-requires
-agrees-requires c κs = search needs
+agrees-requires c κs = omega arith
 
 returns-8 : tie.Need-returns-8
 returns-8 c = never
 
 is-swapped-requires : tie.Need-is-swapped-requires
-is-swapped-requires c κs = search needs
+is-swapped-requires c κs = omega arith
 
 returns-9 : tie.Need-returns-9
 returns-9 c = never
 
 add-stays : tie.Need-add-stays
-add-stays c = search needs
+add-stays c = omega arith
 
 mul-stays : tie.Need-mul-stays
-mul-stays c = search needs
+mul-stays c = omega arith
 
 stays-requires : tie.Need-stays-requires
-stays-requires c κs = search needs
+stays-requires c κs = omega arith
 
 returns-10 : tie.Need-returns-10
 returns-10 c = never
 
 write-rows-requires : tie.Need-write-rows-requires
-write-rows-requires c κs = search needs
+write-rows-requires c κs = omega arith
 
 returns-11 : tie.Need-returns-11
 returns-11 c = never
 
 come-back-requires : tie.Need-come-back-requires
-come-back-requires c κs = search needs
+come-back-requires c κs = omega arith
 
 returns-12 : tie.Need-returns-12
 returns-12 c = never

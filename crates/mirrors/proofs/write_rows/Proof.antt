@@ -2,7 +2,6 @@ use mathlib.Core.Logic.{⊎-elim}
 use mathlib.Core.Path.{sym, subst}
 use Prim.Native.Nat.{ℕ, _≤_, _-_}
 use native.Mathlib.Omega.{arith}
-use borrow.Author.Needs.{needs}
 use Rattle.mirrors.proofs.Laws.{never, ended, written-more}
 use Rattle.mirrors.specs.Steps.{Goes, Written}
 use Rattle.mirrors.proofs.write_rows.Statement.{statement}
@@ -18,22 +17,22 @@ loop-holds : tie.Need-loop-holds Inv-loop μ-loop
 loop-holds c = (omega arith, record { long = c .pre .1; each = λ d lt. absurd (omega arith) })
 
 goes-requires : tie.Need-goes-requires Inv-loop μ-loop
-goes-requires c κs = search needs
+goes-requires c κs = omega arith
 
 returns : tie.Need-returns Inv-loop μ-loop
 returns c = never
 
 mul-to : tie.Need-mul-to Inv-loop μ-loop
-mul-to c = search needs
+mul-to c = omega arith
 
 element-write-to : tie.Need-element-write-to Inv-loop μ-loop
-element-write-to c = search needs
+element-write-to c = omega arith
 
 add-i : tie.Need-add-i Inv-loop μ-loop
-add-i c = search needs
+add-i c = omega arith
 
 loop-less : tie.Need-loop-less Inv-loop μ-loop
-loop-less c = search needs
+loop-less c = omega arith
 
 loop-again : tie.Need-loop-again Inv-loop μ-loop
 loop-again c =
