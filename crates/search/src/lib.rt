@@ -192,17 +192,21 @@ fn are_known(facts: &[usize], n: usize, at: &[usize; 6], u: &[usize; 4], row: &[
     true
 }
 
-// A listed row of the view that brings no fact that is not there already, if there is one: it is tried first.
+// A listed row of the view that brings no fact that is not there already, if there is one: it is tried first where several rows fit.
 fn known_row(
     p: &[usize; 1184],
     facts: &[usize],
     view: usize,
     u: &[usize; 4],
     at: &[usize; 6],
+    fit: usize,
 ) -> usize
     requires { ⌜ view < 8 ⌝ }
     ensures { λ r. ⌜ r < 40 ⌝ }
 {
+    if fit <= 1 {
+        return 0;
+    }
     let n = p[SIZES + (2 + view)];
     let all = row_count(p);
     let mut i = 0;
@@ -241,7 +245,7 @@ fn by_strays(
         return ended(false);
     }
     let at = s.at;
-    let first = known_row(p, facts, view, &values, &at);
+    let first = known_row(p, facts, view, &values, &at, s.fit);
     let several = 1 < s.fit;
     reasons::mark_facts(p, st, lv, from, at, p[SIZES + (2 + view)], marks);
     Finding {

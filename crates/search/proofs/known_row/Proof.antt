@@ -14,10 +14,13 @@ use Rattle.search.proofs.row_of.Reads as row-of-reads
 use Rattle.search.proofs.view_of.Reads as view-of-reads
 
 abbrev Inv-loop : tie.InvT-loop
-Inv-loop p facts view u at n all i₀ i = (i ≤ all) × (all ≤ 40)
+Inv-loop p facts view u at fit n all i₀ i = (i ≤ all) × (all ≤ 40)
 
 abbrev μ-loop : tie.MeasureT-loop
-μ-loop p facts view u at n all i₀ i = all - i
+μ-loop p facts view u at fit n all i₀ i = all - i
+
+returns : tie.Need-returns Inv-loop μ-loop
+returns c = search needs
 
 add-n : tie.Need-add-n Inv-loop μ-loop
 add-n c = search needs
@@ -46,8 +49,8 @@ row-of-requires c κs = search needs
 are-known-requires : tie.Need-are-known-requires Inv-loop μ-loop
 are-known-requires c κs = search needs
 
-returns : tie.Need-returns Inv-loop μ-loop
-returns c = search needs
+returns-2 : tie.Need-returns-2 Inv-loop μ-loop
+returns-2 c = search needs
 
 add-i : tie.Need-add-i Inv-loop μ-loop
 add-i c = search needs
@@ -58,8 +61,8 @@ loop-less c = search needs
 loop-again : tie.Need-loop-again Inv-loop μ-loop
 loop-again c = search needs
 
-returns-2 : tie.Need-returns-2 Inv-loop μ-loop
-returns-2 c = search needs
+returns-3 : tie.Need-returns-3 Inv-loop μ-loop
+returns-3 c = search needs
 
 pub known-row-spec : {M : Type 1} → statement M
 known-row-spec =
@@ -67,6 +70,7 @@ known-row-spec =
     (tie.spec
     Inv-loop
     μ-loop
+    returns
     add-n
     add-n-2
     mul-n
@@ -76,8 +80,8 @@ known-row-spec =
     view-of-requires
     row-of-requires
     are-known-requires
-    returns
+    returns-2
     add-i
     loop-less
     loop-again
-    returns-2)
+    returns-3)
