@@ -276,9 +276,10 @@ fn put_counts(p: &mut [usize], atoms: usize, listed: usize, blocks: usize)
     p[COUNTS + 3] = view_of(view_of(blocks));
 }
 
-// The plan of an accepted number form.
+// The plan of an accepted number form, in 1,184 words; more or fewer words are left as they are.
 pub fn plan(ws: &[i32], p: &mut [usize])
     ensures { λ r. ⌜ (length (now (p .entry)) ≡ 1184 → refusalOf (wordLines (now (ws .entry))) .number ≡ 0 → Plan (now (p .exit)) (sheetOf (wordLines (now (ws .entry))))) ⌝ }
+    ensures { λ r. ⌜ ((length (now (p .entry)) ≡ 1184 → ⊥) → now (p .exit) ≡ now (p .entry)) ⌝ }
 {
     if p.len() != PLAN_NUMBERS {
         return;

@@ -565,6 +565,7 @@ fn settle(p: &[usize; 1184], st: &mut [usize]) -> bool
 // Copies words to as many others.
 fn copy(words: &[usize], out: &mut [usize])
     ensures { λ r. ⌜ (length (now (out .entry)) ≡ length (now (words .entry)) → now (out .exit) ≡ now (words .entry)) ⌝ }
+    ensures { λ r. ⌜ ((length (now (out .entry)) ≡ length (now (words .entry)) → ⊥) → now (out .exit) ≡ now (out .entry)) ⌝ }
 {
     if out.len() != words.len() {
         return;
@@ -577,9 +578,11 @@ fn copy(words: &[usize], out: &mut [usize])
 }
 
 // Searches for a good state: of the whole sheet where the question is asked, else of its views alone. True: there is one, and it stands in the 533
-// words that are lent.
+// words that are lent. More or fewer words are left as they are, and so are all where there is none.
 pub fn find(p: &[usize; 1184], asked: bool, out: &mut [usize]) -> bool
     ensures { λ r. ⌜ ((x : Sheet) → Ready (now (p .entry)) x → length (now (out .entry)) ≡ 533 → FoundBy r x (sheetBy asked x) (now (out .exit))) ⌝ }
+    ensures { λ r. ⌜ (r ≡ false → now (out .exit) ≡ now (out .entry)) ⌝ }
+    ensures { λ r. ⌜ ((length (now (out .entry)) ≡ 533 → ⊥) → now (out .exit) ≡ now (out .entry)) ⌝ }
 {
     let mut words = [0; 533];
     state::free(&mut words);

@@ -28,9 +28,10 @@ const MOST_NUMBERS: usize = MOST_FACTS * WIDTH;
 // Where among the numbers of a plan the number of its tableau's atoms stands.
 const SIZE: usize = 1180;
 
-// Writes the words of the first state: each slot its own made-up value. There are no more of them than slots.
+// Writes the words of the first state: each slot its own made-up value. More words than there are slots are left as they are.
 pub fn free(ws: &mut [usize])
     ensures { λ r. ⌜ (length (now (ws .entry)) ≤ 533 → stateOf top (now (ws .exit)) ≡ search.free top) ⌝ }
+    ensures { λ r. ⌜ (533 < length (now (ws .entry)) → now (ws .exit) ≡ now (ws .entry)) ⌝ }
 {
     if SLOTS < ws.len() {
         return;

@@ -1,4 +1,5 @@
 -- `plan::plan` meets its contract: blocks, rows, tableau and counts together. Assumes nothing.
+use mathlib.Core.Path.{refl}
 use native.Mathlib.Omega.{arith}
 use lib.ListN.{length}
 use Prim.Native.Nat.{_/_}
@@ -17,7 +18,7 @@ use Rattle.plan.proofs.put_tableau.Reads as put-tableau-reads
 
 -- src/lib.rt:284:9
 returns : tie.Need-returns
-returns c = λ long. absurd (c .if1 .taken long)
+returns c = (λ long. absurd (c .if1 .taken long), λ _. refl)
 
 -- src/lib.rt:286:9
 put-blocks-requires : tie.Need-put-blocks-requires
@@ -41,16 +42,18 @@ same-length c = search needs
 
 -- src/lib.rt:280:1
 returns-2 : tie.Need-returns-2
-returns-2 c =
-    λ long ok.
-    let w = c .before .before .before .before .before .before .before .before .before .before .before .before .before .before .before .before .before .before .args .ws .now in
-    let b = c .before .before .before .before .before .before .before .before .before .before .before .before .before .before .put-blocks in
-    let r = c .before .before .before .before .before .before .before .before .before .before .put-rows in
-    let t = c .before .before .before .before .before .before .put-tableau in
-    let n = c .before .before .put-counts in
-    let l = lines-length w in
-    let (v, d) = r .ensures .2 ok in
-    plan-of (wordLines w) ok (b .last .1 .0) (r .last .1 .0) (t .last .0) (n .last .0) (b .result) (length w / 7) v (r .result) (t .result) (b .ensures .0) (b .ensures .1 ok) (r .ensures .1) (r .ensures .0) (omega arith) d (t .ensures .1) (t .ensures .0) (t .ensures .2) (n .ensures)
+returns-2 c = (
+  λ long ok.
+      let w = c .before .before .before .before .before .before .before .before .before .before .before .before .before .before .before .before .before .before .args .ws .now in
+      let b = c .before .before .before .before .before .before .before .before .before .before .before .before .before .before .put-blocks in
+      let r = c .before .before .before .before .before .before .before .before .before .before .put-rows in
+      let t = c .before .before .before .before .before .before .put-tableau in
+      let n = c .before .before .put-counts in
+      let l = lines-length w in
+      let (v, d) = r .ensures .2 ok in
+      plan-of (wordLines w) ok (b .last .1 .0) (r .last .1 .0) (t .last .0) (n .last .0) (b .result) (length w / 7) v (r .result) (t .result) (b .ensures .0) (b .ensures .1 ok) (r .ensures .1) (r .ensures .0) (omega arith) d (t .ensures .1) (t .ensures .0) (t .ensures .2) (n .ensures),
+  λ other. absurd (other (c .before .before .before .before .before .before .before .before .before .before .before .before .before .before .before .before .if1 .left)),
+)
 
 pub plan-spec : {M : Type 1} → statement M
 plan-spec =

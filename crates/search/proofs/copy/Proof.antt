@@ -1,5 +1,5 @@
 -- `search::copy` meets its contract. The loop's invariant: the words below i are copied.
-use mathlib.Core.Path.{_≡_, sym, _∙_}
+use mathlib.Core.Path.{_≡_, refl, sym, _∙_}
 use Prim.Native.Nat.{ℕ, _≤_, _<_, _-_}
 use native.Mathlib.Omega.{arith}
 use borrow.Author.Count.{below-more}
@@ -19,7 +19,7 @@ abbrev μ-loop : tie.MeasureT-loop
 
 -- src/lib.rt:551:9
 returns : tie.Need-returns Inv-loop μ-loop
-returns c = λ long. absurd (c .if1 .taken long)
+returns c = (λ long. absurd (c .if1 .taken long), λ _. refl)
 
 -- src/lib.rt:554:5
 loop-holds : tie.Need-loop-holds Inv-loop μ-loop
@@ -67,7 +67,7 @@ returns-2 : tie.Need-returns-2 Inv-loop μ-loop
 returns-2 c =
     let l = c .before .loop in
     let w = c .loop-test .left in
-    λ _. ext-getD 0 (l .out) (c .before .before .before .args .words .now) (l .inv .0) (λ y lt. l .inv .2 y (let e = l .inv .0 in omega arith))
+    (λ _. ext-getD 0 (l .out) (c .before .before .before .args .words .now) (l .inv .0) (λ y lt. l .inv .2 y (let e = l .inv .0 in omega arith)), λ other. absurd (other (c .before .before .if1 .left)))
 
 pub copy-spec : {M : Type 1} → statement M
 copy-spec =

@@ -1,5 +1,5 @@
 -- `state::free` meets its contract. The loop's invariant: the slots below n have their own values. Assumes nothing.
-use mathlib.Core.Path.{_≡_, _∙_}
+use mathlib.Core.Path.{_≡_, refl, _∙_}
 use Prim.Native.Nat.{ℕ, _≤_, _<_, _-_, _+_}
 use native.Mathlib.Omega.{arith}
 use borrow.Author.Count.{below-more}
@@ -21,7 +21,7 @@ abbrev μ-loop : tie.MeasureT-loop
 
 -- src/lib.rt:36:9
 returns : tie.Need-returns Inv-loop μ-loop
-returns c = λ few. let o = c .if1 .taken in absurd (omega arith)
+returns c = (λ few. let o = c .if1 .taken in absurd (omega arith), λ _. refl)
 
 -- src/lib.rt:39:5
 loop-holds : tie.Need-loop-holds Inv-loop μ-loop
@@ -65,7 +65,7 @@ returns-2 : tie.Need-returns-2 Inv-loop μ-loop
 returns-2 c =
     let l = c .before .loop in
     let w = c .loop-test .left in
-    λ few. words-free top (l .ws) (λ i h. l .inv .3 i (omega arith))
+    (λ few. words-free top (l .ws) (λ i h. l .inv .3 i (omega arith)), λ many. let few = l .inv .1 in absurd (omega arith))
 
 pub free-spec : {M : Type 1} → statement M
 free-spec =
