@@ -69,7 +69,7 @@ fn lowered(at: [usize; 6], i: usize) -> [usize; 6] {
 fn places_of(p: &[usize; 1184], facts: &[usize], n: usize, r: usize) -> [usize; 6]
     requires { ⌜ (n ≤ 126) × (n * 5 ≤ length (now facts)) ⌝ }
 {
-    given::row_witness(p, &facts[..n * WIDTH], r)
+    witnesses::row_witness(p, &facts[..n * WIDTH], r)
 }
 
 // Places of facts by which the listed rows are given.

@@ -1,8 +1,8 @@
--- `given::values_by` is safe and ends. The measure is what is left of the atoms. Assumes nothing.
+-- `shown::values_by` is safe and ends. The measure is what is left of the atoms. Assumes nothing.
 use Prim.Native.Nat.{_≤_, _-_}
 use borrow.Author.Needs.{needs}
-use Rattle.given.proofs.values_by.Statement.{statement}
-use Rattle.given.proofs.values_by.Tie as tie
+use Rattle.shown.proofs.values_by.Statement.{statement}
+use Rattle.shown.proofs.values_by.Tie as tie
 
 abbrev Inv-loop : tie.InvT-loop
 Inv-loop blk n facts at m vals₀ j₀ vals j = j ≤ n

@@ -1,4 +1,4 @@
--- `given::becomes` meets its contract. The loop's invariant: the relation is the same, and the columns before c become the values of the fact. The measure is what is left of the columns. Assumes nothing.
+-- `shown::becomes` meets its contract. The loop's invariant: the relation is the same, and the columns before c become the values of the fact. The measure is what is left of the columns. Assumes nothing.
 use mathlib.Core.Bool.{true≢false}
 use borrow.Author.Count.{below-more}
 use Rattle.joins.specs.Joins.{valueOf}
@@ -8,8 +8,8 @@ use Prim.Native.Nat.{ℕ, _≤_, _<_, _-_, _+_, _*_}
 use native.Mathlib.Omega.{arith}
 use borrow.Author.Needs.{needs}
 use lib.ListN.{getD}
-use Rattle.given.proofs.becomes.Statement.{statement}
-use Rattle.given.proofs.becomes.Tie as tie
+use Rattle.shown.proofs.becomes.Statement.{statement}
+use Rattle.shown.proofs.becomes.Tie as tie
 
 abbrev Inv-loop : tie.InvT-loop
 Inv-loop blk j facts i vals c₀ c = (c ≤ 4) × (getD facts (i * 5) 0 ≡ getD blk (j * 5) 0) × ((e : ℕ) → e < c → getD facts (i * 5 + 1 + e) 0 ≡ valueOf (valued vals) (getD blk (j * 5 + 1 + e) 0))

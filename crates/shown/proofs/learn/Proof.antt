@@ -1,8 +1,8 @@
--- `given::learn` is safe and ends. The measure is what is left of the columns. Assumes nothing.
+-- `shown::learn` is safe and ends. The measure is what is left of the columns. Assumes nothing.
 use Prim.Native.Nat.{_≤_, _-_}
 use borrow.Author.Needs.{needs}
-use Rattle.given.proofs.learn.Statement.{statement}
-use Rattle.given.proofs.learn.Tie as tie
+use Rattle.shown.proofs.learn.Statement.{statement}
+use Rattle.shown.proofs.learn.Tie as tie
 
 abbrev Inv-loop : tie.InvT-loop
 Inv-loop blk j facts i all₀ c₀ all c = c ≤ 4

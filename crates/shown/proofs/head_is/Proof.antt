@@ -1,10 +1,10 @@
--- `given::head_is` meets its contract: the head's values and the row are the same. Assumes nothing.
+-- `shown::head_is` meets its contract: the head's values and the row are the same. Assumes nothing.
 use mathlib.Core.Path.{subst, _≡_}
 use mathlib.Core.List.{[], _∷_}
 use Rattle.views.specs.Walks.{SameBy}
 use borrow.Author.Needs.{needs}
-use Rattle.given.proofs.head_is.Statement.{statement}
-use Rattle.given.proofs.head_is.Tie as tie
+use Rattle.shown.proofs.head_is.Statement.{statement}
+use Rattle.shown.proofs.head_is.Tie as tie
 
 element-copy-out-value-of : tie.Need-element-copy-out-value-of
 element-copy-out-value-of c = search needs

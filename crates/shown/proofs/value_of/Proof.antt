@@ -1,11 +1,11 @@
--- `given::value_of` meets its contract: a variable has its value, and a constant is 13 above it. Assumes nothing.
+-- `shown::value_of` meets its contract: a variable has its value, and a constant is 13 above it. Assumes nothing.
 use Rattle.answers.proofs.Laws.{value-variable, value-constant}
 use Rattle.views.specs.Walks.{valued}
 use mathlib.Core.Path.{sym}
 use native.Mathlib.Omega.{arith}
 use borrow.Author.Needs.{needs}
-use Rattle.given.proofs.value_of.Statement.{statement}
-use Rattle.given.proofs.value_of.Tie as tie
+use Rattle.shown.proofs.value_of.Statement.{statement}
+use Rattle.shown.proofs.value_of.Tie as tie
 
 mul-result : tie.Need-mul-result
 mul-result c = search needs

@@ -1,4 +1,4 @@
--- `given::all_become` meets its contract. The loop's invariant: the atoms before j become the facts. The measure is what is left of the atoms. Assumes nothing.
+-- `shown::all_become` meets its contract. The loop's invariant: the atoms before j become the facts. The measure is what is left of the atoms. Assumes nothing.
 use mathlib.Core.Bool.{true≢false}
 use mathlib.Core.Path.{subst, _≡_, sym}
 use borrow.Author.Tests.{not-false}
@@ -7,8 +7,8 @@ use Rattle.views.proofs.Laws.{become-none, become-more}
 use Prim.Native.Nat.{_≤_, _-_}
 use native.Mathlib.Omega.{arith}
 use borrow.Author.Needs.{needs}
-use Rattle.given.proofs.all_become.Statement.{statement}
-use Rattle.given.proofs.all_become.Tie as tie
+use Rattle.shown.proofs.all_become.Statement.{statement}
+use Rattle.shown.proofs.all_become.Tie as tie
 
 abbrev Inv-loop : tie.InvT-loop
 Inv-loop blk n facts vals at m j₀ j = (j ≤ n) × Become blk j facts (valued vals) at

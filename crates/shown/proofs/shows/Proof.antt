@@ -1,4 +1,4 @@
--- `given::shows` meets its contract: the atoms become the facts, and the head the row, by the same values. Assumes nothing.
+-- `shown::shows` meets its contract: the atoms become the facts, and the head the row, by the same values. Assumes nothing.
 use mathlib.Core.Bool.{true≢false}
 use mathlib.Core.Logic.{⊎-elim}
 use Prim.Native.Nat.{min}
@@ -8,8 +8,8 @@ use Rattle.views.proofs.Laws.{shown}
 use mathlib.Core.Path.{_≡_, sym}
 use native.Mathlib.Omega.{arith}
 use borrow.Author.Needs.{needs}
-use Rattle.given.proofs.shows.Statement.{statement}
-use Rattle.given.proofs.shows.Tie as tie
+use Rattle.shown.proofs.shows.Statement.{statement}
+use Rattle.shown.proofs.shows.Tie as tie
 
 -- the number of atoms that are compared
 clamped : (c : tie.Joined1) → min (c .before .before .args .n) 6 ≡ c .if1 .most
