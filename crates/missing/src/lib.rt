@@ -17,21 +17,21 @@ struct Pace {
 }
 
 // No row.
-fn none() -> answers::Row
+fn none() -> rows::Row
     ensures { λ r. ⌜ r .some ≡ false ⌝ }
 {
-    answers::Row {
+    rows::Row {
         some: false,
         values: [0; 4],
     }
 }
 
 // The least row that the facts give the block after a given one.
-fn follow(blk: &[usize; 34], n: usize, facts: &[usize], after: answers::Row) -> answers::Row
+fn follow(blk: &[usize; 34], n: usize, facts: &[usize], after: rows::Row) -> rows::Row
     ensures { λ r. ⌜ (Safe (now (blk .entry)) (min n 6) → NextBy (r .some) (now (blk .entry)) (min n 6) (now (facts .entry)) (after .some) (after .values) (r .values)) ⌝ }
     ensures { λ r. ⌜ (after .some ≡ true → room (r .some) (r .values) < room (after .some) (after .values)) ⌝ }
 {
-    let r = answers::next(blk, n, facts, after);
+    let r = rows::next(blk, n, facts, after);
     let old = after.values;
     let new = r.values;
     if after.some {
@@ -94,7 +94,7 @@ fn onward(p: &[usize; 1184], facts: &[usize], row: [usize; 4], passed: usize) ->
 }
 
 // The least row that the question is given and the list is not, if there is one.
-pub fn missing(p: &[usize; 1184], facts: &[usize]) -> answers::Row
+pub fn missing(p: &[usize; 1184], facts: &[usize]) -> rows::Row
     ensures { λ r. ⌜ (Ready (now (p .entry)) → MissingBy (r .some) (now (p .entry)) (now (facts .entry)) (r .values)) ⌝ }
 {
     let blk = views::block_at(p, 0);
@@ -110,7 +110,7 @@ pub fn missing(p: &[usize; 1184], facts: &[usize]) -> answers::Row
         let pace = onward(p, facts, row, passed);
         passed = pace.passed;
         let values = pace.values;
-        let from = answers::Row { some: true, values };
+        let from = rows::Row { some: true, values };
         cur = follow(&blk, n, facts, from);
     }
     cur

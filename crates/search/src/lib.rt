@@ -128,7 +128,7 @@ fn mark_given(
     requires { ⌜ (length (now st) ≡ 533) × (length (now lv) ≡ 533) × (b < 10) ⌝ }
     ensures { λ r. ⌜ (walks.Ready (now (p .entry)) → b < 2 + viewCount (now (p .entry)) → from + length (now (facts .entry)) / 5 ≤ 126 → GivenAt (now (p .entry)) b (now (facts .entry)) row → GivenBy (now (p .entry)) (now (facts .entry)) (now (st .entry)) (now (lv .entry)) from (now (marks .exit)) b row) ⌝ }
 {
-    let at = given::witness(p, b, facts, row);
+    let at = witnesses::witness(p, b, facts, row);
     reasons::mark_facts(p, st, lv, from, at, p[SIZES + b], marks);
 }
 

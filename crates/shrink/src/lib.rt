@@ -69,7 +69,7 @@ fn lowered(at: [usize; 6], i: usize) -> [usize; 6] {
 fn places_of(p: &[usize; 1184], facts: &[usize], n: usize, r: usize) -> [usize; 6]
     requires { ⌜ (n ≤ 126) × (n * 5 ≤ length (now facts)) ⌝ }
 {
-    given::row_witness(p, &facts[..n * WIDTH], r)
+    witnesses::row_witness(p, &facts[..n * WIDTH], r)
 }
 
 // Places of facts by which the listed rows are given.
@@ -169,17 +169,17 @@ fn is_left(
     by: &[usize; 240],
     i: usize,
     seen: [usize; 4],
-) -> answers::Row
+) -> rows::Row
     ensures { λ r. ⌜ (walks.Ready (now (p .entry)) → NoStray (now (p .entry)) (now (facts .entry)) → CaseBy (r .some) (now (p .entry)) (now (facts .entry))) ⌝ }
 {
     if !all_given(p, facts, by, i) {
-        return answers::Row {
+        return rows::Row {
             some: false,
             values: [0; 4],
         };
     }
     if lacks(p, facts, seen) {
-        return answers::Row {
+        return rows::Row {
             some: true,
             values: seen,
         };
@@ -252,7 +252,7 @@ fn drops(
     by: &[usize; 240],
     i: usize,
     seen: [usize; 4],
-) -> answers::Row
+) -> rows::Row
     requires { ⌜ (0 < n) × (n ≤ 126) × (n * 5 ≤ length (now room)) ⌝ }
     ensures { λ r. ⌜ (walks.Ready (now (p .entry)) → NoStray (now (p .entry)) (take ((n - 1) * 5) (now (room .entry))) → CaseBy (r .some) (now (p .entry)) (take ((n - 1) * 5) (now (room .entry)))) ⌝ }
 {

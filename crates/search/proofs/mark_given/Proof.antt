@@ -9,7 +9,7 @@ use Rattle.search.proofs.mark_given.Tie as tie
 use Rattle.search.proofs.mark_given.Reads as reads
 use Rattle.search.proofs.mark_given.Lts as lts
 use Rattle.reasons.proofs.mark_facts.Reads as mark-facts-reads
-use Rattle.given.proofs.witness.Reads as witness-reads
+use Rattle.witnesses.proofs.witness.Reads as witness-reads
 
 -- src/lib.rt:128:9
 witness-requires : tie.Need-witness-requires
