@@ -14,7 +14,7 @@ use Rattle.meaning.specs.Facts as facts
 use Rattle.meaning.specs.Facts.{value-end}
 use Rattle.numbers.specs.Numbers.{FactNumbers, ShapedLog}
 use Rattle.blocks.proofs.Shape.{from-map}
-use Rattle.sheet.specs.Parts.{Wrote}
+use Rattle.written.specs.Wrote.{Wrote}
 use Rattle.verdicts.specs.Table.{relation}
 use Rattle.verdicts.specs.Verdict.{Sheet, Case}
 use Rattle.verdicts.specs.Handed.{Stands}

@@ -10,7 +10,7 @@ ghost use lib.IntN.{pos};
 ghost use lib.ListN.{length, getD, take};
 ghost use Rattle.format.specs.Line.{wordLines};
 ghost use Rattle.format.specs.Cause.{refusalOf};
-ghost use Rattle.sheet.specs.Parts.{Wrote};
+ghost use Rattle.written.specs.Wrote.{Wrote};
 ghost use Rattle.verdicts.specs.Verdict.{Sheet};
 ghost use Rattle.verdicts.specs.Sheets.{sheetOf};
 ghost use Rattle.search.specs.Parts.{Ready, Found};

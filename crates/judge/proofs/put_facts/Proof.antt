@@ -9,8 +9,8 @@ use lib.IntN.{pos}
 use lib.Seq.{take-length}
 use mir.Syntax.{w32}
 use mir.ValLaws.{toZ-pos}
-use Rattle.sheet.specs.Parts.{Wrote}
-use Rattle.sheet.proofs.Laws.{wrote-none, copied-next}
+use Rattle.written.specs.Wrote.{Wrote}
+use Rattle.written.proofs.Laws.{wrote-none, copied-next}
 use Rattle.judge.proofs.put_facts.Statement.{statement}
 use Rattle.judge.proofs.put_facts.Tie as tie
 use Rattle.judge.proofs.put_facts.Reads as reads
