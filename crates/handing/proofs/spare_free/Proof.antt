@@ -5,14 +5,11 @@ use native.Mathlib.Omega.{arith}
 use lib.ListN.{length, getD}
 use lib.ListN.{take}
 use borrow.Author.Needs.{needs}
-use Rattle.verdicts.specs.Verdict.{Sheet}
-use Rattle.search.specs.Parts.{Ready, Found}
-use Rattle.judge.specs.Parts.{SpareFreeIn}
-use Rattle.judge.proofs.Handing.{spare-free-in}
-use Rattle.judge.proofs.spare_free.Statement.{statement}
-use Rattle.judge.proofs.spare_free.Tie as tie
-use Rattle.judge.proofs.spare_free.Reads as reads
-use Rattle.judge.proofs.spare_free.Lts as lts
+use Rattle.handing.proofs.Handing.{spare-free-in}
+use Rattle.handing.proofs.spare_free.Statement.{statement}
+use Rattle.handing.proofs.spare_free.Tie as tie
+use Rattle.handing.proofs.spare_free.Reads as reads
+use Rattle.handing.proofs.spare_free.Lts as lts
 use Rattle.order.proofs.arrange.Reads as arrange-reads
 use Rattle.shrink.proofs.shrink.Reads as shrink-reads
 use Rattle.state.proofs.facts.Reads as facts-reads
@@ -35,10 +32,7 @@ returns c =
     let f = c .before .before .before .before .before .before .before .before .before .before .facts in
     let a = c .before .before .before .before .before .before .arrange in
     let k = c .before .before .shrink in
-    let (x, r, good) = s .pre .1 in
-    let all : (x : Sheet) → Ready (s .args .p .now) x → Found x x (s .args .st .now) → (k .result ≤ 126) × SpareFreeIn (s .args .p .now) x (take (k .result * 5) (k .last .1 .0)) (k .result) =
-    λ x r good. spare-free-in (s .args .p .now) x r (s .args .st .now) good (s .args .room .now) (f .last .1 .1 .1 .0) (a .last .0) (k .last .1 .0) (f .result) (a .result) (k .result) (s .pre .0) (f .kept .1 .1 .1 .0) (a .kept .0) (f .ensures) (a .ensures) (k .ensures) in
-    (all x r good .0, λ x r good. all x r good .1)
+    λ x r good. spare-free-in (s .args .p .now) x r (s .args .st .now) good (s .args .room .now) (f .last .1 .1 .1 .0) (a .last .0) (k .last .1 .0) (f .result) (a .result) (k .result) (s .pre) (f .kept .1 .1 .1 .0) (a .kept .0) (f .ensures) (a .ensures) (k .ensures)
 
 pub spare-free-spec : {M : Type 1} → statement M
 spare-free-spec =

@@ -39,9 +39,7 @@ use Rattle.search.proofs.ReadyLaws.{ready-task}
 use Rattle.search.proofs.NodeLaws.{facts-by, ready-views}
 use Rattle.handed.proofs.Cases.{KnownLog}
 use Rattle.handed.proofs.Over.{HandedNumbers, taken-fact, part-few, ordered-case, handed-numbers}
-use Rattle.judge.specs.Judged.{judgement, HandedOver}
-use Rattle.judge.specs.Parts.{SpareFreeIn}
-use Rattle.judge.specs.declared.Judgement.{Judgement}
+use Rattle.handing.specs.Over.{SpareFreeIn, HandsOver}
 
 -- ordered facts are those of the front of the words
 ordered-front : (ns : List ℕ) (n : ℕ) (ms : List ℕ) (m : ℕ) → Ordered ns n ms m → Ordered (take (n * 5) ns) n ms m
@@ -145,15 +143,14 @@ spare-free-in p x r st f none one two three n m k l-none l-one l-two state-facts
 
 -- ---- written
 
-pub written : (x : Sheet) (ks : List ℕ) (k : ℕ) (u : List ℕ) (out after : List ℤ) → 640 ≤ length out → HandedNumbers x ks k u → Wrote out after 0 (length ks) (map pos ks)
-    → HandedOver x out after (record { verdict = 1; number = 0; line = 0; count = k; missing = u })
-written x ks k u out after room h w =
+pub written : (x : Sheet) (ks : List ℕ) (k : ℕ) (u : List ℕ) (out after : List ℤ) → HandedNumbers x ks k u → Wrote out after 0 (length ks) (map pos ks) → HandsOver x out after k u
+written x ks k u out after h w =
     let e : 5 * k ≡ length ks = (let c = h .count in omega arith) in
     let front : take (5 * k) after ≡ map pos ks = ap (λ n. take n after) e ∙ w .front in
     record {
-      room = room;
       handed = h .handed;
-      result = let f = sym (h .facts) in λ i. record { verdict = 1; number = 0; line = 0; count = f i; missing = h .answer-is i };
+      count = sym (h .facts);
+      answer = h .answer-is;
       facts = subst (λ ws. facts.factsRefusal ws .number ≡ 0) (sym front) (h .accepted);
       read = ap facts.logOf front ∙ sym (h .log-is);
       rest = ap (λ n. drop n after) e ∙ w .back ∙ ap (λ n. drop n out) (sym e);
