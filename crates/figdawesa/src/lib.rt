@@ -7,7 +7,7 @@ ghost use Rattle.format.specs.Line.{lineAt};
 ghost use Rattle.format.specs.Sheet.{returned, readEnding, readWords, writeEnding, writeBytes};
 ghost use Rattle.format.specs.declared.Ending.{Ending};
 ghost use Rattle.meaning.specs.Evaluate.{Evaluated};
-ghost use Rattle.sheet.specs.Start.{lineStart};
+ghost use Rattle.sheet_lines.specs.Start.{lineStart};
 ghost use Rattle.judge.specs.Judged.{Judged};
 ghost use Rattle.figdawesa.specs.Passed.{told, judgementOf};
 

@@ -30,6 +30,7 @@ use Rattle.verdicts.proofs.Order.{block-question, block-list, block-view, block
 use Rattle.verdicts.proofs.Judge.{says-covered, says-no-log}
 use Rattle.plan.specs.Plan.{Plan, viewCount}
 use Rattle.search.specs.Parts.{Ready, Found, FoundBy}
+use Rattle.handing.specs.Over.{HandsOver}
 use Rattle.judge.specs.Judged.{judgement, Sent, Short, Said, HandedOver, Decided, Judged}
 use Rattle.judge.specs.declared.Judgement.{Judgement}
 
@@ -66,6 +67,17 @@ module _ (p : List ℕ) (x : Sheet) (r : Ready p x) (out : List ℤ) (room : 640
   no-case : (b : Bool) (ws : List ℕ) → b ≡ false → FoundBy b x x ws → Refuted top x (free top)
   no-case true ws e f = absurd (true≢false e)
   no-case false ws e f = f
+
+  pub decided-case : (after : List ℤ) (k : ℕ) (u : List ℕ) → HandsOver x out after k u → Decided x out after (record { verdict = 1; number = 0; line = 0; count = k; missing = u })
+  decided-case after k u h = inr (inr (inl (record {
+    room = room;
+    handed = h .handed;
+    result = λ i. record { verdict = 1; number = 0; line = 0; count = h .count i; missing = h .answer i };
+    facts = h .facts;
+    read = h .read;
+    rest = h .rest;
+    same = h .same;
+  })))
 
   pub decided-covered : (b c : Bool) (ws us : List ℕ) → b ≡ false → c ≡ true → FoundBy b x x ws → FoundBy c x (bare x) us → (q : Judgement) → q ≡ judgement 0 0 0 0 [] → Decided x out out q
   decided-covered b true ws us e g f h q is = inr (inl (record { room = room; holds = says-covered (r .accepted) (no-case b ws e f) (h .good); result = is; lent = refl }))

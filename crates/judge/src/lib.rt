@@ -4,18 +4,15 @@ use format::LINE_WORDS;
 use format::MOST_WORDS;
 use format::NO_ROOM;
 ghost use mathlib.Core.Path.{_≡_};
-ghost use mathlib.Core.List.{map, []};
-ghost use Prim.Native.Nat.{ℕ, _*_, _≤_, _<_};
-ghost use lib.IntN.{pos};
-ghost use lib.ListN.{length, getD, take};
+ghost use mathlib.Core.List.{[]};
+ghost use Prim.Native.Nat.{_≤_};
+ghost use lib.ListN.{length};
 ghost use Rattle.format.specs.Line.{wordLines};
 ghost use Rattle.format.specs.Cause.{refusalOf};
-ghost use Rattle.sheet.specs.Parts.{Wrote};
 ghost use Rattle.verdicts.specs.Verdict.{Sheet};
 ghost use Rattle.verdicts.specs.Sheets.{sheetOf};
-ghost use Rattle.search.specs.Parts.{Ready, Found};
-ghost use Rattle.judge.specs.Judged.{judgement, HandedOver, Decided, Judged};
-ghost use Rattle.judge.specs.Parts.{SpareFreeIn};
+ghost use Rattle.search.specs.Parts.{Ready};
+ghost use Rattle.judge.specs.Judged.{judgement, Decided, Judged};
 
 // The verdict, and with a refusal its number and line. Not covered: how many facts the case in the lent words has, and the missing answer.
 pub struct Judgement {
@@ -37,11 +34,6 @@ pub const REFUSED: usize = 9;
 // So many words must be lent.
 pub const LEAST_ROOM: usize = 640;
 
-// The numbers of the facts of the largest case, five each.
-const NUMBERS: usize = 630;
-
-const FACT: usize = 5;
-
 // The numbers of a plan, and the slots of a state.
 const PLAN_NUMBERS: usize = 1184;
 
@@ -60,55 +52,22 @@ fn plain(verdict: usize, number: usize, line: usize) -> Judgement
     }
 }
 
-// Facts in front of the lent words.
-fn put_facts(out: &mut [i32], facts: &[usize])
-    requires { ⌜ (length (now facts) ≤ length (now out)) × ((j : ℕ) → j < length (now facts) → getD (now facts) j 0 < 2147483648) ⌝ }
-    ensures { λ r. ⌜ Wrote (now (out .entry)) (now (out .exit)) 0 (length (now (facts .entry))) (map pos (now (facts .entry))) ⌝ }
-{
-    let mut i = 0;
-    while i < facts.len() {
-        out[i] = facts[i] as i32;
-        i += 1;
-    }
-}
-
-// The facts of a good state, in order and without any to spare, in front of the room; how many.
-fn spare_free(p: &[usize; 1184], st: &[usize], room: &mut [usize]) -> usize
-    requires { ⌜ (length (now room) ≡ 630) × ((x : Sheet) × Ready (now p) x × Found x x (now st)) ⌝ }
-    ensures { λ k. ⌜ (k ≤ 126) × ((x : Sheet) → Ready (now (p .entry)) x → Found x x (now (st .entry)) → SpareFreeIn (now (p .entry)) x (take (k * 5) (now (room .exit))) k) ⌝ }
-{
-    let n = state::facts(p, st, 0, room);
-    let m = order::arrange(room, n);
-    shrink::shrink(p, room, m)
-}
-
-// Hands the case of a good state over, with its least missing answer.
-fn hand_over(p: &[usize; 1184], st: &[usize], out: &mut [i32]) -> Judgement
-    requires { ⌜ (640 ≤ length (now out)) × ((x : Sheet) × Ready (now p) x × Found x x (now st)) ⌝ }
-    ensures { λ r. ⌜ ((x : Sheet) → Ready (now (p .entry)) x → Found x x (now (st .entry)) → HandedOver x (now (out .entry)) (now (out .exit)) r) ⌝ }
-{
-    let mut room = [0usize; NUMBERS];
-    let count = spare_free(p, st, &mut room);
-    let row = missing::missing(p, &room[..count * FACT]);
-    put_facts(out, &room[..count * FACT]);
-    let missing = row.values;
-    Judgement {
-        verdict: NOT_COVERED,
-        number: 0,
-        line: 0,
-        count,
-        missing,
-    }
-}
-
 // The verdict of an accepted sheet: a case, else an agreeing log, else neither.
 fn decide(p: &[usize; 1184], out: &mut [i32]) -> Judgement
-    requires { ⌜ (640 ≤ length (now out)) × ((x : Sheet) × Ready (now p) x) ⌝ }
+    requires { ⌜ 640 ≤ length (now out) ⌝ }
     ensures { λ r. ⌜ ((x : Sheet) → Ready (now (p .entry)) x → Decided x (now (out .entry)) (now (out .exit)) r) ⌝ }
 {
     let mut words = [0usize; SLOTS];
     if search::find(p, true, &mut words) {
-        return hand_over(p, &words, out);
+        let handed = handing::hand_over(p, &words, out);
+        let missing = handed.missing;
+        return Judgement {
+            verdict: NOT_COVERED,
+            number: 0,
+            line: 0,
+            count: handed.count,
+            missing,
+        };
     }
     if search::find(p, false, &mut words) {
         return plain(COVERED, 0, 0);

@@ -7,7 +7,7 @@ use lib.ListN.{length, take, drop}
 use lib.Seq.{take-at, drop-at}
 use Rattle.puts.specs.Puts.{Put}
 use Rattle.puts.proofs.Laws.{kept, reached-all, placed-all}
-use Rattle.sheet.specs.Parts.{Wrote}
+use Rattle.written.specs.Wrote.{Wrote}
 
 pub all-fits : {a b : List ℕ} {r : ℕ} {s : List ℕ} → Put a b 0 s r → length s ≤ length a → Wrote a b 0 r s
 all-fits {a} {b} {r} {s} p h =

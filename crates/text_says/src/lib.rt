@@ -3,7 +3,7 @@ use puts::put;
 ghost use mathlib.Core.List.{_++_};
 ghost use Prim.Native.Nat.{_+_, _≤_};
 ghost use lib.ListN.{length};
-ghost use Rattle.sheet.specs.Parts.{Wrote};
+ghost use Rattle.written.specs.Wrote.{Wrote};
 ghost use Rattle.text_to_sheet.specs.Texts.{Worded, refused};
 
 // What words come to after their beginning, at most.

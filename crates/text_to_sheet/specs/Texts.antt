@@ -9,7 +9,7 @@ use Rattle.format.specs.Cause.{refusal}
 use Rattle.format.specs.Sheet.{sheetRefusal}
 use Rattle.format.specs.declared.Ending.{Ending}
 use Rattle.format.specs.declared.Ending.the-variants.{Done, Refused}
-use Rattle.sheet.specs.Parts.{Wrote}
+use Rattle.written.specs.Wrote.{Wrote}
 use Rattle.puts.specs.Puts.{Put}
 use Rattle.text_writer.specs.Texts.{linesBytes}
 use Rattle.verdicts.specs.Verdict.{HasVerdict}

@@ -9,7 +9,7 @@ use lib.ListN.{length}
 use Rattle.format.specs.Line.{byteLines}
 use Rattle.format.specs.Sheet.{sheetRefusal}
 use Rattle.format.proofs.Lists.{append-nil}
-use Rattle.sheet.specs.Parts.{Wrote}
+use Rattle.written.specs.Wrote.{Wrote}
 use Rattle.judge.specs.Judged.{Judged, Sent}
 use Rattle.judge.specs.declared.Judgement.{Judgement}
 use Rattle.judge.proofs.Verdicts.{verdict-only-when}

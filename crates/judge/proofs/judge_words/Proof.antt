@@ -12,41 +12,31 @@ use Rattle.judge.proofs.decide.Reads as decide-reads
 use Rattle.judge.proofs.plain.Reads as plain-reads
 use Rattle.plan.proofs.plan.Reads as plan-reads
 
--- src/lib.rt:125:9
 plain-requires : tie.Need-plain-requires
 plain-requires c κs = search needs
 
--- src/lib.rt:125:9
 returns : tie.Need-returns
 returns c =
     let s = c .before .before in
     decided-short (sheetOf (wordLines (s .args .ws .now))) (s .args .out .now) (c .before .if1 .taken) (c .plain .result) (c .plain .ensures)
 
--- src/lib.rt:128:20
 slice-aggregate-plan : tie.Need-slice-aggregate-plan
 slice-aggregate-plan c = search needs
 
--- src/lib.rt:128:5
 plan-requires : tie.Need-plan-requires
 plan-requires c κs = search needs
 
--- src/lib.rt:129:5
 decide-requires : tie.Need-decide-requires
-decide-requires c κs =
-    let s = c .before .before .before .before .before .before in
-    let p = c .before .before .before .plan in
-    (c .before .before .before .before .before .if1 .left, (sheetOf (wordLines (s .args .ws .now)), ready-plan (wordLines (s .args .ws .now)) (s .pre) (p .last .1 .0) (p .ensures refl (s .pre))))
+decide-requires c κs = search needs
 
--- src/lib.rt:120:1
 same-length : tie.Need-same-length
 same-length c = search needs
 
--- src/lib.rt:120:1
 returns-2 : tie.Need-returns-2
 returns-2 c =
     let s = c .before .before .before .before .before .before .before .before in
     let p = c .before .before .before .before .before .plan in
-    c .before .decide .ensures (sheetOf (wordLines (s .args .ws .now))) (ready-plan (wordLines (s .args .ws .now)) (s .pre) (p .last .1 .0) (p .ensures refl (s .pre)))
+    c .before .decide .ensures (sheetOf (wordLines (s .args .ws .now))) (ready-plan (wordLines (s .args .ws .now)) (s .pre) (p .last .1 .0) (p .ensures .0 refl (s .pre)))
 
 pub judge-words-spec : {M : Type 1} → statement M
 judge-words-spec =

@@ -1,0 +1,10 @@
+-- The bytes before the first byte 10.
+use mathlib.Core.Bool.{cond}
+use mathlib.Core.List.{List, [], _∷_}
+use Prim.Native.Nat.{ℕ, suc}
+use lib.Dec.{eqb}
+
+-- how many bytes stand before the first byte 10
+unfoldable pub before : List ℕ → ℕ
+before [] = 0
+before (b ∷ s) = cond (eqb b 10) 0 (suc (before s))

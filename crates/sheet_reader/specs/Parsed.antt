@@ -1,0 +1,19 @@
+-- What the contract of a private function cites. No promise to a caller rests on it.
+use mathlib.Core.Path.{_≡_}
+use mathlib.Core.List.{List}
+use Prim.Native.Nat.{ℕ, _*_, _≤_}
+use lib.IntN.{ℤ}
+use lib.ListN.{length, take}
+use Rattle.format.specs.Line.{Line, byteLines, wordsOf}
+use Rattle.format.specs.Cause.{refusalOf}
+use Rattle.format.proofs.Good.{Goods}
+
+-- the first n lines of the words stand for the sheet's lines: they are refused alike, and are all of them where they are not refused
+pub record Parsed (s : List ℕ) (ws : List ℤ) (n : ℕ) : Type 0 where
+  pub lines : List Line
+  pub count : length lines ≡ n
+  pub few : n ≤ 87
+  pub words : take (n * 7) ws ≡ wordsOf lines
+  pub good : Goods lines
+  pub alike : refusalOf lines ≡ refusalOf (byteLines s)
+  pub whole : refusalOf lines .number ≡ 0 → lines ≡ byteLines s
