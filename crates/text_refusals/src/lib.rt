@@ -1,7 +1,7 @@
 // Refusals in words, put at a place of a buffer.
 use puts::put;
 use puts::put_byte;
-use text_words::put_cause;
+use text_causes::put_cause;
 use text_words::put_what;
 use text_writer::put_number;
 ghost use mathlib.Core.List.{_++_};

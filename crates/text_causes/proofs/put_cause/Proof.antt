@@ -5,8 +5,8 @@ use Rattle.text_writer.proofs.Parts.{known, apart, numbered-else}
 use Rattle.puts.proofs.Laws.{said}
 use Rattle.text_writer.specs.Texts.{causeBytes, causes}
 use Rattle.puts.specs.Words.{bytes}
-use Rattle.text_words.proofs.put_cause.Statement.{statement}
-use Rattle.text_words.proofs.put_cause.Tie as tie
+use Rattle.text_causes.proofs.put_cause.Statement.{statement}
+use Rattle.text_causes.proofs.put_cause.Tie as tie
 
 slice-aggregate-put : tie.Need-slice-aggregate-put
 slice-aggregate-put c = search needs
