@@ -1,8 +1,8 @@
 // Judges the sheet of standard input, given as a sheet or as its text, and prints the verdict in words.
 use libc::STDIN_FILENO;
 use libc::STDOUT_FILENO;
-use text::SPOKEN_BYTES;
 use text_reader::MOST_TEXT;
+use text_to_sheet::SPOKEN_BYTES;
 
 // What is read: one byte more than a text may have, so that a longer one is refused.
 const READ: usize = MOST_TEXT + 1;
@@ -15,7 +15,7 @@ fn main() {
 
 fn print(given: &[u8]) {
     let mut words = [0u8; SPOKEN_BYTES];
-    let n = text::answer(given, &mut words);
+    let n = text_answer::answer(given, &mut words);
     if n <= words.len() {
         io::write_all(STDOUT_FILENO, &words[0..n]);
     }

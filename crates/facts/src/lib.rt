@@ -154,6 +154,7 @@ fn number_of(word: i32) -> usize
 // Accepted facts as plain numbers, in the first fs.len() of the given ones. Nothing is written where those are too few.
 pub fn numbers(fs: &[i32], ns: &mut [usize])
     ensures { λ r. ⌜ (factsRefusal (now (fs .entry)) .number ≡ 0 → length (now (fs .entry)) ≤ length (now (ns .entry)) → FactNumbers (take (length (now (fs .entry))) (now (ns .exit))) (logOf (now (fs .entry)))) ⌝ }
+    ensures { λ r. ⌜ (length (now (ns .entry)) < length (now (fs .entry)) → now (ns .exit) ≡ now (ns .entry)) ⌝ }
 {
     if ns.len() < fs.len() {
         return;

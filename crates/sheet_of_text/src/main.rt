@@ -3,9 +3,9 @@ use format::MOST_BYTES;
 use libc::STDERR_FILENO;
 use libc::STDIN_FILENO;
 use libc::STDOUT_FILENO;
-use text::Made;
-use text::SPOKEN_BYTES;
 use text_reader::MOST_TEXT;
+use text_to_sheet::Made;
+use text_to_sheet::SPOKEN_BYTES;
 
 // What is read: one byte more than a text may have, so that a longer one is refused.
 const READ: usize = MOST_TEXT + 1;
@@ -18,7 +18,7 @@ fn main() {
 
 fn print(given: &[u8]) {
     let mut sheet = [0u8; MOST_BYTES];
-    let made = text::sheet_of(given, &mut sheet);
+    let made = text_to_sheet::sheet_of(given, &mut sheet);
     let Made::Sheet(n) = made else {
         complain(made);
         return;
@@ -30,7 +30,7 @@ fn print(given: &[u8]) {
 
 fn complain(made: Made) {
     let mut words = [0u8; SPOKEN_BYTES];
-    let n = text::message(made, &mut words);
+    let n = text_message::message(made, &mut words);
     if n <= words.len() {
         io::write_all(STDERR_FILENO, &words[0..n]);
     }

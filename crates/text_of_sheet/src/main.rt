@@ -4,9 +4,9 @@ use format::MOST_SHEET_BYTES;
 use libc::STDERR_FILENO;
 use libc::STDIN_FILENO;
 use libc::STDOUT_FILENO;
-use text::Made;
-use text::SPOKEN_BYTES;
-use text::TEXT_BYTES;
+use text_to_sheet::Made;
+use text_to_sheet::SPOKEN_BYTES;
+use text_to_sheet::TEXT_BYTES;
 
 // What is read: one byte more than a sheet may have, so that a longer one is refused.
 const READ: usize = MOST_SHEET_BYTES + 1;
@@ -19,7 +19,7 @@ fn main() {
 
 fn print(given: &[u8]) {
     let mut text = [0u8; TEXT_BYTES];
-    match text::text_of(given, &mut text) {
+    match sheet_to_text::text_of(given, &mut text) {
         Ending::Done(n) => {
             if n <= text.len() {
                 io::write_all(STDOUT_FILENO, &text[0..n]);
@@ -31,7 +31,7 @@ fn print(given: &[u8]) {
 
 fn complain(number: usize, line: usize) {
     let mut words = [0u8; SPOKEN_BYTES];
-    let n = text::message(Made::Refused(number, line, 0), &mut words);
+    let n = text_message::message(Made::Refused(number, line, 0), &mut words);
     if n <= words.len() {
         io::write_all(STDERR_FILENO, &words[0..n]);
     }
