@@ -68,7 +68,7 @@ def damaged(dice, sheet):
 
 def stored():
     """The sheets of the stored cases for the judgement."""
-    for line in pathlib.Path("crates/cover_tests/stdin").read_text().splitlines():
+    for line in pathlib.Path("crates/test_cover/stdin").read_text().splitlines():
         if not line.startswith("#"):
             sheet = line.split("|")[2].replace(",", " " * 7).replace(";", " " * 6).replace("/", "\n").encode("ascii")
             if "\\" not in line:

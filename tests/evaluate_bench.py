@@ -1,7 +1,7 @@
 #!/usr/bin/env python3
 """How long evaluation takes on calls that are hard on an evaluator, as multiples of the first of them.
 
-    python3 tests/evaluate_bench.py        builds the program crates/evaluate_bench and runs it three times
+    python3 tests/evaluate_bench.py        builds the program crates/test_evaluate_speed and runs it three times
 
 The program prints a line when a call has ended, so the time between two lines is a call's. Each figure is the least of the runs. The
 first call (six atoms that share no variable, 128 facts, 128 answers) is 1: an evaluator that tried all valuations would need 10^12

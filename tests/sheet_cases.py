@@ -2,9 +2,9 @@
 """Cases for the calls that read a sheet, write one and hand back a line, with the results they must give.
 
 This is an independent reading of the format: it is written from the format's description in words alone, and shares
-nothing with the library. The stored results (crates/sheet_tests/stdout) come from it and not from the library.
+nothing with the library. The stored results (crates/test_sheet/stdout) come from it and not from the library.
 
-    python3 tests/sheet_cases.py            writes crates/sheet_tests/stdin and crates/sheet_tests/stdout
+    python3 tests/sheet_cases.py            writes crates/test_sheet/stdin and crates/test_sheet/stdout
     python3 tests/sheet_cases.py --check    only says whether those two files are what it would write
 
 Run it at the repository's root. It draws no chance from outside: each run writes the same bytes.
@@ -193,8 +193,8 @@ def words_of(lines):
 
 # --- The cases ------------------------------------------------------------------------------------------------------
 
-STDIN = pathlib.Path("crates/sheet_tests/stdin")
-STDOUT = pathlib.Path("crates/sheet_tests/stdout")
+STDIN = pathlib.Path("crates/test_sheet/stdin")
+STDOUT = pathlib.Path("crates/test_sheet/stdout")
 
 # What the program has room for.
 ROOM = {"r": 704, "w": 4352}

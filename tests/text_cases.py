@@ -1,7 +1,7 @@
 #!/usr/bin/env python3
 """The stored cases of crates/text_tests: texts and sheets, with what is to be said of each.
 
-usage: text_cases.py            writes crates/text_tests/stdin and stdout
+usage: text_cases.py            writes crates/test_text/stdin and stdout
        text_cases.py --check    says whether the stored files are these
        text_cases.py --run      runs the built programs (rt check) on made-up sheets, and compares them with a writer and a reader of
                                 its own

@@ -5,11 +5,11 @@
 //     1, count                    not covered, and how many facts the case has; then
 //     6, a value for each column of the question's head       the missing answer
 //     7, relation, a value for each column of it              a fact of the case, a line for each
-use format::FIELD_BYTES;
-use format::MOST_SHEET_BYTES;
 use judge::Judgement;
 use libc::STDIN_FILENO;
 use libc::STDOUT_FILENO;
+use sheet_format::FIELD_BYTES;
+use sheet_format::MOST_SHEET_BYTES;
 ghost use mathlib.Core.Path.{_≡_};
 ghost use Prim.Native.Nat.{_+_, _*_, _≤_};
 ghost use lib.ListN.{length};
@@ -115,7 +115,7 @@ fn print_fact(fact: &[i32])
     requires { ⌜ length (now fact) ≡ 5 ⌝ }
 {
     print_number(7);
-    let columns = least(terms::columns(fact[0]), 4);
+    let columns = least(sheet_terms::columns(fact[0]), 4);
     let mut i = 0;
     while i <= columns {
         print_word(fact[i]);
@@ -138,7 +138,7 @@ fn print_number(n: usize) {
 }
 
 fn print_word(w: i32) {
-    let bytes = fields::field_bytes(w);
+    let bytes = sheet_fields::field_bytes(w);
     io::write_all(STDOUT_FILENO, &bytes);
 }
 

@@ -1,5 +1,5 @@
 -- What is handed to C, as the definitions of the calls name it: field by field the same.
-use Rattle.format.specs.Sheet.{Returned}
+use Rattle.sheet_format.specs.Sheet.{Returned}
 use Rattle.judge.specs.declared.Judgement.{Judgement}
 use Rattle.figdawesa.specs.declared.Ended.{Ended}
 use Rattle.figdawesa.specs.declared.Outcome.{Outcome}

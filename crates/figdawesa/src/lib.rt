@@ -1,12 +1,12 @@
 // The calls for programs in C and Rust. include/figdawesa.h describes them to those who call them.
-use format::Ending;
+use sheet_format::Ending;
 ghost use mathlib.Core.Path.{_≡_};
 ghost use Prim.Native.Nat.{_+_, _≤_};
 ghost use lib.ListN.{length, take, drop};
-ghost use Rattle.format.specs.Line.{lineAt};
-ghost use Rattle.format.specs.Sheet.{returned, readEnding, readWords, writeEnding, writeBytes};
-ghost use Rattle.format.specs.declared.Ending.{Ending};
-ghost use Rattle.meaning.specs.Evaluate.{Evaluated};
+ghost use Rattle.sheet_format.specs.Line.{lineAt};
+ghost use Rattle.sheet_format.specs.Sheet.{returned, readEnding, readWords, writeEnding, writeBytes};
+ghost use Rattle.sheet_format.specs.declared.Ending.{Ending};
+ghost use Rattle.query_meaning.specs.Evaluate.{Evaluated};
 ghost use Rattle.sheet_lines.specs.Start.{lineStart};
 ghost use Rattle.judge.specs.Judged.{Judged};
 ghost use Rattle.figdawesa.specs.Passed.{told, judgementOf};

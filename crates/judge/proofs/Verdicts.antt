@@ -6,13 +6,13 @@ use Prim.Native.Nat.{ℕ, zero, suc, _*_, _/_, _<_, _≤_}
 use native.Mathlib.Omega.{arith}
 use lib.IntN.{ℤ}
 use lib.ListN.{length, take, length-take}
-use Rattle.format.specs.Line.{byteLines}
-use Rattle.format.specs.Sheet.{sheetRefusal}
-use Rattle.meaning.specs.Facts.{logOf}
-use Rattle.facts.proofs.Laws.{logOf-length}
-use Rattle.verdicts.specs.Verdict.{Sheet, HasVerdict}
-use Rattle.verdicts.specs.Sheets.{sheetOf}
-use Rattle.verdicts.proofs.Verdicts.{exclusive}
+use Rattle.sheet_format.specs.Line.{byteLines}
+use Rattle.sheet_format.specs.Sheet.{sheetRefusal}
+use Rattle.query_meaning.specs.Facts.{logOf}
+use Rattle.query_facts.proofs.Laws.{logOf-length}
+use Rattle.case_verdicts.specs.Verdict.{Sheet, HasVerdict}
+use Rattle.case_verdicts.specs.Sheets.{sheetOf}
+use Rattle.case_verdicts.proofs.Verdicts.{exclusive}
 use Rattle.judge.specs.Judged.{least-room, judgement, Sent, Short, Said, HandedOver, Decided, Judged}
 use Rattle.judge.specs.declared.Judgement.{Judgement}
 

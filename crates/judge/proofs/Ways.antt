@@ -9,28 +9,28 @@ use borrow.Author.Tests.{ne-eqb, le-ltb}
 use lib.Dec.{eqb, ltb}
 use lib.IntN.{ℤ}
 use lib.ListN.{length}
-use Rattle.format.specs.Limits.{most-words}
-use Rattle.format.specs.Line.{Line, byteLines}
-use Rattle.format.specs.Cause.{refusal, refusalOf}
-use Rattle.format.specs.Sheet.{sheetRefusal, readEnding}
-use Rattle.format.specs.declared.Refusal.{Refusal}
-use Rattle.format.specs.declared.Ending.{Ending}
-use Rattle.format.specs.declared.Ending.the-variants.{Done, Refused}
-use Rattle.meaning.specs.Meaning.{Block, In}
-use Rattle.meaning.specs.Blocks.{View, nth, allBlocks, blockAt}
-use Rattle.numbers.specs.Numbers.{Shaped, isBlock}
-use Rattle.blocks.proofs.Shape.{accepted-shaped}
+use Rattle.sheet_format.specs.Limits.{most-words}
+use Rattle.sheet_format.specs.Line.{Line, byteLines}
+use Rattle.sheet_format.specs.Cause.{refusal, refusalOf}
+use Rattle.sheet_format.specs.Sheet.{sheetRefusal, readEnding}
+use Rattle.sheet_format.specs.declared.Refusal.{Refusal}
+use Rattle.sheet_format.specs.declared.Ending.{Ending}
+use Rattle.sheet_format.specs.declared.Ending.the-variants.{Done, Refused}
+use Rattle.query_meaning.specs.Meaning.{Block, In}
+use Rattle.query_meaning.specs.Blocks.{View, nth, allBlocks, blockAt}
+use Rattle.query_encoding.specs.Numbers.{Shaped, isBlock}
+use Rattle.query_blocks.proofs.Shape.{accepted-shaped}
 use Rattle.sheet.proofs.Calls.{refused-by, clean-sheet}
-use Rattle.verdicts.specs.Verdict.{Sheet}
-use Rattle.verdicts.specs.Sheets.{top, sheetOf}
-use Rattle.verdicts.specs.Tableau.{bare, State}
-use Rattle.verdicts.specs.Search.{free, Refuted}
-use Rattle.verdicts.proofs.Accepted.{accepted-sheet, accepted-lists}
-use Rattle.verdicts.proofs.Order.{block-question, block-list, block-view, block-count}
-use Rattle.verdicts.proofs.Judge.{says-covered, says-no-log}
-use Rattle.plan.specs.Plan.{Plan, viewCount}
-use Rattle.search.specs.Parts.{Ready, Found, FoundBy}
-use Rattle.handing.specs.Over.{HandsOver}
+use Rattle.case_verdicts.specs.Verdict.{Sheet}
+use Rattle.case_verdicts.specs.Sheets.{top, sheetOf}
+use Rattle.case_verdicts.specs.Tableau.{bare, State}
+use Rattle.case_verdicts.specs.Search.{free, Refuted}
+use Rattle.case_verdicts.proofs.Accepted.{accepted-sheet, accepted-lists}
+use Rattle.case_verdicts.proofs.Order.{block-question, block-list, block-view, block-count}
+use Rattle.case_verdicts.proofs.Judge.{says-covered, says-no-log}
+use Rattle.tableau_plan.specs.Plan.{Plan, viewCount}
+use Rattle.search_chase.specs.Parts.{Ready, Found, FoundBy}
+use Rattle.case_writer.specs.Over.{HandsOver}
 use Rattle.judge.specs.Judged.{judgement, Sent, Short, Said, HandedOver, Decided, Judged}
 use Rattle.judge.specs.declared.Judgement.{Judgement}
 

@@ -5,13 +5,13 @@ use mathlib.Core.Logic.{_⊎_}
 use Prim.Native.Nat.{ℕ, _-_, _*_, _<_, _≤_}
 use lib.IntN.{ℤ}
 use lib.ListN.{length, take, drop, replicate}
-use Rattle.format.specs.Line.{byteLines}
-use Rattle.format.specs.Sheet.{sheetRefusal}
-use Rattle.meaning.specs.Facts.{fact-words, value-end, logOf, factsRefusal}
-use Rattle.meaning.specs.Evaluate.{answer-words}
-use Rattle.verdicts.specs.Verdict.{Sheet, HasVerdict}
-use Rattle.verdicts.specs.Handed.{Handed}
-use Rattle.verdicts.specs.Sheets.{top, sheetOf}
+use Rattle.sheet_format.specs.Line.{byteLines}
+use Rattle.sheet_format.specs.Sheet.{sheetRefusal}
+use Rattle.query_meaning.specs.Facts.{fact-words, value-end, logOf, factsRefusal}
+use Rattle.query_meaning.specs.Evaluate.{answer-words}
+use Rattle.case_verdicts.specs.Verdict.{Sheet, HasVerdict}
+use Rattle.case_verdicts.specs.Handed.{Handed}
+use Rattle.case_verdicts.specs.Sheets.{top, sheetOf}
 use Rattle.judge.specs.declared.Judgement.{Judgement}
 
 -- Causes, 13: so many words must be lent, whatever the verdict

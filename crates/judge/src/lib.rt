@@ -1,17 +1,17 @@
 // Whether a saved list covers its question, judged from the rows of the views alone.
-use format::Ending;
-use format::LINE_WORDS;
-use format::MOST_WORDS;
-use format::NO_ROOM;
+use sheet_format::Ending;
+use sheet_format::LINE_WORDS;
+use sheet_format::MOST_WORDS;
+use sheet_format::NO_ROOM;
 ghost use mathlib.Core.Path.{_≡_};
 ghost use mathlib.Core.List.{[]};
 ghost use Prim.Native.Nat.{_≤_};
 ghost use lib.ListN.{length};
-ghost use Rattle.format.specs.Line.{wordLines};
-ghost use Rattle.format.specs.Cause.{refusalOf};
-ghost use Rattle.verdicts.specs.Verdict.{Sheet};
-ghost use Rattle.verdicts.specs.Sheets.{sheetOf};
-ghost use Rattle.search.specs.Parts.{Ready};
+ghost use Rattle.sheet_format.specs.Line.{wordLines};
+ghost use Rattle.sheet_format.specs.Cause.{refusalOf};
+ghost use Rattle.case_verdicts.specs.Verdict.{Sheet};
+ghost use Rattle.case_verdicts.specs.Sheets.{sheetOf};
+ghost use Rattle.search_chase.specs.Parts.{Ready};
 ghost use Rattle.judge.specs.Judged.{judgement, Decided, Judged};
 
 // The verdict, and with a refusal its number and line. Not covered: how many facts the case in the lent words has, and the missing answer.
@@ -58,8 +58,8 @@ fn decide(p: &[usize; 1184], out: &mut [i32]) -> Judgement
     ensures { λ r. ⌜ ((x : Sheet) → Ready (now (p .entry)) x → Decided x (now (out .entry)) (now (out .exit)) r) ⌝ }
 {
     let mut words = [0usize; SLOTS];
-    if search::find(p, true, &mut words) {
-        let handed = handing::hand_over(p, &words, out);
+    if search_chase::find(p, true, &mut words) {
+        let handed = case_writer::hand_over(p, &words, out);
         let missing = handed.missing;
         return Judgement {
             verdict: NOT_COVERED,
@@ -69,7 +69,7 @@ fn decide(p: &[usize; 1184], out: &mut [i32]) -> Judgement
             missing,
         };
     }
-    if search::find(p, false, &mut words) {
+    if search_chase::find(p, false, &mut words) {
         return plain(COVERED, 0, 0);
     }
     plain(NO_LOG, 0, 0)
@@ -84,7 +84,7 @@ fn judge_words(ws: &[i32], out: &mut [i32]) -> Judgement
         return plain(REFUSED, NO_ROOM, 0);
     }
     let mut p = [0usize; PLAN_NUMBERS];
-    plan::plan(ws, &mut p);
+    tableau_plan::plan(ws, &mut p);
     decide(&p, out)
 }
 

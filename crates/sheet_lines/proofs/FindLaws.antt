@@ -8,11 +8,11 @@ use borrow.Author.Tests.{lt-ltb, le-ltb, ltb-true, ltb-false}
 use lib.Dec.{ltb, eqb}
 use lib.ListN.{length, take, drop, getD, length-drop, drop-of-length-le}
 use lib.Seq.{drop-drop, take-length}
-use Rattle.format.specs.Line.{closed, lineAt, all}
-use Rattle.format.proofs.LineLaws.{closed-first, closed-nothing}
-use Rattle.line_ends.specs.Before.{before}
+use Rattle.sheet_format.specs.Line.{closed, lineAt, all}
+use Rattle.sheet_format.proofs.LineLaws.{closed-first, closed-nothing}
+use Rattle.sheet_line_ends.specs.Before.{before}
 use Rattle.sheet_lines.specs.Part.{Part}
-use Rattle.line_ends.proofs.Laws.{before-open, before-closes, end-inside}
+use Rattle.sheet_line_ends.proofs.Laws.{before-open, before-closes, end-inside}
 
 -- the line with this number, when line k starts at a place
 abbrev pub lineFrom : List ℕ → ℕ → ℕ → ℕ → List ℕ

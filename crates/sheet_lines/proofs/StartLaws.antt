@@ -8,12 +8,12 @@ use borrow.Author.Tests.{lt-ltb, le-ltb, ltb-true, ltb-false}
 use lib.Dec.{ltb}
 use lib.ListN.{length, take, drop, length-drop, drop-of-length-le}
 use lib.Seq.{length-take-le}
-use Rattle.format.specs.Line.{closed}
-use Rattle.format.proofs.LineLaws.{closed-nothing}
-use Rattle.line_ends.specs.Before.{before}
+use Rattle.sheet_format.specs.Line.{closed}
+use Rattle.sheet_format.proofs.LineLaws.{closed-nothing}
+use Rattle.sheet_line_ends.specs.Before.{before}
 use Rattle.sheet_lines.specs.Start.{startIn, lineStart}
 use Rattle.sheet_lines.proofs.FindLaws.{closed-at, closed-open}
-use Rattle.line_ends.proofs.Laws.{end-inside}
+use Rattle.sheet_line_ends.proofs.Laws.{end-inside}
 
 -- the start of the line with this number, when line k starts at a place
 abbrev pub startFrom : List ℕ → ℕ → ℕ → ℕ → ℕ

@@ -2,7 +2,7 @@
 use mathlib.Core.List.{List, [], _∷_}
 use Prim.Native.Nat.{ℕ, zero, suc, _+_}
 use lib.ListN.{length}
-use Rattle.format.specs.Line.{closed}
+use Rattle.sheet_format.specs.Line.{closed}
 
 -- where line k of these starts, counted from 0, when the first starts at a place: each ends in a byte 10; 0 where there are not so many
 abbrev pub startIn : ℕ → List (List ℕ) → ℕ → ℕ

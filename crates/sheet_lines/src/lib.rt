@@ -1,6 +1,6 @@
 // A line of a sheet found by its number, and its own bytes.
 ghost use mathlib.Core.Path.{_≡_};
-ghost use Rattle.format.specs.Line.{lineAt};
+ghost use Rattle.sheet_format.specs.Line.{lineAt};
 ghost use Rattle.sheet_lines.specs.Part.{Part};
 ghost use Rattle.sheet_lines.specs.Start.{lineStart};
 
@@ -17,7 +17,7 @@ pub fn find_line(s: &[u8], number: usize) -> Place
     let mut at = 0;
     let mut k = 1;
     while at < s.len() {
-        let e = line_ends::line_end(s, at);
+        let e = sheet_line_ends::line_end(s, at);
         if e == s.len() {
             return Place { start: 0, end: 0 };
         }

@@ -1,8 +1,8 @@
 // Prints the sheet of the text of standard input; where there is none, standard error says why.
-use format::MOST_BYTES;
 use libc::STDERR_FILENO;
 use libc::STDIN_FILENO;
 use libc::STDOUT_FILENO;
+use sheet_format::MOST_BYTES;
 use text_reader::MOST_TEXT;
 use text_to_sheet::Made;
 use text_to_sheet::SPOKEN_BYTES;

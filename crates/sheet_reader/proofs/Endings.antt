@@ -6,18 +6,18 @@ use native.Mathlib.Omega.{arith}
 use borrow.Author.Tests.{lt-ltb, le-ltb}
 use lib.IntN.{ℤ}
 use lib.ListN.{length, take}
-use Rattle.format.specs.Limits.{most-sheet-bytes, most-words}
-use Rattle.format.specs.Line.{byteLines, wordLines, wordsOf}
-use Rattle.format.specs.Cause.{refusal, refusalOf}
-use Rattle.format.specs.Sheet.{over, sheetRefusal, readEnding, readWords}
-use Rattle.format.specs.declared.Refusal.{Refusal}
-use Rattle.format.specs.declared.Ending.{Ending}
-use Rattle.format.specs.declared.Ending.the-variants.{Done, Refused}
-use Rattle.format.proofs.LineLaws.{words-back}
-use Rattle.format.proofs.ScanLaws.{accepted-length}
-use Rattle.written.specs.Wrote.{Wrote}
-use Rattle.written.proofs.Laws.{wrote-over}
-use Rattle.written.proofs.Endings.{refused-way, short-way, done-way}
+use Rattle.sheet_format.specs.Limits.{most-sheet-bytes, most-words}
+use Rattle.sheet_format.specs.Line.{byteLines, wordLines, wordsOf}
+use Rattle.sheet_format.specs.Cause.{refusal, refusalOf}
+use Rattle.sheet_format.specs.Sheet.{over, sheetRefusal, readEnding, readWords}
+use Rattle.sheet_format.specs.declared.Refusal.{Refusal}
+use Rattle.sheet_format.specs.declared.Ending.{Ending}
+use Rattle.sheet_format.specs.declared.Ending.the-variants.{Done, Refused}
+use Rattle.sheet_format.proofs.LineLaws.{words-back}
+use Rattle.sheet_format.proofs.ScanLaws.{accepted-length}
+use Rattle.list_laws.specs.Wrote.{Wrote}
+use Rattle.list_laws.proofs.Laws.{wrote-over}
+use Rattle.list_laws.proofs.Endings.{refused-way, short-way, done-way}
 use Rattle.sheet_reader.specs.Parsed.{Parsed}
 
 abbrev pub Read : List ℕ → List ℤ → List ℤ → Ending → Type 0

@@ -10,12 +10,12 @@ use lib.Dec.{eqb, leb}
 use lib.IntN.{ℤ, pos}
 use lib.ListN.{length, take, drop, getD, set, replicate, length-drop, length-map}
 use lib.Seq.{set-at, take-nil, drop-drop, take-take, length-take-le}
-use Rattle.format.specs.Limits.{field-bytes, most-fields}
-use Rattle.format.specs.Field.{fieldOf, fieldAt}
-use Rattle.format.specs.Line.{all, eights, isNumber, number, fieldsIn, wellFormed, lineOf, lineWords}
-use Rattle.format.specs.declared.Field.{Field}
-use Rattle.format.specs.declared.Field.the-variants.{Number, Malformed}
-use Rattle.format.proofs.Lists.{no-way, and-both, all-append, all-at, map-append}
+use Rattle.sheet_format.specs.Limits.{field-bytes, most-fields}
+use Rattle.sheet_format.specs.Field.{fieldOf, fieldAt}
+use Rattle.sheet_format.specs.Line.{all, eights, isNumber, number, fieldsIn, wellFormed, lineOf, lineWords}
+use Rattle.sheet_format.specs.declared.Field.{Field}
+use Rattle.sheet_format.specs.declared.Field.the-variants.{Number, Malformed}
+use Rattle.sheet_format.proofs.Lists.{no-way, and-both, all-append, all-at, map-append}
 
 -- field j of the bytes t
 abbrev pub fieldIn : List ℕ → ℕ → Field

@@ -8,15 +8,15 @@ use lib.Dec.{eqb}
 use lib.IntN.{ℤ, pos}
 use lib.ListN.{length, take, drop, getD, replicate, length-append, length-drop, drop-of-length-le}
 use lib.Seq.{drop-drop, take-length}
-use Rattle.format.specs.Line.{Line, all, null, byteLines, lineOf, lineWords, wordsOf}
-use Rattle.format.specs.Cause.{scan, start, refusalOf}
-use Rattle.format.proofs.Lists.{no-way, append-nil, gather-append}
-use Rattle.format.proofs.Good.{Good, Goods, nil-good}
-use Rattle.format.proofs.LineLaws.{lines-first, lines-none, lines-open, line-good, goods-append}
-use Rattle.format.proofs.ScanLaws.{refused-front, scan-malformed, scan-long, accepted-lines, accepted-length}
-use Rattle.written.specs.Wrote.{Wrote}
-use Rattle.line_ends.specs.Before.{before}
-use Rattle.line_ends.proofs.Laws.{before-open, before-closes}
+use Rattle.sheet_format.specs.Line.{Line, all, null, byteLines, lineOf, lineWords, wordsOf}
+use Rattle.sheet_format.specs.Cause.{scan, start, refusalOf}
+use Rattle.sheet_format.proofs.Lists.{no-way, append-nil, gather-append}
+use Rattle.sheet_format.proofs.Good.{Good, Goods, nil-good}
+use Rattle.sheet_format.proofs.LineLaws.{lines-first, lines-none, lines-open, line-good, goods-append}
+use Rattle.sheet_format.proofs.ScanLaws.{refused-front, scan-malformed, scan-long, accepted-lines, accepted-length}
+use Rattle.list_laws.specs.Wrote.{Wrote}
+use Rattle.sheet_line_ends.specs.Before.{before}
+use Rattle.sheet_line_ends.proofs.Laws.{before-open, before-closes}
 use Rattle.sheet_reader.specs.Parsed.{Parsed}
 
 -- ---- the line at a place

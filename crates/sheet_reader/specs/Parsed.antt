@@ -4,9 +4,9 @@ use mathlib.Core.List.{List}
 use Prim.Native.Nat.{ℕ, _*_, _≤_}
 use lib.IntN.{ℤ}
 use lib.ListN.{length, take}
-use Rattle.format.specs.Line.{Line, byteLines, wordsOf}
-use Rattle.format.specs.Cause.{refusalOf}
-use Rattle.format.proofs.Good.{Goods}
+use Rattle.sheet_format.specs.Line.{Line, byteLines, wordsOf}
+use Rattle.sheet_format.specs.Cause.{refusalOf}
+use Rattle.sheet_format.proofs.Good.{Goods}
 
 -- the first n lines of the words stand for the sheet's lines: they are refused alike, and are all of them where they are not refused
 pub record Parsed (s : List ℕ) (ws : List ℤ) (n : ℕ) : Type 0 where

@@ -2,20 +2,20 @@
 ghost use mathlib.Core.Path.{_≡_};
 ghost use Prim.Native.Nat.{_+_, _-_, _*_, _≤_};
 ghost use lib.ListN.{length, take, drop};
-ghost use Rattle.format.specs.Line.{lineOf, lineWords};
-ghost use Rattle.format.specs.Sheet.{readEnding, readWords};
-ghost use Rattle.written.specs.Wrote.{Wrote};
+ghost use Rattle.sheet_format.specs.Line.{lineOf, lineWords};
+ghost use Rattle.sheet_format.specs.Sheet.{readEnding, readWords};
+ghost use Rattle.list_laws.specs.Wrote.{Wrote};
 ghost use Rattle.sheet_reader.specs.Parsed.{Parsed};
-use format::Ending;
-use format::FIELD_BYTES;
-use format::Field;
-use format::LINE_WORDS;
-use format::MOST_FIELDS;
-use format::MOST_LINES;
-use format::MOST_SHEET_BYTES;
-use format::MOST_WORDS;
-use format::NO_ROOM;
-use format::TOO_LONG;
+use sheet_format::Ending;
+use sheet_format::FIELD_BYTES;
+use sheet_format::Field;
+use sheet_format::LINE_WORDS;
+use sheet_format::MOST_FIELDS;
+use sheet_format::MOST_LINES;
+use sheet_format::MOST_SHEET_BYTES;
+use sheet_format::MOST_WORDS;
+use sheet_format::NO_ROOM;
+use sheet_format::TOO_LONG;
 
 // The lines that are looked at: one more than an accepted sheet can have. Their words.
 const LINES: usize = MOST_LINES + 1;
@@ -30,7 +30,7 @@ fn fields_at(s: &[u8], at: usize, n: usize) -> [i32; LINE_WORDS]
     let mut ws = [0i32; LINE_WORDS];
     let mut j = 0;
     while j < n {
-        let f = fields::field(s, at + j * FIELD_BYTES);
+        let f = sheet_fields::field(s, at + j * FIELD_BYTES);
         let Field::Number(z) = f else {
             return [0i32; LINE_WORDS];
         };
@@ -84,7 +84,7 @@ fn parse(s: &[u8], ws: &mut [i32]) -> usize
         if n == LINES {
             return n;
         }
-        let e = line_ends::line_end(s, at);
+        let e = sheet_line_ends::line_end(s, at);
         if e == s.len() {
             put_line(ws, n, [0i32; LINE_WORDS]);
             return n + 1;
@@ -121,7 +121,7 @@ pub fn read(sheet: &[u8], out: &mut [i32]) -> Ending
     }
     let mut ws = [0i32; WORDS];
     let n = parse(sheet, &mut ws);
-    let r = causes::refusal(&ws[..n * LINE_WORDS]);
+    let r = sheet_causes::refusal(&ws[..n * LINE_WORDS]);
     if r.number != 0 {
         return Ending::Refused(r.number, r.line);
     }

@@ -9,16 +9,16 @@ use borrow.Author.Tests.{not-true}
 use lib.IntN.{ℤ, pos}
 use lib.ListN.{length, take, drop, getD, set, length-drop}
 use lib.Seq.{take-suc, take-length, getD-take, getD-drop, length-take-le, drop-drop}
-use Rattle.format.specs.Limits.{line-words}
-use Rattle.format.specs.Field.{fieldBytes}
-use Rattle.format.specs.Line.{Line, all, gather, null, count, wordLine, sevens, wordLines, lineBytes, bytesOf}
-use Rattle.format.specs.Cause.{refusalOf}
-use Rattle.format.proofs.Lists.{append-nil, gather-append, all-at}
-use Rattle.format.proofs.Good.{Goods}
-use Rattle.format.proofs.LineLaws.{FormedWords, word-formed, natural-pos, sevens-good, sevens-length, bytes-size}
-use Rattle.format.proofs.ScanLaws.{accepted-lines, accepted-length}
-use Rattle.written.specs.Wrote.{Wrote}
-use Rattle.written.proofs.Laws.{wrote-none, wrote-more, wrote-join}
+use Rattle.sheet_format.specs.Limits.{line-words}
+use Rattle.sheet_format.specs.Field.{fieldBytes}
+use Rattle.sheet_format.specs.Line.{Line, all, gather, null, count, wordLine, sevens, wordLines, lineBytes, bytesOf}
+use Rattle.sheet_format.specs.Cause.{refusalOf}
+use Rattle.sheet_format.proofs.Lists.{append-nil, gather-append, all-at}
+use Rattle.sheet_format.proofs.Good.{Goods}
+use Rattle.sheet_format.proofs.LineLaws.{FormedWords, word-formed, natural-pos, sevens-good, sevens-length, bytes-size}
+use Rattle.sheet_format.proofs.ScanLaws.{accepted-lines, accepted-length}
+use Rattle.list_laws.specs.Wrote.{Wrote}
+use Rattle.list_laws.proofs.Laws.{wrote-none, wrote-more, wrote-join}
 
 abbrev pub sevenAt : List ℤ → ℕ → List ℤ
 sevenAt ws i = take 7 (drop (i * 7) ws)

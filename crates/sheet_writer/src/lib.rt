@@ -3,19 +3,19 @@ ghost use mathlib.Core.Path.{_≡_};
 ghost use mathlib.Core.Bool.{false};
 ghost use Prim.Native.Nat.{_+_, _*_, _≤_};
 ghost use lib.ListN.{length, take, drop};
-ghost use Rattle.format.specs.Field.{fieldBytes};
-ghost use Rattle.format.specs.Line.{lineBytes, bytesOf, wordLine, wordLines, null};
-ghost use Rattle.format.specs.Cause.{refusalOf};
-ghost use Rattle.format.specs.Sheet.{writeEnding, writeBytes};
-ghost use Rattle.written.specs.Wrote.{Wrote};
-use format::Ending;
-use format::FIELD_BYTES;
-use format::LINE_WORDS;
-use format::MALFORMED;
-use format::MOST_BYTES;
-use format::MOST_WORDS;
-use format::NO_ROOM;
-use format::TOO_LONG;
+ghost use Rattle.sheet_format.specs.Field.{fieldBytes};
+ghost use Rattle.sheet_format.specs.Line.{lineBytes, bytesOf, wordLine, wordLines, null};
+ghost use Rattle.sheet_format.specs.Cause.{refusalOf};
+ghost use Rattle.sheet_format.specs.Sheet.{writeEnding, writeBytes};
+ghost use Rattle.list_laws.specs.Wrote.{Wrote};
+use sheet_format::Ending;
+use sheet_format::FIELD_BYTES;
+use sheet_format::LINE_WORDS;
+use sheet_format::MALFORMED;
+use sheet_format::MOST_BYTES;
+use sheet_format::MOST_WORDS;
+use sheet_format::NO_ROOM;
+use sheet_format::TOO_LONG;
 
 // Eight bytes at a place of the output.
 fn put_eight(out: &mut [u8], at: usize, b: [u8; FIELD_BYTES])
@@ -34,7 +34,7 @@ fn put_field(out: &mut [u8], at: usize, z: i32)
     requires { ⌜ at + 8 ≤ length (now out) ⌝ }
     ensures { λ r. ⌜ Wrote (now (out .entry)) (now (out .exit)) at (at + 8) (fieldBytes z) ⌝ }
 {
-    put_eight(out, at, fields::field_bytes(z));
+    put_eight(out, at, sheet_fields::field_bytes(z));
 }
 
 // The bytes of line i of the words, with byte 10, at a place of the output; the place after them.
@@ -79,7 +79,7 @@ pub fn write(words: &[i32], out: &mut [u8]) -> Ending
     if words.len() % LINE_WORDS != 0 {
         return Ending::Refused(MALFORMED, 0);
     }
-    let r = causes::refusal(words);
+    let r = sheet_causes::refusal(words);
     if r.number != 0 {
         return Ending::Refused(r.number, r.line);
     }

@@ -5,7 +5,7 @@ use mathlib.Core.Logic.{_⊎_, inl, inr, ⊎-elim}
 use Prim.Native.Nat.{ℕ, _-_, _≤_, _<_}
 use native.Mathlib.Omega.{arith}
 use lib.ListN.{length, take}
-use Rattle.format.specs.Sheet.{sheetRefusal}
+use Rattle.sheet_format.specs.Sheet.{sheetRefusal}
 use Rattle.text_to_sheet.specs.Texts.{Written, Silent, Worded, at-line, refused, Told}
 use Rattle.text_to_sheet.specs.declared.Made.{Made}
 use Rattle.text_to_sheet.specs.declared.Made.the-variants as made

@@ -1,5 +1,5 @@
 // What comes of a sheet or a text, in words.
-use format::MOST_BYTES;
+use sheet_format::MOST_BYTES;
 use text_message::message;
 use text_to_sheet::Made;
 use text_to_sheet::sheet_of;

@@ -1,6 +1,6 @@
 // What causes say, in words, put at a place of a buffer.
-use puts::put;
-ghost use Rattle.puts.specs.Puts.{Put};
+use text_buffer::put;
+ghost use Rattle.text_buffer.specs.Puts.{Put};
 ghost use Rattle.text_writer.specs.Texts.{causeBytes};
 
 // What a cause for sending back says.

@@ -1,5 +1,5 @@
 // Facts as bytes, put at a place of a buffer.
-use puts::put;
+use text_buffer::put;
 use text_writer::natural;
 use text_writer::put_relation;
 use text_writer::put_terms;
@@ -9,8 +9,8 @@ ghost use mathlib.Core.List.{_++_};
 ghost use Prim.Native.Nat.{min};
 ghost use lib.Dec.{eqb};
 ghost use lib.ListN.{length};
-ghost use Rattle.puts.specs.Puts.{Put};
-ghost use Rattle.puts.specs.Words.{bytes};
+ghost use Rattle.text_buffer.specs.Puts.{Put};
+ghost use Rattle.text_buffer.specs.Words.{bytes};
 ghost use Rattle.text_writer.specs.Texts.{factBytes, factsBytes};
 
 // The words of a fact.
@@ -49,7 +49,7 @@ fn put_fact(out: &mut [u8], at: usize, fact: &[i32]) -> usize
     ensures { λ r. ⌜ Put (now (out .entry)) (now (out .exit)) at (factBytes (now (fact .entry))) r ⌝ }
 {
     let relation = fact[0];
-    let columns = least(terms::columns(relation), 4);
+    let columns = least(sheet_terms::columns(relation), 4);
     let n = put_relation(out, at, natural(relation));
     put_terms(out, n, &fact[1..1 + columns])
 }

@@ -6,7 +6,7 @@ use native.Mathlib.Omega.{arith}
 use lib.IntN.{ℤ}
 use lib.ListN.{length, take, drop, length-drop}
 use lib.Seq.{take-all}
-use Rattle.format.proofs.Lists.{append-nil}
+use Rattle.sheet_format.proofs.Lists.{append-nil}
 use Rattle.text_writer.specs.Texts.{factBytes, factsBytes, separated, following, groups}
 use Rattle.text_writer.proofs.Parts.{whole-fact}
 

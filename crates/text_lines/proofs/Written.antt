@@ -10,9 +10,9 @@ use lib.ListN.{length, take, drop, drop-of-length-le}
 use lib.Seq.{drop-cons}
 use mathlib.Core.Logic.{⊎-elim}
 use borrow.Author.Tests.{lt-ltb, le-ltb}
-use Rattle.format.proofs.Lists.{append-nil}
-use Rattle.puts.specs.Puts.{Put}
-use Rattle.puts.proofs.Laws.{nothing, followed, said, below}
+use Rattle.sheet_format.proofs.Lists.{append-nil}
+use Rattle.text_buffer.specs.Puts.{Put}
+use Rattle.text_buffer.proofs.Laws.{nothing, followed, said, below}
 use Rattle.text_writer.specs.Texts.{groups, lineKind, blockAt, firstKind, lineBytes, linesFrom}
 use Rattle.text_writer.proofs.Parts.{groups-length, groups-at}
 

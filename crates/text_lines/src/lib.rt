@@ -1,10 +1,10 @@
 // The lines of a number form as bytes, put at a place of a buffer.
-use format::ATOM_KIND;
-use format::LINE_WORDS;
-use format::ROW_KIND;
-use format::VIEW_KIND;
-use puts::put;
-use puts::put_byte;
+use sheet_format::ATOM_KIND;
+use sheet_format::LINE_WORDS;
+use sheet_format::ROW_KIND;
+use sheet_format::VIEW_KIND;
+use text_buffer::put;
+use text_buffer::put_byte;
 use text_facts::put_facts;
 use text_writer::natural;
 use text_writer::put_term;
@@ -14,7 +14,7 @@ ghost use mathlib.Core.Bool.{cond};
 ghost use Prim.Native.Nat.{_≤_, _-_, _/_, _*_};
 ghost use lib.Dec.{ltb};
 ghost use lib.ListN.{length, take, drop};
-ghost use Rattle.puts.specs.Puts.{Put};
+ghost use Rattle.text_buffer.specs.Puts.{Put};
 ghost use Rattle.text_writer.specs.Texts.{small, lineKind, blockAt, headBytes, atomBytes, valuesBytes, rowBytes, kindBytes, lineBytes, linesBytes};
 
 // A field count or a kind of the number form.

@@ -1,9 +1,9 @@
 // Prints the text of the sheet of standard input; where it is refused, standard error says why.
-use format::Ending;
-use format::MOST_SHEET_BYTES;
 use libc::STDERR_FILENO;
 use libc::STDIN_FILENO;
 use libc::STDOUT_FILENO;
+use sheet_format::Ending;
+use sheet_format::MOST_SHEET_BYTES;
 use text_to_sheet::Made;
 use text_to_sheet::SPOKEN_BYTES;
 use text_to_sheet::TEXT_BYTES;
@@ -19,7 +19,7 @@ fn main() {
 
 fn print(given: &[u8]) {
     let mut text = [0u8; TEXT_BYTES];
-    match sheet_to_text::text_of(given, &mut text) {
+    match text_from_sheet::text_of(given, &mut text) {
         Ending::Done(n) => {
             if n <= text.len() {
                 io::write_all(STDOUT_FILENO, &text[0..n]);

@@ -2,14 +2,14 @@
 //
 // A token is a word, a number, one other byte, or the end of a line. A word that begins with a capital letter names a relation; any other
 // names a variable, or the block's kind. The machine stands at a place, and each token takes it to the next.
-use format::ATOM_KIND;
-use format::LINE_WORDS;
-use format::MOST_FIELDS;
-use format::MOST_LINES;
-use format::QUESTION_KIND;
-use format::ROW_KIND;
-use format::SAVED_KIND;
-use format::VIEW_KIND;
+use sheet_format::ATOM_KIND;
+use sheet_format::LINE_WORDS;
+use sheet_format::MOST_FIELDS;
+use sheet_format::MOST_LINES;
+use sheet_format::QUESTION_KIND;
+use sheet_format::ROW_KIND;
+use sheet_format::SAVED_KIND;
+use sheet_format::VIEW_KIND;
 use text_begins::blanks;
 use text_begins::letter;
 ghost use mathlib.Core.Path.{_≡_};
@@ -484,7 +484,7 @@ fn more(s: State) -> State {
 fn columns(s: State) -> usize {
     let r = s.relation;
     if r <= RELATIONS {
-        return least(terms::columns(r as i32), MOST_COLUMNS) + 2;
+        return least(sheet_terms::columns(r as i32), MOST_COLUMNS) + 2;
     }
     2
 }

@@ -1,11 +1,11 @@
 // Refusals in words, put at a place of a buffer.
-use puts::put;
-use puts::put_byte;
+use text_buffer::put;
+use text_buffer::put_byte;
 use text_causes::put_cause;
 use text_words::put_what;
 use text_writer::put_number;
 ghost use mathlib.Core.List.{_++_};
-ghost use Rattle.puts.specs.Puts.{Put};
+ghost use Rattle.text_buffer.specs.Puts.{Put};
 ghost use Rattle.text_writer.specs.Texts.{unless0, numberBytes, refusalBytes, expectedBytes};
 
 // A number after words; nothing where it is 0.

@@ -5,9 +5,9 @@ use Prim.Native.Nat.{ℕ, _+_, _≤_}
 use native.Mathlib.Omega.{arith}
 use lib.ListN.{length, take, drop}
 use lib.Seq.{take-at, drop-at}
-use Rattle.puts.specs.Puts.{Put}
-use Rattle.puts.proofs.Laws.{kept, reached-all, placed-all}
-use Rattle.written.specs.Wrote.{Wrote}
+use Rattle.text_buffer.specs.Puts.{Put}
+use Rattle.text_buffer.proofs.Laws.{kept, reached-all, placed-all}
+use Rattle.list_laws.specs.Wrote.{Wrote}
 
 pub all-fits : {a b : List ℕ} {r : ℕ} {s : List ℕ} → Put a b 0 s r → length s ≤ length a → Wrote a b 0 r s
 all-fits {a} {b} {r} {s} p h =

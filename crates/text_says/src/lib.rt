@@ -1,9 +1,9 @@
 // What is said, in front of a buffer that has room for it.
-use puts::put;
+use text_buffer::put;
 ghost use mathlib.Core.List.{_++_};
 ghost use Prim.Native.Nat.{_+_, _≤_};
 ghost use lib.ListN.{length};
-ghost use Rattle.written.specs.Wrote.{Wrote};
+ghost use Rattle.list_laws.specs.Wrote.{Wrote};
 ghost use Rattle.text_to_sheet.specs.Texts.{Worded, refused};
 
 // What words come to after their beginning, at most.

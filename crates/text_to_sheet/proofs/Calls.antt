@@ -6,11 +6,11 @@ use native.Mathlib.Omega.{arith}
 use lib.IntN.{ℤ, pos}
 use lib.ListN.{length, take, drop, replicate, length-append, length-replicate}
 use lib.Seq.{drop-at}
-use Rattle.format.specs.Limits.{most-words, most-bytes, line-words}
-use Rattle.format.specs.Line.{bytesOf, wordLines}
-use Rattle.format.specs.Sheet.{lentBy, readEnding, wordsRefusal, writeEnding, writeBytes}
-use Rattle.format.specs.declared.Ending.the-variants.{Done, Refused}
-use Rattle.format.proofs.RoundTrip.{ending-done, write-read}
+use Rattle.sheet_format.specs.Limits.{most-words, most-bytes, line-words}
+use Rattle.sheet_format.specs.Line.{bytesOf, wordLines}
+use Rattle.sheet_format.specs.Sheet.{lentBy, readEnding, wordsRefusal, writeEnding, writeBytes}
+use Rattle.sheet_format.specs.declared.Ending.the-variants.{Done, Refused}
+use Rattle.sheet_format.proofs.RoundTrip.{ending-done, write-read}
 use Rattle.sheet.proofs.Calls.{clean-sheet}
 use Rattle.text_to_sheet.specs.Texts.{Sheets}
 

@@ -4,16 +4,16 @@ use mathlib.Core.List.{List, [], _∷_, _++_}
 use mathlib.Core.Logic.{_⊎_}
 use Prim.Native.Nat.{ℕ, _≤_, _<_}
 use lib.ListN.{length, take, drop}
-use Rattle.format.specs.Line.{byteLines, wordsOf}
-use Rattle.format.specs.Cause.{refusal}
-use Rattle.format.specs.Sheet.{sheetRefusal}
-use Rattle.format.specs.declared.Ending.{Ending}
-use Rattle.format.specs.declared.Ending.the-variants.{Done, Refused}
-use Rattle.written.specs.Wrote.{Wrote}
-use Rattle.puts.specs.Puts.{Put}
+use Rattle.sheet_format.specs.Line.{byteLines, wordsOf}
+use Rattle.sheet_format.specs.Cause.{refusal}
+use Rattle.sheet_format.specs.Sheet.{sheetRefusal}
+use Rattle.sheet_format.specs.declared.Ending.{Ending}
+use Rattle.sheet_format.specs.declared.Ending.the-variants.{Done, Refused}
+use Rattle.list_laws.specs.Wrote.{Wrote}
+use Rattle.text_buffer.specs.Puts.{Put}
 use Rattle.text_writer.specs.Texts.{linesBytes}
-use Rattle.verdicts.specs.Verdict.{HasVerdict}
-use Rattle.verdicts.specs.Sheets.{sheetOf}
+use Rattle.case_verdicts.specs.Verdict.{HasVerdict}
+use Rattle.case_verdicts.specs.Sheets.{sheetOf}
 use Rattle.text_to_sheet.specs.declared.Made.{Made}
 use Rattle.text_to_sheet.specs.declared.Made.the-variants as made
 

@@ -1,7 +1,7 @@
 // A plain text as a sheet.
-use format::Ending;
-use format::LINE_WORDS;
-use format::MOST_LINES;
+use sheet_format::Ending;
+use sheet_format::LINE_WORDS;
+use sheet_format::MOST_LINES;
 use text_reader::EXPECT_SHORTER;
 use text_reader::MOST_TEXT;
 use text_reader::WORDS;

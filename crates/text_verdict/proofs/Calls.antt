@@ -6,15 +6,15 @@ use Prim.Native.Nat.{ℕ, zero, suc, _<_}
 use native.Mathlib.Omega.{arith}
 use lib.IntN.{ℤ}
 use lib.ListN.{length}
-use Rattle.format.specs.Line.{byteLines}
-use Rattle.format.specs.Sheet.{sheetRefusal}
-use Rattle.format.proofs.Lists.{append-nil}
-use Rattle.written.specs.Wrote.{Wrote}
+use Rattle.sheet_format.specs.Line.{byteLines}
+use Rattle.sheet_format.specs.Sheet.{sheetRefusal}
+use Rattle.sheet_format.proofs.Lists.{append-nil}
+use Rattle.list_laws.specs.Wrote.{Wrote}
 use Rattle.judge.specs.Judged.{Judged, Sent}
 use Rattle.judge.specs.declared.Judgement.{Judgement}
 use Rattle.judge.proofs.Verdicts.{verdict-only-when}
-use Rattle.verdicts.specs.Verdict.{HasVerdict}
-use Rattle.verdicts.specs.Sheets.{sheetOf}
+use Rattle.case_verdicts.specs.Verdict.{HasVerdict}
+use Rattle.case_verdicts.specs.Sheets.{sheetOf}
 use Rattle.text_to_sheet.specs.Texts.{Holds}
 
 module _ (s : List ℕ) (lent after : List ℤ) (j : Judgement) (judged : Judged s lent after j) (room : length lent ≡ 640) where

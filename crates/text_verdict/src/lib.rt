@@ -1,9 +1,9 @@
 // Verdicts in words.
-use format::FIELD_BYTES;
 use judge::COVERED;
 use judge::LEAST_ROOM;
 use judge::NO_LOG;
 use judge::REFUSED;
+use sheet_format::FIELD_BYTES;
 use text_says::REST;
 use text_says::say;
 use text_says::say_refusal;
@@ -50,9 +50,9 @@ fn put_case(
     ];
     let columns = columns(sheet);
     let a = text_writer::put_terms(out, 0, &row[0..columns]);
-    let b = puts::put(out, a, b" is missing. Log: ");
+    let b = text_buffer::put(out, a, b" is missing. Log: ");
     let c = text_facts::put_facts(out, b, facts, count);
-    puts::put(out, c, b"\n")
+    text_buffer::put(out, c, b"\n")
 }
 
 // Judges a sheet, and says the verdict in words.

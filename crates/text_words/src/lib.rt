@@ -1,7 +1,7 @@
 // What was expected, in words, put at a place of a buffer.
-use puts::put;
+use text_buffer::put;
 use text_writer::put_relation;
-ghost use Rattle.puts.specs.Puts.{Put};
+ghost use Rattle.text_buffer.specs.Puts.{Put};
 ghost use Rattle.text_writer.specs.Texts.{countBytes, columnsBytes, whatBytes};
 
 // How many columns a relation has.
@@ -22,7 +22,7 @@ fn put_columns(out: &mut [u8], at: usize, relation: usize) -> usize
     if 10 < relation {
         return at;
     }
-    let n = put_count(out, at, terms::columns(relation as i32));
+    let n = put_count(out, at, sheet_terms::columns(relation as i32));
     put_relation(out, n, relation)
 }
 

@@ -8,7 +8,7 @@ use lib.IntN.{ℤ, pos, negsuc}
 use lib.ListN.{getD}
 use lib.Signed.{ltZ, mag}
 use borrow.Author.Tests.{ltb-true}
-use Rattle.format.specs.Line.{natural as toNat}
+use Rattle.sheet_format.specs.Line.{natural as toNat}
 use mir.Syntax.{w32}
 use mir.Val.{SFits, toZ, ofZ}
 use mir.ValLaws.{toZ-ofZ}

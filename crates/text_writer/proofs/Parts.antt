@@ -15,15 +15,15 @@ use mir.Syntax.{w32}
 use mir.Val.{toZ}
 use mir.ValLaws.{toZ-pos}
 use borrow.Author.Tests.{eq-eqb, ne-eqb, lt-ltb, le-ltb}
-use Rattle.format.specs.Line.{natural}
-use Rattle.format.specs.Cause.{termOf}
-use Rattle.format.specs.Relations.{columnsAt, columnsOf}
-use Rattle.format.specs.declared.Term.{Term}
-use Rattle.format.specs.declared.Term.the-variants.{Constant, Variable, OutOfRange}
-use Rattle.format.proofs.Lists.{append-nil, map-append}
-use Rattle.puts.specs.Puts.{Put}
-use Rattle.puts.specs.Words.{bytes}
-use Rattle.puts.proofs.Laws.{followed}
+use Rattle.sheet_format.specs.Line.{natural}
+use Rattle.sheet_format.specs.Cause.{termOf}
+use Rattle.sheet_format.specs.Relations.{columnsAt, columnsOf}
+use Rattle.sheet_format.specs.declared.Term.{Term}
+use Rattle.sheet_format.specs.declared.Term.the-variants.{Constant, Variable, OutOfRange}
+use Rattle.sheet_format.proofs.Lists.{append-nil, map-append}
+use Rattle.text_buffer.specs.Puts.{Put}
+use Rattle.text_buffer.specs.Words.{bytes}
+use Rattle.text_buffer.proofs.Laws.{followed}
 use Rattle.text_writer.specs.Texts.{plain, following, separated, groups, numbered, wordBytes, numberBytes, variableLetter, termAs, termBytes, termsBytes, relationNames, relationBytes, factBytes, small, lineKind, lineTerms, countBytes, columnsBytes}
 
 -- ---- without blanks

@@ -5,13 +5,13 @@ use Prim.Native.Nat.{ℕ, zero, suc, _+_, _-_, _/_, min}
 use lib.Dec.{eqb, ltb}
 use lib.IntN.{ℤ, pos}
 use lib.ListN.{length, getD, take, drop}
-use Rattle.format.specs.Field.{fieldBytes}
-use Rattle.format.specs.Line.{natural}
-use Rattle.format.specs.Cause.{termOf}
-use Rattle.format.specs.Relations.{columnsAt, columnsOf}
-use Rattle.format.specs.declared.Term.{Term}
-use Rattle.format.specs.declared.Term.the-variants.{Constant, Variable, OutOfRange}
-use Rattle.puts.specs.Words.{bytes}
+use Rattle.sheet_format.specs.Field.{fieldBytes}
+use Rattle.sheet_format.specs.Line.{natural}
+use Rattle.sheet_format.specs.Cause.{termOf}
+use Rattle.sheet_format.specs.Relations.{columnsAt, columnsOf}
+use Rattle.sheet_format.specs.declared.Term.{Term}
+use Rattle.sheet_format.specs.declared.Term.the-variants.{Constant, Variable, OutOfRange}
+use Rattle.text_buffer.specs.Words.{bytes}
 use Rattle.text_begins.specs.Begins.{letterOf}
 
 -- ---- parts

@@ -1,16 +1,16 @@
 // Numbers, terms and names of relations, as bytes, and what the bytes of texts are. Each function puts bytes at a place of a buffer, and returns
 // the place after them; what does not fit is left out.
-use format::Term;
-use puts::put_byte;
+use sheet_format::Term;
+use text_buffer::put_byte;
 use text_reader::NAME;
 use text_reader::NAMES;
 ghost use mathlib.Core.Path.{_≡_};
 ghost use mathlib.Core.Bool.{cond};
 ghost use mathlib.Core.List.{[], _∷_, _++_};
 ghost use lib.Dec.{eqb};
-ghost use Rattle.format.specs.Line.{natural};
-ghost use Rattle.puts.specs.Puts.{Put};
-ghost use Rattle.puts.specs.Words.{bytes};
+ghost use Rattle.sheet_format.specs.Line.{natural};
+ghost use Rattle.text_buffer.specs.Puts.{Put};
+ghost use Rattle.text_buffer.specs.Words.{bytes};
 ghost use Rattle.text_writer.specs.Texts.{plain, wordBytes, numberBytes, variableLetter, termBytes, termsBytes, relationBytes};
 
 // A byte that is no blank.
@@ -40,7 +40,7 @@ fn put_plain(out: &mut [u8], at: usize, s: &[u8]) -> usize
 fn put_word(out: &mut [u8], at: usize, w: i32) -> usize
     ensures { λ r. ⌜ Put (now (out .entry)) (now (out .exit)) at (wordBytes w) r ⌝ }
 {
-    let field = fields::field_bytes(w);
+    let field = sheet_fields::field_bytes(w);
     put_plain(out, at, &field)
 }
 
@@ -69,7 +69,7 @@ fn variable(index: usize) -> u8
 pub fn put_term(out: &mut [u8], at: usize, w: i32) -> usize
     ensures { λ r. ⌜ Put (now (out .entry)) (now (out .exit)) at (termBytes w) r ⌝ }
 {
-    match terms::term_of(w) {
+    match sheet_terms::term_of(w) {
         Term::Variable(index) => put_byte(out, at, variable(index)),
         Term::Constant(_) => put_word(out, at, w),
         Term::OutOfRange => put_word(out, at, w),

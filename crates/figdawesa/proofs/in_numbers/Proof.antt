@@ -1,6 +1,6 @@
 use mathlib.Core.Path.{sym, ap}
 use borrow.Author.Needs.{needs}
-use Rattle.format.specs.Sheet.{returned}
+use Rattle.sheet_format.specs.Sheet.{returned}
 use Rattle.figdawesa.proofs.in_numbers.Statement.{statement}
 use Rattle.figdawesa.proofs.in_numbers.Tie as tie
 

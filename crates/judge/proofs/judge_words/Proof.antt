@@ -1,7 +1,7 @@
 -- The plan of an accepted number form is ready for the search.
 use mathlib.Core.Path.{refl}
-use Rattle.format.specs.Line.{wordLines}
-use Rattle.verdicts.specs.Sheets.{sheetOf}
+use Rattle.sheet_format.specs.Line.{wordLines}
+use Rattle.case_verdicts.specs.Sheets.{sheetOf}
 use Rattle.judge.proofs.Ways.{decided-short, ready-plan}
 use borrow.Author.Needs.{needs}
 use Rattle.judge.proofs.judge_words.Statement.{statement}
@@ -10,7 +10,7 @@ use Rattle.judge.proofs.judge_words.Reads as reads
 use Rattle.judge.proofs.judge_words.Lts as lts
 use Rattle.judge.proofs.decide.Reads as decide-reads
 use Rattle.judge.proofs.plain.Reads as plain-reads
-use Rattle.plan.proofs.plan.Reads as plan-reads
+use Rattle.tableau_plan.proofs.plan.Reads as plan-reads
 
 plain-requires : tie.Need-plain-requires
 plain-requires c κs = search needs

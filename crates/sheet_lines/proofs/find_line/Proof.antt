@@ -3,8 +3,8 @@ use Prim.Native.Nat.{_≤_, _-_, _+_}
 use native.Mathlib.Omega.{arith}
 use borrow.Author.Needs.{needs}
 use lib.ListN.{length}
-use Rattle.format.specs.Line.{lineAt}
-use Rattle.line_ends.proofs.Laws.{end-inside}
+use Rattle.sheet_format.specs.Line.{lineAt}
+use Rattle.sheet_line_ends.proofs.Laws.{end-inside}
 use Rattle.sheet_lines.proofs.FindLaws.{lineFrom, from-start, from-next, found-none, found-end, found-here}
 use Rattle.sheet_lines.specs.Start.{lineStart}
 use Rattle.sheet_lines.proofs.StartLaws.{startFrom, start-first, start-next, start-none, start-end, start-here}

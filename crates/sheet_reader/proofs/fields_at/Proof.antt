@@ -4,7 +4,7 @@ use native.Mathlib.Omega.{arith}
 use borrow.Author.Needs.{needs}
 use lib.ListN.{length, drop}
 use mathlib.Core.Bool.{true}
-use Rattle.format.specs.Line.{all, isNumber}
+use Rattle.sheet_format.specs.Line.{all, isNumber}
 use Rattle.sheet_reader.proofs.LineOf.{firsts, partWords, part-more, all-more, line-none, line-whole, line-broken, field-here}
 use lib.IntN.{pos}
 use lib.ListN.{set, take, length-drop}

@@ -3,7 +3,7 @@ use Prim.Native.Nat.{_-_, _*_}
 use native.Mathlib.Omega.{arith}
 use Prim.Native.Nat.{_/_}
 use lib.ListN.{take, drop}
-use Rattle.format.specs.Line.{lineOf, lineWords}
+use Rattle.sheet_format.specs.Line.{lineOf, lineWords}
 use Rattle.sheet_reader.proofs.LineOf.{line-none, odd-length, no-fields, many-fields, part-length}
 use borrow.Author.Needs.{needs}
 use Rattle.sheet_reader.proofs.line_words.Statement.{statement}

@@ -2,11 +2,11 @@ use mathlib.Core.Path.{sym, ap, _∙_, subst}
 use Prim.Native.Nat.{_-_, _+_, _*_}
 use native.Mathlib.Omega.{arith}
 use lib.ListN.{length, getD, drop}
-use Rattle.line_ends.specs.Before.{before}
-use Rattle.written.specs.Wrote.{Wrote}
+use Rattle.sheet_line_ends.specs.Before.{before}
+use Rattle.list_laws.specs.Wrote.{Wrote}
 use Rattle.sheet_reader.proofs.ParseLaws.{Parsing, parsing-none, parsing-more, parsed-long, parsed-all, parsed-open, parsed-broken, no-count}
-use Rattle.line_ends.proofs.Laws.{end-inside}
-use Rattle.format.specs.Line.{lineOf}
+use Rattle.sheet_line_ends.proofs.Laws.{end-inside}
+use Rattle.sheet_format.specs.Line.{lineOf}
 use lib.ListN.{take}
 use lib.IntN.{pos}
 use mir.Syntax.{w32}

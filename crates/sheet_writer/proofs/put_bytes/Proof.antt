@@ -7,10 +7,10 @@ use lib.IntN.{pos, natAbs}
 use lib.ListN.{length-set}
 use mir.Syntax.{w32}
 use mir.ValLaws.{toZ-ofZ}
-use Rattle.format.specs.Field.{fieldBytes}
-use Rattle.format.specs.Line.{gather, wordLine}
-use Rattle.written.specs.Wrote.{Wrote}
-use Rattle.written.proofs.Laws.{wrote-none}
+use Rattle.sheet_format.specs.Field.{fieldBytes}
+use Rattle.sheet_format.specs.Line.{gather, wordLine}
+use Rattle.list_laws.specs.Wrote.{Wrote}
+use Rattle.list_laws.proofs.Laws.{wrote-none}
 use Rattle.sheet_writer.proofs.WriteLaws.{sevenAt, first-word, line-few, field-word, field-more, line-closed}
 use Rattle.sheet_writer.proofs.put_bytes.Statement.{statement}
 use Rattle.sheet_writer.proofs.put_bytes.Tie as tie

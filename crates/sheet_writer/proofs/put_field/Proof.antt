@@ -2,8 +2,8 @@ use mathlib.Core.Path.{ap, _∙_, subst}
 use Prim.Native.Nat.{_+_}
 use mir.Syntax.{w32}
 use mir.ValLaws.{toZ-ofZ}
-use Rattle.format.specs.Field.{fieldBytes}
-use Rattle.written.specs.Wrote.{Wrote}
+use Rattle.sheet_format.specs.Field.{fieldBytes}
+use Rattle.list_laws.specs.Wrote.{Wrote}
 use borrow.Author.Needs.{needs}
 use Rattle.sheet_writer.proofs.put_field.Statement.{statement}
 use Rattle.sheet_writer.proofs.put_field.Tie as tie

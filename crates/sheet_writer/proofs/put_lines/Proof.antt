@@ -4,8 +4,8 @@ use native.Mathlib.Omega.{arith}
 use borrow.Author.Needs.{needs}
 use Prim.Native.Nat.{_/_}
 use lib.ListN.{length, take}
-use Rattle.format.specs.Line.{bytesOf, wordLines}
-use Rattle.written.specs.Wrote.{Wrote}
+use Rattle.sheet_format.specs.Line.{bytesOf, wordLines}
+use Rattle.list_laws.specs.Wrote.{Wrote}
 use Rattle.sheet_writer.proofs.WriteLaws.{lines-none, few-lines, line-formed, at-small, lines-more, lines-all}
 use Rattle.sheet_writer.proofs.put_lines.Statement.{statement}
 use Rattle.sheet_writer.proofs.put_lines.Tie as tie

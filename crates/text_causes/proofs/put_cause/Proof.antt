@@ -2,9 +2,9 @@
 use native.Mathlib.Omega.{arith}
 use borrow.Author.Needs.{needs}
 use Rattle.text_writer.proofs.Parts.{known, apart, numbered-else}
-use Rattle.puts.proofs.Laws.{said}
+use Rattle.text_buffer.proofs.Laws.{said}
 use Rattle.text_writer.specs.Texts.{causeBytes, causes}
-use Rattle.puts.specs.Words.{bytes}
+use Rattle.text_buffer.specs.Words.{bytes}
 use Rattle.text_causes.proofs.put_cause.Statement.{statement}
 use Rattle.text_causes.proofs.put_cause.Tie as tie
 

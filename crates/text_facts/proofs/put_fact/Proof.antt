@@ -2,10 +2,10 @@
 use mathlib.Core.Path.{ap, _∙_}
 use borrow.Author.Needs.{needs}
 use Rattle.text_writer.proofs.Parts.{fact-parts}
-use Rattle.puts.proofs.Laws.{said, followed}
+use Rattle.text_buffer.proofs.Laws.{said, followed}
 use Rattle.text_writer.proofs.Laws.{word-back}
-use Rattle.format.specs.Line.{natural}
-use Rattle.format.specs.Relations.{columnsOf}
+use Rattle.sheet_format.specs.Line.{natural}
+use Rattle.sheet_format.specs.Relations.{columnsOf}
 use Rattle.text_facts.proofs.put_fact.Statement.{statement}
 use Rattle.text_facts.proofs.put_fact.Tie as tie
 

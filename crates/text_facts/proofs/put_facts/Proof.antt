@@ -5,9 +5,9 @@ use native.Mathlib.Omega.{arith}
 use borrow.Author.Needs.{needs}
 use lib.ListN.{length, take}
 use mathlib.Core.List.{[], map, List, _++_}
-use Rattle.puts.specs.Puts.{Put}
-use Rattle.puts.specs.Words.{bytes}
-use Rattle.puts.proofs.Laws.{nothing, kept, said}
+use Rattle.text_buffer.specs.Puts.{Put}
+use Rattle.text_buffer.specs.Words.{bytes}
+use Rattle.text_buffer.proofs.Laws.{nothing, kept, said}
 use Rattle.text_writer.specs.Texts.{separated, groups, factBytes, factsBytes}
 use Rattle.text_writer.proofs.Parts.{more-separated, groups-length, groups-at, part-of}
 use lib.Seq.{take-all}

@@ -1,9 +1,9 @@
 -- A comma stands before each fact but the first.
 use borrow.Author.Needs.{needs}
 use Rattle.text_writer.proofs.Parts.{where-is, unless-is}
-use Rattle.puts.proofs.Laws.{said, followed}
+use Rattle.text_buffer.proofs.Laws.{said, followed}
 use Rattle.text_writer.specs.Texts.{factBytes}
-use Rattle.puts.specs.Words.{bytes}
+use Rattle.text_buffer.specs.Words.{bytes}
 use mathlib.Core.List.{_++_}
 use Rattle.text_facts.proofs.put_next_fact.Statement.{statement}
 use Rattle.text_facts.proofs.put_next_fact.Tie as tie

@@ -3,9 +3,9 @@ use mathlib.Core.Path.{_∙_}
 use borrow.Author.Needs.{needs}
 use Rattle.text_writer.proofs.Parts.{where-is, unless-is}
 use Rattle.text_lines.proofs.Facts.{line-fact}
-use Rattle.puts.proofs.Laws.{said, followed, nothing}
+use Rattle.text_buffer.proofs.Laws.{said, followed, nothing}
 use Rattle.text_writer.specs.Texts.{if}
-use Rattle.puts.specs.Words.{bytes}
+use Rattle.text_buffer.specs.Words.{bytes}
 use lib.Dec.{eqb}
 use mathlib.Core.List.{[]}
 use Rattle.text_lines.proofs.put_atom.Statement.{statement}

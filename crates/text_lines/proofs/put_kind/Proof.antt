@@ -2,7 +2,7 @@
 use mathlib.Core.Path.{_∙_}
 use borrow.Author.Needs.{needs}
 use Rattle.text_writer.proofs.Parts.{where-is, unless-is}
-use Rattle.puts.proofs.Laws.{said}
+use Rattle.text_buffer.proofs.Laws.{said}
 use Rattle.text_writer.specs.Texts.{atomBytes, rowBytes, headBytes}
 use lib.Dec.{eqb}
 use mathlib.Core.Bool.{cond}

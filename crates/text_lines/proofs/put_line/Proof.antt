@@ -1,9 +1,9 @@
 -- The line, and the end of the text's line before a head or nothing.
 use borrow.Author.Needs.{needs}
 use Rattle.text_writer.proofs.Parts.{where-below, unless-below}
-use Rattle.puts.proofs.Laws.{said, followed, nothing}
+use Rattle.text_buffer.proofs.Laws.{said, followed, nothing}
 use Rattle.text_writer.specs.Texts.{lineBytes}
-use Rattle.puts.specs.Words.{bytes}
+use Rattle.text_buffer.specs.Words.{bytes}
 use mathlib.Core.List.{[]}
 use Rattle.text_lines.proofs.put_line.Statement.{statement}
 use Rattle.text_lines.proofs.put_line.Tie as tie

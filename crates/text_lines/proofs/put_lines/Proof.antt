@@ -4,7 +4,7 @@ use Prim.Native.Nat.{ℕ, _≤_, _-_, _*_, _/_}
 use borrow.Author.Needs.{needs}
 use lib.ListN.{length, drop}
 use mathlib.Core.List.{List}
-use Rattle.puts.proofs.Laws.{kept, said}
+use Rattle.text_buffer.proofs.Laws.{kept, said}
 use Rattle.text_writer.specs.Texts.{groups, linesFrom, linesBytes, lineBytes}
 use Rattle.text_lines.proofs.Written.{Written, begun, more-lines, all-lines}
 use Rattle.text_writer.proofs.Parts.{part-of}

@@ -1,8 +1,8 @@
 -- The values, and what the next line asks for.
 use borrow.Author.Needs.{needs}
 use Rattle.text_writer.proofs.Parts.{where-is, unless-is}
-use Rattle.puts.proofs.Laws.{said, followed, nothing}
-use Rattle.puts.specs.Words.{bytes}
+use Rattle.text_buffer.proofs.Laws.{said, followed, nothing}
+use Rattle.text_buffer.specs.Words.{bytes}
 use mathlib.Core.List.{[]}
 use Rattle.text_lines.proofs.put_row.Statement.{statement}
 use Rattle.text_lines.proofs.put_row.Tie as tie

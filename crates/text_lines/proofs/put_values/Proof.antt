@@ -3,7 +3,7 @@ use mathlib.Core.Path.{sym, ap, _∙_}
 use borrow.Author.Needs.{needs}
 use lib.ListN.{getD}
 use Rattle.text_writer.proofs.Parts.{line-terms, where-is, unless-is}
-use Rattle.puts.proofs.Laws.{said}
+use Rattle.text_buffer.proofs.Laws.{said}
 use Rattle.text_writer.proofs.Laws.{word-back}
 use Rattle.text_writer.specs.Texts.{small, termBytes, termsBytes, lineTerms}
 use lib.IntN.{pos}

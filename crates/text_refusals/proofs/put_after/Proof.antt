@@ -1,7 +1,7 @@
 -- Nothing where the number is 0.
 use borrow.Author.Needs.{needs}
 use Rattle.text_writer.proofs.Parts.{where-is, unless-is}
-use Rattle.puts.proofs.Laws.{nothing, said, followed}
+use Rattle.text_buffer.proofs.Laws.{nothing, said, followed}
 use mathlib.Core.List.{[], _++_}
 use Rattle.text_writer.specs.Texts.{numberBytes}
 use Rattle.text_refusals.proofs.put_after.Statement.{statement}

@@ -1,7 +1,7 @@
 -- Nothing where the number is 0.
 use borrow.Author.Needs.{needs}
 use Rattle.text_writer.proofs.Parts.{where-is, unless-is}
-use Rattle.puts.proofs.Laws.{nothing, said}
+use Rattle.text_buffer.proofs.Laws.{nothing, said}
 use mathlib.Core.List.{[]}
 use Rattle.text_refusals.proofs.put_after_one.Statement.{statement}
 use Rattle.text_refusals.proofs.put_after_one.Tie as tie

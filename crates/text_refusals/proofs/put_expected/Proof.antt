@@ -1,6 +1,6 @@
 -- One part after the other.
 use borrow.Author.Needs.{needs}
-use Rattle.puts.proofs.Laws.{followed}
+use Rattle.text_buffer.proofs.Laws.{followed}
 use Rattle.text_writer.specs.Texts.{expectedBytes}
 use Rattle.text_refusals.proofs.put_expected.Statement.{statement}
 use Rattle.text_refusals.proofs.put_expected.Tie as tie

@@ -2,7 +2,7 @@
 use borrow.Author.Needs.{needs}
 use native.Mathlib.Omega.{arith}
 use lib.ListN.{length-append}
-use Rattle.puts.proofs.Laws.{followed}
+use Rattle.text_buffer.proofs.Laws.{followed}
 use Rattle.text_says.proofs.Laws.{all-fits}
 use Rattle.text_says.proofs.say.Statement.{statement}
 use Rattle.text_says.proofs.say.Tie as tie

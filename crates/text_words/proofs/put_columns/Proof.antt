@@ -1,7 +1,7 @@
 -- The count of the columns and the name.
 use borrow.Author.Needs.{needs}
 use Rattle.text_writer.proofs.Parts.{no-columns, some-columns}
-use Rattle.puts.proofs.Laws.{nothing, said, followed}
+use Rattle.text_buffer.proofs.Laws.{nothing, said, followed}
 use Rattle.text_words.proofs.put_columns.Statement.{statement}
 use Rattle.text_words.proofs.put_columns.Tie as tie
 

@@ -2,10 +2,10 @@
 use mathlib.Core.Path.{ap, _∙_}
 use borrow.Author.Needs.{needs}
 use Rattle.text_writer.proofs.Parts.{where-is, unless-is}
-use Rattle.puts.proofs.Laws.{said, followed}
+use Rattle.text_buffer.proofs.Laws.{said, followed}
 use Rattle.text_writer.proofs.Laws.{back}
 use Rattle.text_writer.specs.Texts.{termBytes}
-use Rattle.puts.specs.Words.{bytes}
+use Rattle.text_buffer.specs.Words.{bytes}
 use mathlib.Core.List.{_++_}
 use Rattle.text_writer.proofs.put_next.Statement.{statement}
 use Rattle.text_writer.proofs.put_next.Tie as tie

@@ -1,7 +1,7 @@
 -- A number that fits a field is a word.
 use borrow.Author.Needs.{needs}
 use Rattle.text_writer.proofs.Parts.{word-of, no-number}
-use Rattle.puts.proofs.Laws.{nothing, said}
+use Rattle.text_buffer.proofs.Laws.{nothing, said}
 use Rattle.text_writer.proofs.put_number.Statement.{statement}
 use Rattle.text_writer.proofs.put_number.Tie as tie
 

@@ -4,8 +4,8 @@ use Prim.Native.Nat.{_≤_, _-_}
 use native.Mathlib.Omega.{arith}
 use borrow.Author.Needs.{needs}
 use lib.ListN.{length, take}
-use Rattle.puts.specs.Puts.{Put}
-use Rattle.puts.proofs.Laws.{nothing, kept, said}
+use Rattle.text_buffer.specs.Puts.{Put}
+use Rattle.text_buffer.proofs.Laws.{nothing, kept, said}
 use Rattle.text_writer.specs.Texts.{plain}
 use Rattle.text_writer.proofs.Parts.{more-plain}
 use lib.Seq.{take-all}

@@ -1,7 +1,7 @@
 -- A relation's name is its part of all names, without blanks.
 use borrow.Author.Needs.{needs}
 use Rattle.text_writer.proofs.Parts.{no-relation, far-relation, name-at}
-use Rattle.puts.proofs.Laws.{nothing, said}
+use Rattle.text_buffer.proofs.Laws.{nothing, said}
 use Rattle.text_writer.proofs.put_relation.Statement.{statement}
 use Rattle.text_writer.proofs.put_relation.Tie as tie
 

@@ -5,9 +5,9 @@ use native.Mathlib.Omega.{arith}
 use borrow.Author.Needs.{needs}
 use lib.ListN.{length, take}
 use mathlib.Core.List.{_++_, map, List}
-use Rattle.puts.specs.Puts.{Put}
-use Rattle.puts.specs.Words.{bytes}
-use Rattle.puts.proofs.Laws.{nothing, kept, said, followed}
+use Rattle.text_buffer.specs.Puts.{Put}
+use Rattle.text_buffer.specs.Words.{bytes}
+use Rattle.text_buffer.proofs.Laws.{nothing, kept, said, followed}
 use Rattle.text_writer.specs.Texts.{termBytes, separated, termsBytes}
 use Rattle.text_writer.proofs.Parts.{more-separated}
 use lib.Seq.{take-all}

@@ -1,7 +1,7 @@
 -- A blank is left out, any other byte is put.
 use borrow.Author.Needs.{needs}
 use Rattle.text_writer.proofs.Parts.{blank-gone, byte-kept}
-use Rattle.puts.proofs.Laws.{nothing, said}
+use Rattle.text_buffer.proofs.Laws.{nothing, said}
 use Rattle.text_writer.proofs.put_unless_blank.Statement.{statement}
 use Rattle.text_writer.proofs.put_unless_blank.Tie as tie
 

@@ -1,10 +1,10 @@
 -- The field without its blanks.
 use mathlib.Core.Path.{ap, _∙_}
 use borrow.Author.Needs.{needs}
-use Rattle.puts.proofs.Laws.{said}
+use Rattle.text_buffer.proofs.Laws.{said}
 use Rattle.text_writer.specs.Texts.{wordBytes, plain}
 use Rattle.text_writer.proofs.Laws.{back}
-use Rattle.format.specs.Field.{fieldBytes}
+use Rattle.sheet_format.specs.Field.{fieldBytes}
 use Rattle.text_writer.proofs.put_word.Statement.{statement}
 use Rattle.text_writer.proofs.put_word.Tie as tie
 

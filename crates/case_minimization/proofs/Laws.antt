@@ -1,0 +1,260 @@
+-- Numbers without a fact, parts of facts, and facts tried, over lists.
+use mathlib.Core.Path.{_≡_, refl, sym, ap, _∙_, subst}
+use mathlib.Core.Bool.{Bool, true, false, cond}
+use mathlib.Core.List.{List}
+use Prim.Native.Nat.{ℕ, suc, _+_, _-_, _*_, _<_, _≤_, min}
+use native.Mathlib.Omega.{arith}
+use native.Mathlib.Decide.{decLt}
+use borrow.Author.Count.{below-more}
+use borrow.Author.Tests.{lt-ltb, le-ltb}
+use lib.Dec.{ltb}
+use lib.ListN.{length, getD, take, drop, set, length-set, length-append, length-drop, List·getD-append}
+use lib.Seq.{getD-set-same, getD-set-other, ext-getD, getD-take, getD-drop, getD-append-add, length-take-le}
+use Rattle.query_join.specs.Joins.{AtomMet, Given}
+use Rattle.tableau_plan.specs.Plan.{rowCount, blockNumbers, blockSize}
+use Rattle.tableau_parts.specs.Views.{NoStray, Missing, MissingBy}
+use Rattle.tableau_parts.specs.Walks.{GivenTo}
+use Rattle.case_minimization.specs.Shrink.{IsCase, CaseBy, without, Part, Shrunk}
+use Rattle.case_minimization.specs.Parts.{Tried}
+
+-- ---- cases
+
+pub left-not : (p ns : List ℕ) → (GivenTo p ns (rowCount p) → ⊥) → IsCase p ns → ⊥
+left-not p ns f c = f (record { all = c .0 .0 })
+
+pub left-by : (b : Bool) (p ns u : List ℕ) → GivenTo p ns (rowCount p) → NoStray p ns → MissingBy b p ns u → CaseBy b p ns
+left-by true p ns u g s m = ((g .all, s), (u, m .missing))
+left-by false p ns u g s m = λ c. m (c .1 .0) (c .1 .1)
+
+pub left-seen : (p ns u : List ℕ) → GivenTo p ns (rowCount p) → NoStray p ns → Missing p ns u → IsCase p ns
+left-seen p ns u g s m = ((g .all, s), (u, m))
+
+-- ---- the numbers without a fact
+
+pub length-without : (ns : List ℕ) (n i : ℕ) → length ns ≡ n * 5 → i < n → length (without ns i) ≡ (n - 1) * 5
+length-without ns n i l lt =
+    let h = length-take-le (i * 5) ns (omega arith) in
+    length-append (take (i * 5) ns) (drop (i * 5 + 5) ns) ∙ (let d = length-drop (i * 5 + 5) ns in omega arith)
+
+pub without-below : (ns : List ℕ) (n i y : ℕ) → length ns ≡ n * 5 → i < n → y < i * 5 → getD (without ns i) y 0 ≡ getD ns y 0
+without-below ns n i y l lt h =
+    let t = length-take-le (i * 5) ns (omega arith) in
+    List·getD-append (take (i * 5) ns) (drop (i * 5 + 5) ns) 0 y (omega arith) ∙ getD-take (i * 5) ns y 0 h
+
+pub without-above : (ns : List ℕ) (n i y : ℕ) → length ns ≡ n * 5 → i < n → i * 5 ≤ y → getD (without ns i) y 0 ≡ getD ns (y + 5) 0
+without-above ns n i y l lt h =
+    let t = length-take-le (i * 5) ns (omega arith) in
+    let a : y ≡ length (take (i * 5) ns) + (y - i * 5) = omega arith in
+    let b : i * 5 + 5 + (y - i * 5) ≡ y + 5 = omega arith in
+    ap (λ k. getD (without ns i) k 0) a ∙ getD-append-add (take (i * 5) ns) (drop (i * 5 + 5) ns) (y - i * 5) 0 ∙ getD-drop (i * 5 + 5) ns (y - i * 5) 0 ∙ ap (λ k. getD ns k 0) b
+
+-- ---- parts
+
+pub part-all : (ns : List ℕ) (n : ℕ) → Part ns n ns n
+part-all ns n = record { from = λ i. i; inside = λ i h. h; rising = λ i j h k. h; same = λ i h c k. refl }
+
+pub part-part : (a b c : List ℕ) (n m k : ℕ) → Part a n b m → Part b m c k → Part a n c k
+part-part a b c n m k x y = record {
+  from = λ i. x .from (y .from i);
+  inside = λ i h. x .inside (y .from i) (y .inside i h);
+  rising = λ i j h l. x .rising (y .from i) (y .from j) (y .rising i j h l) (y .inside j l);
+  same = λ i h q l. y .same i h q l ∙ x .same (y .from i) (y .inside i h) q l;
+}
+
+-- the facts but fact i, by their places
+skip : ℕ → ℕ → ℕ
+skip i j = cond (ltb j i) j (suc j)
+
+skip-below : (i j : ℕ) → j < i → skip i j ≡ j
+unfolding skip
+skip-below i j h = rw (lt-ltb j i h)
+
+skip-above : (i j : ℕ) → i ≤ j → skip i j ≡ suc j
+unfolding skip
+skip-above i j h = rw (le-ltb j i h)
+
+pub part-without : (ns : List ℕ) (n i : ℕ) → length ns ≡ n * 5 → i < n → Part ns n (without ns i) (n - 1)
+part-without ns n i l lt = record { from = skip i; inside = inside; rising = rising; same = same }
+  where
+    inside : (j : ℕ) → j < n - 1 → skip i j < n
+    inside j h = go (decLt j i)
+      where
+        go : Dec (j < i) → skip i j < n
+        go (yes b) = let e = skip-below i j b in omega arith
+        go (no b) = let e = skip-above i j (omega arith) in omega arith
+
+    rising : (j k : ℕ) → j < k → k < n - 1 → skip i j < skip i k
+    rising j k h g = go (decLt j i) (decLt k i)
+      where
+        go : Dec (j < i) → Dec (k < i) → skip i j < skip i k
+        go (yes b) (yes d) = let e = skip-below i j b in let f = skip-below i k d in omega arith
+        go (yes b) (no d) = let e = skip-below i j b in let f = skip-above i k (omega arith) in omega arith
+        go (no b) (yes d) = absurd (omega arith)
+        go (no b) (no d) = let e = skip-above i j (omega arith) in let f = skip-above i k (omega arith) in omega arith
+
+    same : (j : ℕ) → j < n - 1 → (c : ℕ) → c < 5 → getD (without ns i) (j * 5 + c) 0 ≡ getD ns (skip i j * 5 + c) 0
+    same j h c g = go (decLt j i)
+      where
+        go : Dec (j < i) → getD (without ns i) (j * 5 + c) 0 ≡ getD ns (skip i j * 5 + c) 0
+        go (yes b) =
+            let e : j * 5 + c ≡ skip i j * 5 + c = let s = skip-below i j b in omega arith in
+            without-below ns n i (j * 5 + c) l lt (omega arith) ∙ ap (λ y. getD ns y 0) e
+        go (no b) =
+            let e : j * 5 + c + 5 ≡ skip i j * 5 + c = let s = skip-above i j (omega arith) in omega arith in
+            without-above ns n i (j * 5 + c) l lt (omega arith) ∙ ap (λ y. getD ns y 0) e
+
+-- what a part of the facts gives, the facts give too
+pub given-part : (blk : List ℕ) (k : ℕ) (ns : List ℕ) (n : ℕ) (ms : List ℕ) (m : ℕ) (w : List ℕ) → length ns ≡ n * 5 → length ms ≡ m * 5 → Part ns n ms m → Given blk k ms w → Given blk k ns w
+given-part blk k ns n ms m w l l′ q g = record { val = g .val; met = λ j lt. move j (g .met j lt); gives = g .gives }
+  where
+    move : (j : ℕ) → AtomMet blk ms (g .val) j → AtomMet blk ns (g .val) j
+    move j (i, h, b) =
+        let lt : i < m = omega arith in
+        let lt′ = q .inside i lt in (
+          q .from i,
+          omega arith,
+          record {
+            relation = sym (at i lt 0 (omega arith) (i * 5) (q .from i * 5) (omega arith) (omega arith)) ∙ b .relation;
+            columns = λ c h′. sym (at i lt (1 + c) (omega arith) (i * 5 + 1 + c) (q .from i * 5 + 1 + c) (omega arith) (omega arith)) ∙ b .columns c h′;
+          },
+        )
+      where
+        at : (i : ℕ) → i < m → (c : ℕ) → c < 5 → (x y : ℕ) → i * 5 + c ≡ x → q .from i * 5 + c ≡ y → getD ms x 0 ≡ getD ns y 0
+        at i lt c h x y e f = ap (λ z. getD ms z 0) (sym e) ∙ q .same i lt c h ∙ ap (λ z. getD ns z 0) f
+
+-- facts that give no stray row give none without fact i
+pub no-stray-without : (p ns : List ℕ) (n i : ℕ) → length ns ≡ n * 5 → i < n → NoStray p ns → NoStray p (without ns i)
+no-stray-without p ns n i l lt s v h u g =
+    s v h u
+    (given-part (blockNumbers p (2 + v)) (min (blockSize p (2 + v)) 6) ns n (without ns i) (n - 1) u l (length-without ns n i l lt) (part-without ns n i l lt) g)
+
+-- whether a case is left without fact i, asked of the same facts in another place
+pub left-without : (b : Bool) (p ms ks : List ℕ) (m i : ℕ) → length ms ≡ m * 5 → i < m → ks ≡ without ms i → NoStray p ms → (NoStray p ks → CaseBy b p ks) → CaseBy b p (without ms i)
+left-without b p ms ks m i l lt e s f = subst (λ (l : List ℕ). NoStray p l → CaseBy b p l) e f (no-stray-without p ms m i l lt s)
+
+-- ---- numbers copied, and moved down
+
+-- the first n numbers are the same
+pub same-front : (a b : List ℕ) (n : ℕ) → n ≤ length a → n ≤ length b → ((y : ℕ) → y < n → getD a y 0 ≡ getD b y 0) → take n a ≡ take n b
+same-front a b n la lb h =
+    let ea = length-take-le n a la in
+    let eb = length-take-le n b lb in
+    ext-getD 0 (take n a) (take n b) (ea ∙ sym eb)
+    (λ y lt.
+    let k : y < n = omega arith in
+    getD-take n a y 0 k ∙ h y k ∙ sym (getD-take n b y 0 k))
+
+-- the numbers from fact i to before place y have been moved down by five
+pub record Moved (xs ys : List ℕ) (i y : ℕ) : Type 0 where
+  pub size : length ys ≡ length xs
+  pub from : i * 5 ≤ y
+  pub below : (z : ℕ) → z < i * 5 → getD ys z 0 ≡ getD xs z 0
+  pub moved : (z : ℕ) → i * 5 ≤ z → z < y → getD ys z 0 ≡ getD xs (z + 5) 0
+  pub above : (z : ℕ) → y ≤ z → getD ys z 0 ≡ getD xs z 0
+
+pub moved-none : (xs : List ℕ) (i : ℕ) → Moved xs xs i (i * 5)
+moved-none xs i = record { size = refl; from = omega arith; below = λ z h. refl; moved = λ z h k. absurd (omega arith); above = λ z h. refl }
+
+pub moved-more : (xs ys : List ℕ) (i y : ℕ) → y < length xs → Moved xs ys i y → Moved xs (set ys y (getD ys (y + 5) 0)) i (y + 1)
+moved-more xs ys i y lt m = record {
+  size = length-set ys y v ∙ m .size;
+  from = let f = m .from in omega arith;
+  below = λ z h. getD-set-other ys y z v 0 (λ e. let f = m .from in absurd (omega arith)) ∙ m .below z h;
+  moved = λ z h k. go z h k (decLt z y);
+  above = λ z h. getD-set-other ys y z v 0 (λ e. absurd (omega arith)) ∙ m .above z (omega arith);
+}
+  where
+    v : ℕ
+    v = getD ys (y + 5) 0
+
+    go : (z : ℕ) → i * 5 ≤ z → z < y + 1 → Dec (z < y) → getD (set ys y v) z 0 ≡ getD xs (z + 5) 0
+    go z h k (yes b) = getD-set-other ys y z v 0 (λ e. absurd (omega arith)) ∙ m .moved z h b
+    go z h k (no b) =
+        let e : z ≡ y = omega arith in
+        subst (λ x. getD (set ys y v) x 0 ≡ getD xs (x + 5) 0) (sym e) (getD-set-same ys y v 0 (let s = m .size in omega arith) ∙ m .above (y + 5) (omega arith))
+
+pub moved-all : (xs ys : List ℕ) (n i y : ℕ) → i < n → n * 5 ≤ length xs → (n - 1) * 5 ≤ y → Moved xs ys i y → take ((n - 1) * 5) ys ≡ without (take (n * 5) xs) i
+moved-all xs ys n i y lt h k m =
+    let t = length-take-le (n * 5) xs h in
+    let b = length-take-le ((n - 1) * 5) ys (let s = m .size in omega arith) in
+    ext-getD 0 (take ((n - 1) * 5) ys) (without (take (n * 5) xs) i) (b ∙ sym (length-without (take (n * 5) xs) n i t lt))
+    (λ z g. go t z (omega arith) (decLt z (i * 5)))
+  where
+    go : length (take (n * 5) xs) ≡ n * 5 → (z : ℕ) → z < (n - 1) * 5 → Dec (z < i * 5) → getD (take ((n - 1) * 5) ys) z 0 ≡ getD (without (take (n * 5) xs) i) z 0
+    go t z g (yes q) = getD-take ((n - 1) * 5) ys z 0 g ∙ m .below z q ∙ sym (without-below (take (n * 5) xs) n i z t lt q ∙ getD-take (n * 5) xs z 0 (omega arith))
+    go t z g (no q) = getD-take ((n - 1) * 5) ys z 0 g ∙ m .moved z (omega arith) (omega arith) ∙ sym (without-above (take (n * 5) xs) n i z t lt (omega arith) ∙ getD-take (n * 5) xs (z + 5) 0 (omega arith))
+
+-- ---- a fact put back
+
+-- the numbers from place a to before place y are those of xs, and the others those of ys
+pub record Patched (xs ys zs : List ℕ) (a y : ℕ) : Type 0 where
+  pub size : length zs ≡ length ys
+  pub from : a ≤ y
+  pub inside : (z : ℕ) → a ≤ z → z < y → getD zs z 0 ≡ getD xs z 0
+  pub below : (z : ℕ) → z < a → getD zs z 0 ≡ getD ys z 0
+  pub above : (z : ℕ) → y ≤ z → getD zs z 0 ≡ getD ys z 0
+
+pub patched-none : (xs ys : List ℕ) (a : ℕ) → Patched xs ys ys a a
+patched-none xs ys a = record { size = refl; from = omega arith; inside = λ z h k. absurd (omega arith); below = λ z h. refl; above = λ z h. refl }
+
+pub patched-more : (xs ys zs : List ℕ) (a y : ℕ) → y < length ys → Patched xs ys zs a y → Patched xs ys (set zs y (getD xs y 0)) a (y + 1)
+patched-more xs ys zs a y lt m = record {
+  size = length-set zs y v ∙ m .size;
+  from = let f = m .from in omega arith;
+  inside = λ z h k. go z h (decLt z y) k;
+  below = λ z h. getD-set-other zs y z v 0 (λ e. let f = m .from in absurd (omega arith)) ∙ m .below z h;
+  above = λ z h. getD-set-other zs y z v 0 (λ e. absurd (omega arith)) ∙ m .above z (omega arith);
+}
+  where
+    v : ℕ
+    v = getD xs y 0
+
+    go : (z : ℕ) → a ≤ z → Dec (z < y) → z < y + 1 → getD (set zs y v) z 0 ≡ getD xs z 0
+    go z h (yes b) k = getD-set-other zs y z v 0 (λ e. absurd (omega arith)) ∙ m .inside z h b
+    go z h (no b) k =
+        let e : z ≡ y = omega arith in
+        subst (λ x. getD (set zs y v) x 0 ≡ getD xs x 0) (sym e) (getD-set-same zs y v 0 (let s = m .size in omega arith))
+
+-- where ys lacks fact i, it lacks the next one with fact i put back
+pub patched-all : (xs ys zs : List ℕ) (n i y : ℕ) → i + 1 < n → n * 5 ≤ length xs → n * 5 ≤ length ys → y ≡ i * 5 + 5 → Patched xs ys zs (i * 5) y
+    → take ((n - 1) * 5) ys ≡ without (take (n * 5) xs) i → take ((n - 1) * 5) zs ≡ without (take (n * 5) xs) (i + 1)
+patched-all xs ys zs n i y lt lx ly at m e =
+    let t = length-take-le (n * 5) xs lx in
+    let b = length-take-le ((n - 1) * 5) zs (let s = m .size in omega arith) in
+    ext-getD 0 (take ((n - 1) * 5) zs) (without (take (n * 5) xs) (i + 1)) (b ∙ sym (length-without (take (n * 5) xs) n (i + 1) t lt))
+    (λ z g. getD-take ((n - 1) * 5) zs z 0 (omega arith) ∙ go t z (omega arith) (decLt z (i * 5)) (decLt z y))
+  where
+    old : (z : ℕ) → z < (n - 1) * 5 → getD ys z 0 ≡ getD (without (take (n * 5) xs) i) z 0
+    old z g = sym (getD-take ((n - 1) * 5) ys z 0 g) ∙ ap (λ l. getD l z 0) e
+
+    go : length (take (n * 5) xs) ≡ n * 5 → (z : ℕ) → z < (n - 1) * 5 → Dec (z < i * 5) → Dec (z < y) → getD zs z 0 ≡ getD (without (take (n * 5) xs) (i + 1)) z 0
+    go t z g (yes q) w = m .below z q ∙ old z g ∙ without-below (take (n * 5) xs) n i z t (omega arith) q ∙ sym (without-below (take (n * 5) xs) n (i + 1) z t lt (omega arith))
+    go t z g (no q) (yes w) = m .inside z (omega arith) w ∙ sym (without-below (take (n * 5) xs) n (i + 1) z t lt (omega arith) ∙ getD-take (n * 5) xs z 0 (omega arith))
+    go t z g (no q) (no w) = m .above z (omega arith) ∙ old z g ∙ without-above (take (n * 5) xs) n i z t (omega arith) (omega arith) ∙ sym (without-above (take (n * 5) xs) n (i + 1) z t lt (omega arith))
+
+-- ---- facts tried
+
+pub tried-none : (p ns : List ℕ) (n before : ℕ) → IsCase p ns → Tried p ns n ns n before 0
+tried-none p ns n before c = record { part = part-all ns n; still = c; needed = λ e j h. absurd (omega arith) }
+
+pub tried-kept : (p ns : List ℕ) (n : ℕ) (ms : List ℕ) (m before i : ℕ) → (IsCase p (without ms i) → ⊥) → Tried p ns n ms m before i → Tried p ns n ms m before (i + 1)
+tried-kept p ns n ms m before i f t = record { part = t .part; still = t .still; needed = λ e. below-more (λ j. IsCase p (without ms j) → ⊥) i (t .needed e) f }
+
+-- fact i has been dropped
+pub tried-dropped : (p ns : List ℕ) (n : ℕ) (ms : List ℕ) (m i : ℕ) → length ms ≡ m * 5 → i < m → m ≤ n → IsCase p (without ms i) → Tried p ns n ms m n i → Tried p ns n (without ms i) (m - 1) n i
+tried-dropped p ns n ms m i l lt few c t = record {
+  part = part-part ns ms (without ms i) n m (m - 1) (t .part) (part-without ms m i l lt);
+  still = c;
+  needed = λ e j h. absurd (omega arith);
+}
+
+-- no pass yet
+pub tried-start : (p ns : List ℕ) (n before : ℕ) → n < before → IsCase p ns → Tried p ns n ns n before n
+tried-start p ns n before lt c = record { part = part-all ns n; still = c; needed = λ e. absurd (omega arith) }
+
+-- one more pass
+pub tried-again : (p ns : List ℕ) (n : ℕ) (ms : List ℕ) (m before i : ℕ) (ks : List ℕ) (k : ℕ) → Tried p ns n ms m before i → Tried p ms m ks k m k → Tried p ns n ks k m k
+tried-again p ns n ms m before i ks k t u = record { part = part-part ns ms ks n m k (t .part) (u .part); still = u .still; needed = u .needed }
+
+pub shrunk : (p ns : List ℕ) (n : ℕ) (ms : List ℕ) (m before : ℕ) → length ms ≡ m * 5 → m ≡ before → Tried p ns n ms m before m → Shrunk p ns n ms m
+shrunk p ns n ms m before l e t = record { count = l; part = t .part; still = t .still; spare-free = t .needed e }

@@ -1,0 +1,307 @@
+// Dropping facts from a case until none is to spare.
+ghost use mathlib.Core.Path.{_≡_};
+ghost use mathlib.Core.Bool.{true};
+ghost use Prim.Native.Nat.{_+_, _-_, _*_, _<_, _≤_};
+ghost use lib.ListN.{length, take};
+ghost use Rattle.tableau_plan.specs.Plan.{rowCount};
+ghost use Rattle.tableau_parts.specs.Walks as walks;
+ghost use Rattle.tableau_parts.specs.Views.{NoStray, Missing};
+ghost use Rattle.case_minimization.specs.Shrink.{IsCase, CaseBy, without, Shrunk};
+ghost use Rattle.case_minimization.specs.Parts.{Tried};
+
+// A fact's numbers: its relation and four values.
+const WIDTH: usize = 5;
+
+const MOST_FACTS: usize = 126;
+
+const MOST_NUMBERS: usize = MOST_FACTS * WIDTH;
+
+// A listed row's places of facts, one for each atom of its view; and those of forty rows.
+const PLACES: usize = 6;
+
+const MOST_PLACES: usize = 240;
+
+// The places kept for listed row r.
+fn kept(by: &[usize; 240], r: usize) -> [usize; 6]
+    requires { ⌜ r < 40 ⌝ }
+{
+    let at = r * PLACES;
+    [
+        by[at],
+        by[at + 1],
+        by[at + 2],
+        by[at + 3],
+        by[at + 4],
+        by[at + 5],
+    ]
+}
+
+// Keeps places for listed row r.
+fn keep(by: &mut [usize; 240], r: usize, at: [usize; 6])
+    requires { ⌜ r < 40 ⌝ }
+{
+    let mut j = 0;
+    while j < PLACES {
+        by[r * PLACES + j] = at[j];
+        j += 1;
+    }
+}
+
+// Whether fact i is at one of the places.
+fn uses(at: [usize; 6], i: usize) -> bool {
+    at[0] == i || at[1] == i || at[2] == i || at[3] == i || at[4] == i || at[5] == i
+}
+
+// The places where fact i is left out: those after it are one lower.
+fn lowered(at: [usize; 6], i: usize) -> [usize; 6] {
+    let mut low = at;
+    let mut j = 0;
+    while j < PLACES {
+        if i < low[j] {
+            low[j] -= 1;
+        }
+        j += 1;
+    }
+    low
+}
+
+// Places of facts by which listed row r is given.
+fn places_of(p: &[usize; 1184], facts: &[usize], n: usize, r: usize) -> [usize; 6]
+    requires { ⌜ (n ≤ 126) × (n * 5 ≤ length (now facts)) ⌝ }
+{
+    tableau_witness::row_witness(p, &facts[..n * WIDTH], r)
+}
+
+// Places of facts by which the listed rows are given.
+fn places(p: &[usize; 1184], facts: &[usize], n: usize) -> [usize; 240]
+    requires { ⌜ (n ≤ 126) × (n * 5 ≤ length (now facts)) ⌝ }
+{
+    let rows = tableau_parts::row_count(p);
+    let mut by = [usize::MAX; MOST_PLACES];
+    let mut r = 0;
+    while r < rows {
+        let at = places_of(p, facts, n, r);
+        keep(&mut by, r, at);
+        r += 1;
+    }
+    by
+}
+
+// The places after fact i has been dropped, of which n are left: where it was used, others.
+fn renew(p: &[usize; 1184], facts: &[usize], n: usize, by: &mut [usize; 240], i: usize)
+    requires { ⌜ (n ≤ 126) × (n * 5 ≤ length (now facts)) ⌝ }
+{
+    let rows = tableau_parts::row_count(p);
+    let mut r = 0;
+    while r < rows {
+        let old = kept(by, r);
+        let mut at = lowered(old, i);
+        if uses(old, i) {
+            let other = places_of(p, facts, n, r);
+            at = other;
+        }
+        keep(by, r, at);
+        r += 1;
+    }
+}
+
+// Whether a row that fact i was used for is not given where it is left out.
+fn loses(p: &[usize; 1184], facts: &[usize], by: &[usize; 240], i: usize) -> bool
+    ensures { λ r. ⌜ (walks.Ready (now (p .entry)) → r ≡ true → walks.GivenTo (now (p .entry)) (now (facts .entry)) (rowCount (now (p .entry))) → ⊥) ⌝ }
+{
+    let rows = tableau_parts::row_count(p);
+    let nowhere = [usize::MAX; PLACES];
+    let mut r = 0;
+    while r < rows {
+        let at = kept(by, r);
+        if uses(at, i) {
+            if !tableau_answers::row_given_by(p, facts, r, nowhere) {
+                return true;
+            }
+        }
+        r += 1;
+    }
+    false
+}
+
+// Whether all listed rows are given where fact i is left out. The places kept are asked first.
+fn keeps(p: &[usize; 1184], facts: &[usize], by: &[usize; 240], i: usize) -> bool
+    ensures { λ r. ⌜ (walks.Ready (now (p .entry)) → walks.GivenToBy r (now (p .entry)) (now (facts .entry)) (rowCount (now (p .entry)))) ⌝ }
+{
+    let rows = tableau_parts::row_count(p);
+    let mut r = 0;
+    while r < rows {
+        let old = kept(by, r);
+        let at = lowered(old, i);
+        if !tableau_answers::row_given_by(p, facts, r, at) {
+            return false;
+        }
+        r += 1;
+    }
+    true
+}
+
+// Whether all listed rows are given where fact i is left out. The rows that it was used for are asked first.
+fn all_given(p: &[usize; 1184], facts: &[usize], by: &[usize; 240], i: usize) -> bool
+    ensures { λ r. ⌜ (walks.Ready (now (p .entry)) → walks.GivenToBy r (now (p .entry)) (now (facts .entry)) (rowCount (now (p .entry)))) ⌝ }
+{
+    if loses(p, facts, by, i) {
+        return false;
+    }
+    keeps(p, facts, by, i)
+}
+
+// Whether the question is given a row and the list is not.
+fn lacks(p: &[usize; 1184], facts: &[usize], row: [usize; 4]) -> bool
+    ensures { λ r. ⌜ (walks.Ready (now (p .entry)) → r ≡ true → Missing (now (p .entry)) (now (facts .entry)) row) ⌝ }
+{
+    if !tableau_answers::question_gives(p, facts, row) {
+        return false;
+    }
+    !tableau_answers::list_gives(p, facts, row)
+}
+
+// Whether facts without fact i that give no stray row are a case, and then an answer that the list lacks. The places kept and the row seen are
+// tried first, whatever they are.
+fn is_left(
+    p: &[usize; 1184],
+    facts: &[usize],
+    by: &[usize; 240],
+    i: usize,
+    seen: [usize; 4],
+) -> query_rows::Row
+    ensures { λ r. ⌜ (walks.Ready (now (p .entry)) → NoStray (now (p .entry)) (now (facts .entry)) → CaseBy (r .some) (now (p .entry)) (now (facts .entry))) ⌝ }
+{
+    if !all_given(p, facts, by, i) {
+        return query_rows::Row {
+            some: false,
+            values: [0; 4],
+        };
+    }
+    if lacks(p, facts, seen) {
+        return query_rows::Row {
+            some: true,
+            values: seen,
+        };
+    }
+    case_missing_answer::missing(p, facts)
+}
+
+// Copies the first `count` numbers.
+fn copy(facts: &[usize], count: usize, out: &mut [usize])
+    requires { ⌜ (count ≤ length (now facts)) × (count ≤ length (now out)) ⌝ }
+    ensures { λ r. ⌜ take count (now (out .exit)) ≡ take count (now (facts .entry)) ⌝ }
+{
+    let mut y = 0;
+    while y < count {
+        out[y] = facts[y];
+        y += 1;
+    }
+}
+
+// Moves what follows fact i down by a fact.
+fn close_gap(facts: &mut [usize], n: usize, i: usize)
+    requires { ⌜ (i < n) × (n ≤ 126) × (n * 5 ≤ length (now facts)) ⌝ }
+    ensures { λ r. ⌜ take ((n - 1) * 5) (now (facts .exit)) ≡ without (take (n * 5) (now (facts .entry))) i ⌝ }
+{
+    let end = (n - 1) * WIDTH;
+    let mut y = i * WIDTH;
+    while y < end {
+        facts[y] = facts[y + WIDTH];
+        y += 1;
+    }
+}
+
+// Moves what follows fact i down by a fact, if there is a fact i.
+fn leave_out(facts: &mut [usize], n: usize, i: usize)
+    requires { ⌜ (n ≤ 126) × (n * 5 ≤ length (now facts)) ⌝ }
+    ensures { λ r. ⌜ (i < n → take ((n - 1) * 5) (now (facts .exit)) ≡ without (take (n * 5) (now (facts .entry))) i) ⌝ }
+{
+    if i < n {
+        close_gap(facts, n, i);
+    }
+}
+
+// Copies the facts but the first.
+fn copy_rest(facts: &[usize], n: usize, room: &mut [usize])
+    requires { ⌜ (n ≤ 126) × (n * 5 ≤ length (now facts)) × (n * 5 ≤ length (now room)) ⌝ }
+    ensures { λ r. ⌜ (0 < n → take ((n - 1) * 5) (now (room .exit)) ≡ without (take (n * 5) (now (facts .entry))) 0) ⌝ }
+{
+    copy(facts, n * WIDTH, room);
+    leave_out(room, n, 0);
+}
+
+// Puts fact i back into the room that lacks it, where the next one stands: the room lacks the next one then.
+fn put_back(facts: &[usize], n: usize, i: usize, room: &mut [usize])
+    requires { ⌜ (i < n) × (n ≤ 126) × (n * 5 ≤ length (now facts)) × (n * 5 ≤ length (now room)) ⌝ }
+    ensures { λ r. ⌜ (take ((n - 1) * 5) (now (room .entry)) ≡ without (take (n * 5) (now (facts .entry))) i → i + 1 < n → take ((n - 1) * 5) (now (room .exit)) ≡ without (take (n * 5) (now (facts .entry))) (i + 1)) ⌝ }
+{
+    let end = i * WIDTH + WIDTH;
+    let mut y = i * WIDTH;
+    while y < end {
+        room[y] = facts[y];
+        y += 1;
+    }
+}
+
+// Whether a case is left of n facts in the room that lacks fact i, and then an answer that the list lacks.
+fn drops(
+    p: &[usize; 1184],
+    room: &[usize],
+    n: usize,
+    by: &[usize; 240],
+    i: usize,
+    seen: [usize; 4],
+) -> query_rows::Row
+    requires { ⌜ (0 < n) × (n ≤ 126) × (n * 5 ≤ length (now room)) ⌝ }
+    ensures { λ r. ⌜ (walks.Ready (now (p .entry)) → NoStray (now (p .entry)) (take ((n - 1) * 5) (now (room .entry))) → CaseBy (r .some) (now (p .entry)) (take ((n - 1) * 5) (now (room .entry)))) ⌝ }
+{
+    is_left(p, &room[..(n - 1) * WIDTH], by, i, seen)
+}
+
+// Tries each fact once, and drops it where a case is left without it; how many facts are left.
+fn pass(p: &[usize; 1184], facts: &mut [usize], n: usize, by: &mut [usize; 240]) -> usize
+    requires { ⌜ (n ≤ 126) × (n * 5 ≤ length (now facts)) ⌝ }
+    ensures { λ m. ⌜ m ≤ n ⌝ }
+    ensures { λ m. ⌜ (walks.Ready (now (p .entry)) → IsCase (now (p .entry)) (take (n * 5) (now (facts .entry))) → Tried (now (p .entry)) (take (n * 5) (now (facts .entry))) n (take (m * 5) (now (facts .exit))) m n m) ⌝ }
+{
+    let mut room = [0; MOST_NUMBERS];
+    copy_rest(facts, n, &mut room);
+    let mut seen = [0; 4];
+    let mut m = n;
+    let mut i = 0;
+    while i < m {
+        let left = drops(p, &room, m, by, i, seen);
+        if left.some {
+            close_gap(facts, m, i);
+            m -= 1;
+            leave_out(&mut room, m, i);
+            renew(p, facts, m, by, i);
+            seen = left.values;
+            continue;
+        }
+        put_back(facts, m, i, &mut room);
+        i += 1;
+    }
+    m
+}
+
+// Drops facts, one after the other, as long as a case is left; how many facts are left.
+pub fn shrink(p: &[usize; 1184], facts: &mut [usize], n: usize) -> usize
+    ensures { λ m. ⌜ (walks.Ready (now (p .entry)) → n ≤ 126 → n * 5 ≤ length (now (facts .entry)) → IsCase (now (p .entry)) (take (n * 5) (now (facts .entry))) → Shrunk (now (p .entry)) (take (n * 5) (now (facts .entry))) n (take (m * 5) (now (facts .exit))) m) ⌝ }
+{
+    if MOST_FACTS < n {
+        return n;
+    }
+    if facts.len() < n * WIDTH {
+        return n;
+    }
+    let mut by = places(p, facts, n);
+    let mut before = n + 1;
+    let mut m = n;
+    while m < before {
+        before = m;
+        m = pass(p, facts, m, &mut by);
+    }
+    m
+}

@@ -1,0 +1,144 @@
+-- The judged examples that are proved: each is an entry of one table, `examples`.
+use mathlib.Core.Path.{_≡_}
+use mathlib.Core.List.{List, [], _∷_, _++_}
+use Prim.Native.Nat.{ℕ}
+use lib.IntN.{pos, negsuc}
+use lib.ListN.{length}
+use Rattle.sheet_format.specs.Line.{Line}
+use Rattle.query_meaning.specs.Meaning.{Term, con, var, Fact, Log, Atom, Block, In, fact}
+use Rattle.query_meaning.specs.Blocks.{View}
+use Rattle.query_meaning.specs.Facts.{value-end}
+use Rattle.query_meaning.specs.Evaluate.{Answers}
+use Rattle.case_verdicts.specs.Verdict.{Sheet, Covered, NoLog}
+use Rattle.case_verdicts.specs.Handed.{Handed}
+use Rattle.case_verdicts.specs.Sheets.{ten, top, sheetOf}
+
+-- ---- entries, and what they say
+
+-- a verdict. With 1: the missing answer, how many facts the case has, and facts that are among them (all, where so many are named)
+pub data Shown : Type 0 where
+  covered : Shown
+  case : List ℕ → ℕ → List Fact → Shown
+  no-log : Shown
+
+pub data Entry : Type 0 where
+  judge : Sheet → Shown → Entry
+  judge-any : List View → Entry
+  evaluate : Block → Log → List (List ℕ) → Entry
+  evaluate-any : Log → List (List ℕ) → Entry
+
+abbrev pub sheet : Block → List Block → List View → Sheet
+sheet q ls ws = record { table = ten; question = q; lists = ls; views = ws }
+
+-- the verdict holds; with 1 there is such a case to hand over
+abbrev pub SaysOf : Sheet → Shown → Type 0
+SaysOf x covered = Covered x
+SaysOf x (case a n fs) = (h : Handed top value-end x) × (h .answer ≡ a) × (length (h .log) ≡ n) × ((f : Fact) → In f fs → In f (h .log))
+SaysOf x no-log = NoLog x
+
+-- a sheet's verdict; no log for these views, whatever the question and the list are; a block's answers; those of every block (it has
+-- an atom)
+abbrev pub Says : Entry → Type 0
+Says (judge x r) = SaysOf x r
+Says (judge-any ws) = (q : Block) (ls : List Block) → NoLog (sheet q ls ws)
+Says (evaluate b log rs) = Answers log b rs
+Says (evaluate-any log rs) = (b : Block) (a : Atom) → In a (b .atoms) → Answers log b rs
+
+-- ---- the sheet that is shown whole in the README, line by line, and the same without its rows
+
+abbrev without-rows : List Line
+without-rows =
+    (pos 1 ∷ negsuc 0 ∷ negsuc 1 ∷ [])
+    ∷ (pos 4 ∷ pos 4 ∷ negsuc 0 ∷ negsuc 1 ∷ [])
+    ∷ (pos 2 ∷ negsuc 0 ∷ negsuc 1 ∷ [])
+    ∷ (pos 4 ∷ pos 5 ∷ negsuc 0 ∷ negsuc 1 ∷ [])
+    ∷ (pos 3 ∷ negsuc 0 ∷ negsuc 1 ∷ [])
+    ∷ (pos 4 ∷ pos 4 ∷ negsuc 0 ∷ negsuc 1 ∷ [])
+    ∷ []
+
+abbrev whole : List Line
+whole = without-rows ++ ((pos 5 ∷ pos 7 ∷ pos 1 ∷ []) ∷ (pos 5 ∷ pos 7 ∷ pos 2 ∷ []) ∷ [])
+
+-- ---- the blocks of the others: their letters are variables
+
+abbrev block : List Term → List Atom → Block
+block h ls = record { head = h; atoms = ls; apart = [] }
+
+abbrev view : Block → List (List ℕ) → View
+view b rs = record { block = b; rows = rs }
+
+abbrev strap : List Term → Atom
+strap ts = record { rel = 2; terms = ts }
+
+abbrev sig : List Term → Atom
+sig ts = record { rel = 4; terms = ts }
+
+abbrev beat : List Term → Atom
+beat ts = record { rel = 5; terms = ts }
+
+abbrev noise : List Term → Atom
+noise ts = record { rel = 6; terms = ts }
+
+abbrev pause : List Term → Atom
+pause ts = record { rel = 10; terms = ts }
+
+abbrev s : Term
+s = var 1
+
+abbrev t : Term
+t = var 2
+
+abbrev both : List Term
+both = s ∷ t ∷ []
+
+abbrev first : List Term
+first = s ∷ []
+
+abbrev all-sig : Block
+all-sig = block both (sig both ∷ [])
+
+abbrev all-beat : Block
+all-beat = block both (beat both ∷ [])
+
+abbrev sig-straps : Block
+sig-straps = block first (sig both ∷ [])
+
+abbrev seven : Block
+seven = block (con 7 ∷ []) (sig (con 7 ∷ t ∷ []) ∷ [])
+
+abbrev all-straps : Block
+all-straps = block first (strap first ∷ [])
+
+abbrev strap-and-pause : Block
+strap-and-pause = block first (strap first ∷ pause (t ∷ []) ∷ [])
+
+abbrev paused-strap : Block
+paused-strap = block [] (strap first ∷ pause first ∷ [])
+
+-- Beat(7,1) and Noise(7,n), asked for without a column
+abbrev beat-and-noise : ℕ → Block
+beat-and-noise n = block [] (beat (con 7 ∷ con 1 ∷ []) ∷ noise (con 7 ∷ con n ∷ []) ∷ [])
+
+abbrev one-pause : Block
+one-pause = block [] (pause (con 1 ∷ []) ∷ [])
+
+-- ticks with both a beat and noise
+abbrev same-tick : Block
+same-tick = block (t ∷ []) (beat (con 7 ∷ t ∷ []) ∷ noise (con 7 ∷ t ∷ []) ∷ [])
+
+-- ---- the table
+
+abbrev pub examples : List Entry
+examples =
+    judge (sheetOf whole) (case (7 ∷ 1 ∷ []) 2 (fact 4 (7 ∷ 1 ∷ []) ∷ fact 4 (7 ∷ 2 ∷ []) ∷ []))
+    ∷ judge (sheetOf without-rows) covered
+    ∷ judge (sheet all-sig (all-beat ∷ []) (view all-sig ((7 ∷ 1 ∷ []) ∷ []) ∷ view all-beat ((7 ∷ 1 ∷ []) ∷ []) ∷ [])) covered
+    ∷ judge (sheet sig-straps (seven ∷ []) (view sig-straps ((7 ∷ []) ∷ []) ∷ [])) covered
+    ∷ judge (sheet sig-straps (seven ∷ []) (view sig-straps ((7 ∷ []) ∷ (8 ∷ []) ∷ []) ∷ [])) (case (8 ∷ []) 2 [])
+    ∷ judge-any (view (block [] (beat both ∷ [])) ([] ∷ []) ∷ view all-beat [] ∷ [])
+    ∷ judge (sheet strap-and-pause (all-straps ∷ []) (view paused-strap [] ∷ [])) covered
+    ∷ judge (sheet (beat-and-noise 2) (one-pause ∷ []) (view same-tick [] ∷ [])) (case [] 2 (fact 5 (7 ∷ 1 ∷ []) ∷ fact 6 (7 ∷ 2 ∷ []) ∷ []))
+    ∷ judge (sheet (beat-and-noise 1) (one-pause ∷ []) (view same-tick [] ∷ [])) covered
+    ∷ evaluate sig-straps (fact 4 (7 ∷ 1 ∷ []) ∷ fact 4 (7 ∷ 2 ∷ []) ∷ fact 4 (8 ∷ 2 ∷ []) ∷ []) ((7 ∷ []) ∷ (8 ∷ []) ∷ [])
+    ∷ evaluate-any [] []
+    ∷ []

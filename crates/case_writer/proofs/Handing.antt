@@ -1,0 +1,158 @@
+-- From a good state in words to the case that is handed over, step by step.
+use mathlib.Core.Path.{_≡_, refl, sym, ap, _∙_, subst}
+use mathlib.Core.Bool.{Bool, true, false}
+use mathlib.Core.List.{List, [], _∷_, _++_, map}
+use mathlib.Core.Logic.{_⊎_, inl, inr, ⊎-elim}
+use Prim.Native.Nat.{ℕ, zero, suc, _+_, _-_, _*_, _<_, _≤_}
+use native.Mathlib.Omega.{arith}
+use lib.IntN.{ℤ, pos}
+use lib.ListN.{length, getD, take, drop, length-map}
+use lib.Seq.{length-take-le}
+use Rattle.sheet_format.specs.Relations.{columnsOf}
+use Rattle.query_meaning.specs.Meaning.{Fact, Log, In}
+use Rattle.query_meaning.specs.Facts as facts
+use Rattle.query_meaning.specs.Facts.{value-end}
+use Rattle.query_encoding.specs.Numbers.{FactNumbers, ShapedLog}
+use Rattle.query_blocks.proofs.Shape.{from-map}
+use Rattle.list_laws.specs.Wrote.{Wrote}
+use Rattle.case_verdicts.specs.Table.{relation}
+use Rattle.case_verdicts.specs.Verdict.{Sheet, Case}
+use Rattle.case_verdicts.specs.Handed.{Stands}
+use Rattle.case_verdicts.specs.Sheets.{top}
+use Rattle.case_verdicts.specs.Accepted.{width}
+use Rattle.case_verdicts.specs.Tableau.{State, jobs, logOf, headOf}
+use Rattle.case_verdicts.specs.Words.{stateOf}
+use Rattle.case_verdicts.proofs.Tableau.{log-formed}
+use Rattle.case_verdicts.proofs.Reduce.{good-case}
+use Rattle.case_verdicts.proofs.Known.{slots, of-upto, known-log}
+use Rattle.case_verdicts.proofs.Check.{MadeUp}
+use Rattle.tableau_plan.specs.Plan.{tableauSize, tableauFacts}
+use Rattle.tableau_parts.specs.Views.{MissingBy}
+use Rattle.tableau_parts.specs.Walks as walks
+use Rattle.case_order.specs.Order.{factAt, Ordered}
+use Rattle.case_minimization.specs.Shrink.{IsCase, Shrunk}
+use Rattle.search_chase.specs.Parts.{Ready, Found}
+use Rattle.search_chase.proofs.Heads.{inside}
+use Rattle.search_chase.proofs.Node as node
+use Rattle.search_chase.proofs.Node.{ten-columns}
+use Rattle.search_chase.proofs.ReadyLaws.{ready-task}
+use Rattle.search_chase.proofs.NodeLaws.{facts-by, ready-views}
+use Rattle.case_promise.proofs.Cases.{KnownLog}
+use Rattle.case_promise.proofs.Over.{HandedNumbers, taken-fact, part-few, ordered-case, handed-numbers}
+use Rattle.case_writer.specs.Over.{SpareFreeIn, HandsOver}
+
+-- ordered facts are those of the front of the words
+ordered-front : (ns : List ℕ) (n : ℕ) (ms : List ℕ) (m : ℕ) → Ordered ns n ms m → Ordered (take (n * 5) ns) n ms m
+ordered-front ns n ms m o = record {
+  few = o .few;
+  rising = o .rising;
+  only = λ i h. let (j, lt, e) = o .only i h in (j, lt, taken-fact ns n j lt ∙ e);
+  every = λ i h. let (j, lt, e) = o .every i h in (j, lt, e ∙ sym (taken-fact ns n i h));
+}
+
+module _ (p : List ℕ) (x : Sheet) (r : Ready p x) (st : List ℕ) (f : Found x x st) where
+  abbrev s : State
+  s = stateOf top st
+
+  abbrev log : Log
+  log = logOf x s
+
+  case : Case x log (headOf x s)
+  case = good-case x (r .accepted) s (f .good)
+
+  known : KnownLog log
+  known g m =
+      let d = log-formed x (r .accepted) s g m .known in
+      let e : relation (x .table) (g .rel) .columns ≡ columnsOf (pos (g .rel)) = ap (λ t. relation t (g .rel) .columns) (r .plain) ∙ ten-columns (g .rel) in
+      omega arith
+
+  -- each value stands in the sheet, or was made up
+  made : MadeUp top value-end x log
+  unfolding width
+  made g m n i = ⊎-elim (λ k. inl k) slot (known-log x (r .accepted) s g m n i)
+    where
+      slot : In n (map s (slots x)) → Stands x n ⊎ ((top ≤ n) × (n < value-end))
+      slot j =
+          let (k, w, e) = from-map s (slots x) n j in
+          let h = of-upto (length (jobs x) * 13) k w in
+          let c = r .plan .copies in
+          let d = r .plan .rows-few in
+          let z = f .size in
+          let q : n ≡ getD st k 0 = e ∙ inside st k (top + k) 0 (omega arith) in
+          ⊎-elim (λ t. inl (subst (Stands x) (sym q) t)) (λ t. inr (omega arith, omega arith)) (f .stood .each k (omega arith))
+
+  -- ---- the state's facts
+
+  module _ (one : List ℕ) (n : ℕ) (size : n ≡ tableauSize p - 0) (one-length : length one ≡ 630) (told : take (n * 5) one ≡ tableauFacts p s 0 n) where
+    pub facts-few : n ≤ 126
+    facts-few = let h = r .plan .few in omega arith
+
+    numbers : FactNumbers (take (n * 5) one) log
+    numbers = facts-by p x r true s (take (n * 5) one) 0 n refl size told
+
+    count : length log ≡ n
+    count = let a = numbers .count in let h = facts-few in let b = length-take-le (n * 5) one (omega arith) in omega arith
+
+    shaped : ShapedLog log
+    shaped = node.shaped-log p x x (r .plan) (ready-task p x r true) s (take (n * 5) one) numbers
+
+    -- ---- in order
+
+    module _ (two : List ℕ) (m : ℕ) (o : Ordered one n two m) (two-length : length two ≡ 630) where
+      pub ordered-few : m ≤ 126
+      ordered-few = let a = o .few in let b = facts-few in omega arith
+
+      ordered : Ordered (take (n * 5) one) (length log) two m
+      ordered = subst (λ k. Ordered (take (n * 5) one) k two m) (sym count) (ordered-front one n two m o)
+
+      few : length log ≤ 126
+      few = let a = facts-few in let b = count in omega arith
+
+      room : m * 5 ≤ length two
+      room = let a = ordered-few in omega arith
+
+      pub ordered-is : IsCase p (take (m * 5) two)
+      ordered-is = ordered-case p x r numbers shaped known few made ordered room (headOf x s) case
+
+      -- ---- shrunk
+
+      module _ (three : List ℕ) (k : ℕ) (shrunk : Shrunk p (take (m * 5) two) m (take (k * 5) three) k) where
+        pub shrunk-few : k ≤ 126
+        shrunk-few = let a = ordered-few in let b = part-few (shrunk .part) in omega arith
+
+        pub handed : (some : Bool) (u : List ℕ) → MissingBy some p (take (k * 5) three) u → HandedNumbers x (take (k * 5) three) k u
+        handed true u least = handed-numbers p x r numbers shaped known few made ordered room shrunk u least
+        handed false u lacking = absurd (lacking (shrunk .still .1 .0) (shrunk .still .1 .1))
+
+-- what state::facts, order::arrange and shrink::shrink ensure, together
+pub spare-free-in : (p : List ℕ) (x : Sheet) (r : Ready p x) (st : List ℕ) (f : Found x x st) (none one two three : List ℕ) (n m k : ℕ) → length none ≡ 630 → length one ≡ length none → length two ≡ length one
+    → (length p ≡ 1184 → 0 ≤ tableauSize p → tableauSize p ≤ 126 → 533 ≤ length st → 630 ≤ length none → (n ≡ tableauSize p - 0) × (take (n * 5) one ≡ tableauFacts p (stateOf top st) 0 n))
+    → (n * 5 ≤ length one → Ordered one n two m × (length two ≡ length one))
+    → (walks.Ready p → m ≤ 126 → m * 5 ≤ length two → IsCase p (take (m * 5) two) → Shrunk p (take (m * 5) two) m (take (k * 5) three) k)
+    → (k ≤ 126) × SpareFreeIn p x (take (k * 5) three) k
+spare-free-in p x r st f none one two three n m k l-none l-one l-two state-facts arrange shrink =
+    let z = f .size in
+    let (size, told) = state-facts (r .plan .size) (omega arith) (r .plan .few) (omega arith) (omega arith) in
+    let a : length one ≡ 630 = omega arith in
+    let b : length two ≡ 630 = omega arith in
+    let few = facts-few p x r st f one n size a told in
+    let (o, same) = arrange (omega arith) in
+    let m-few = ordered-few p x r st f one n size a told two m o b in
+    let s = shrink (ready-views p x r) m-few (omega arith) (ordered-is p x r st f one n size a told two m o b) in
+    (shrunk-few p x r st f one n size a told two m o b three k s, record { handed = handed p x r st f one n size a told two m o b three k s })
+
+-- ---- written
+
+pub written : (x : Sheet) (ks : List ℕ) (k : ℕ) (u : List ℕ) (out after : List ℤ) → HandedNumbers x ks k u → Wrote out after 0 (length ks) (map pos ks) → HandsOver x out after k u
+written x ks k u out after h w =
+    let e : 5 * k ≡ length ks = (let c = h .count in omega arith) in
+    let front : take (5 * k) after ≡ map pos ks = ap (λ n. take n after) e ∙ w .front in
+    record {
+      handed = h .handed;
+      count = sym (h .facts);
+      answer = h .answer-is;
+      facts = subst (λ ws. facts.factsRefusal ws .number ≡ 0) (sym front) (h .accepted);
+      read = ap facts.logOf front ∙ sym (h .log-is);
+      rest = ap (λ n. drop n after) e ∙ w .back ∙ ap (λ n. drop n out) (sym e);
+      same = w .same;
+    }

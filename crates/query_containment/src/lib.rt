@@ -1,0 +1,221 @@
+// Whether a list is given every row that a question is given and that begins as a row does.
+//
+// The question is frozen: a variable becomes a value that stands nowhere else, or the row's value where the head has it in one of the
+// columns that count, and each atom becomes a fact. If these facts, put after the given ones, give the list the frozen head, then the facts give
+// it all such rows: the valuation that gives the question a row takes each frozen value to one of its own.
+ghost use mathlib.Core.Path.{_≡_};
+ghost use mathlib.Core.Bool.{true};
+ghost use Prim.Native.Nat.{_+_, _*_, _≤_, _<_, min};
+ghost use lib.ListN.{length};
+ghost use Rattle.query_join.specs.Joins.{valueOf, headRow};
+ghost use Rattle.query_containment.specs.Frozen.{Small, Plain, OwnValue, OwnValues, under, atomUnder, Fronted, FactPut, AtomsPut, Covered};
+
+// The variables, and the numbers of a fact or an atom.
+const NAMES: usize = 13;
+
+const WIDTH: usize = 5;
+
+const MOST_ATOMS: usize = 6;
+
+// Given facts come in up to this many numbers; with a question's atoms they have room.
+const MOST_NUMBERS: usize = 630;
+
+const ROOM: usize = 660;
+
+// Where the columns end.
+const COLUMNS: usize = 4;
+
+// The value of the first variable that has one of its own.
+const FRESH: usize = 2000000;
+
+// Whether each number is below the values that stand for variables.
+fn is_small(s: &[usize]) -> bool
+    ensures { λ r. ⌜ (r ≡ true → Small (now (s .entry))) ⌝ }
+{
+    let mut i = 0;
+    while i < s.len() {
+        if FRESH <= s[i] {
+            return false;
+        }
+        i += 1;
+    }
+    true
+}
+
+// Whether no value stands for a variable.
+fn is_plain(q: &[usize; 34], l: &[usize; 34], facts: &[usize], row: [usize; 4]) -> bool
+    ensures { λ r. ⌜ (r ≡ true → Plain (now (q .entry)) (now (l .entry)) (now (facts .entry)) row) ⌝ }
+{
+    if !is_small(q) {
+        return false;
+    }
+    if !is_small(l) {
+        return false;
+    }
+    if !is_small(facts) {
+        return false;
+    }
+    is_small(&row)
+}
+
+// What variable x becomes.
+fn own_value(q: &[usize; 34], row: [usize; 4], k: usize, x: usize) -> usize
+    requires { ⌜ (k ≤ 4) × (x < 13) ⌝ }
+    ensures { λ r. ⌜ OwnValue (now (q .entry)) row k x r ⌝ }
+{
+    let mut p = 0;
+    while p < k {
+        if q[30 + p] == x {
+            return row[p];
+        }
+        p += 1;
+    }
+    FRESH + x
+}
+
+// What the variables become.
+fn own_values(q: &[usize; 34], row: [usize; 4], k: usize) -> [usize; 13]
+    requires { ⌜ k ≤ 4 ⌝ }
+    ensures { λ r. ⌜ OwnValues (now (q .entry)) row k r ⌝ }
+{
+    let mut vals = [0usize; 13];
+    let mut x = 0;
+    while x < NAMES {
+        vals[x] = own_value(q, row, k, x);
+        x += 1;
+    }
+    vals
+}
+
+// A term's value.
+fn value(t: usize, vals: &[usize; 13]) -> usize
+    ensures { λ r. ⌜ r ≡ valueOf (under (now (vals .entry))) t ⌝ }
+{
+    if t < NAMES {
+        return vals[t];
+    }
+    t - NAMES
+}
+
+// Atom j as a fact.
+fn atom(q: &[usize; 34], j: usize, vals: &[usize; 13]) -> [usize; 5]
+    requires { ⌜ j < 6 ⌝ }
+    ensures { λ r. ⌜ r ≡ atomUnder (now (q .entry)) (now (vals .entry)) j ⌝ }
+{
+    let at = j * WIDTH;
+    let a = value(q[at + 1], vals);
+    let b = value(q[at + 2], vals);
+    let c = value(q[at + 3], vals);
+    let d = value(q[at + 4], vals);
+    [q[at], a, b, c, d]
+}
+
+// The head's values.
+fn head(q: &[usize; 34], vals: &[usize; 13]) -> [usize; 4]
+    ensures { λ r. ⌜ r ≡ headRow (under (now (vals .entry))) (now (q .entry)) ⌝ }
+{
+    let a = value(q[30], vals);
+    let b = value(q[31], vals);
+    let c = value(q[32], vals);
+    let d = value(q[33], vals);
+    [a, b, c, d]
+}
+
+// Copies the first n numbers.
+fn copy(facts: &[usize], n: usize, out: &mut [usize])
+    requires { ⌜ (n ≤ length (now facts)) × (n ≤ length (now out)) ⌝ }
+    ensures { λ r. ⌜ Fronted n (now (facts .entry)) (now (out .exit)) ⌝ }
+{
+    let mut x = 0;
+    while x < n {
+        out[x] = facts[x];
+        x += 1;
+    }
+}
+
+// Puts a fact at place i.
+fn put(out: &mut [usize], i: usize, f: [usize; 5])
+    requires { ⌜ i * 5 + 5 ≤ length (now out) ⌝ }
+    ensures { λ r. ⌜ FactPut f 5 (i * 5) (now (out .entry)) (now (out .exit)) ⌝ }
+{
+    let mut d = 0;
+    while d < WIDTH {
+        out[i * WIDTH + d] = f[d];
+        d += 1;
+    }
+}
+
+// Puts the first n atoms as facts, from place m on.
+fn put_atoms(q: &[usize; 34], n: usize, vals: &[usize; 13], out: &mut [usize], m: usize)
+    requires { ⌜ (n ≤ 6) × ((m + n) * 5 ≤ length (now out)) ⌝ }
+    ensures { λ r. ⌜ AtomsPut (now (q .entry)) (now (vals .entry)) n m (now (out .entry)) (now (out .exit)) ⌝ }
+{
+    let mut j = 0;
+    while j < n {
+        let f = atom(q, j, vals);
+        put(out, m + j, f);
+        j += 1;
+    }
+}
+
+// A number of atoms, and not more than six.
+fn at_most_six(n: usize) -> usize
+    ensures { λ r. ⌜ r ≡ min n 6 ⌝ }
+{
+    if MOST_ATOMS < n {
+        return MOST_ATOMS;
+    }
+    n
+}
+
+// Whether the list is given all rows that the question is given and that have the row's values in the columns before k.
+fn is_covered(
+    q: &[usize; 34],
+    qn: usize,
+    l: &[usize; 34],
+    ln: usize,
+    facts: &[usize],
+    row: [usize; 4],
+    k: usize,
+) -> bool
+    requires { ⌜ (k ≤ 4) × (length (now facts) ≤ 630) ⌝ }
+    requires { ⌜ Plain (now q) (now l) (now facts) row ⌝ }
+    ensures { λ r. ⌜ (r ≡ true → Covered (now (q .entry)) (min qn 6) (now (l .entry)) (min ln 6) (now (facts .entry)) row k) ⌝ }
+{
+    let n = at_most_six(qn);
+    let m = facts.len() / WIDTH;
+    let vals = own_values(q, row, k);
+    let mut room = [0usize; ROOM];
+    copy(facts, m * WIDTH, &mut room);
+    put_atoms(q, n, &vals, &mut room, m);
+    let row = head(q, &vals);
+    query_answers::gives(l, ln, &room[..(m + n) * WIDTH], row)
+}
+
+// A column before which a row's values say that the list is given what the question is given, the first that was found; 4 if there is none.
+pub fn covered_from(
+    q: &[usize; 34],
+    qn: usize,
+    l: &[usize; 34],
+    ln: usize,
+    facts: &[usize],
+    row: [usize; 4],
+) -> usize
+    ensures { λ r. ⌜ r ≤ 4 ⌝ }
+    ensures { λ r. ⌜ (r < 4 → Covered (now (q .entry)) (min qn 6) (now (l .entry)) (min ln 6) (now (facts .entry)) row r) ⌝ }
+{
+    if MOST_NUMBERS < facts.len() {
+        return COLUMNS;
+    }
+    if !is_plain(q, l, facts, row) {
+        return COLUMNS;
+    }
+    let mut k = COLUMNS;
+    while 0 < k {
+        if !is_covered(q, qn, l, ln, facts, row, k - 1) {
+            return k;
+        }
+        k -= 1;
+    }
+    k
+}

@@ -1,0 +1,197 @@
+-- What facts in plain numbers say of a state of the search.
+use mathlib.Core.Path.{_≡_, refl, sym, ap, _∙_, subst}
+use mathlib.Core.List.{List, [], _∷_, _++_, map}
+use mathlib.Core.Logic.{_⊎_, inl, inr, ⊎-elim}
+use Prim.Native.Nat.{ℕ, zero, suc, _+_, _-_, _<_, _≤_, min}
+use native.Mathlib.Omega.{arith}
+use lib.IntN.{pos}
+use lib.ListN.{length, getD, length-map}
+use Rattle.sheet_format.specs.Relations.{relations, columnsAt, columnsOf}
+use Rattle.sheet_format.specs.Line.{gather}
+use Rattle.sheet_format.proofs.Lists.{append-nil}
+use Rattle.query_meaning.specs.Meaning.{Term, con, var, Fact, Log, Block, In, row, Holds, Answer}
+use Rattle.query_meaning.specs.Blocks.{View, nth, nowhere}
+use Rattle.query_join.specs.Joins.{Given}
+use Rattle.query_encoding.specs.Numbers.{BlockNumbers, FactNumbers, Shaped, ShapedLog, padded}
+use Rattle.query_encoding.proofs.Bridge.{answer-given, head-length, holds-by, head-row}
+use Rattle.query_encoding.proofs.Order.{pad-same}
+use Rattle.query_facts.proofs.Laws.{columns-most}
+use Rattle.query_blocks.proofs.Shape.{from-map}
+use Rattle.case_verdicts.specs.Table.{Table, relation, unknown, parents, owed, SameKey, Formed}
+use Rattle.case_verdicts.specs.Verdict.{Sheet}
+use Rattle.case_verdicts.specs.Sheets.{plain, ten, top}
+use Rattle.case_verdicts.specs.Accepted.{Fine, Accepted}
+use Rattle.case_verdicts.specs.Tableau.{Job, State, Copy, jobs, numbered, copy, facts, logOf, withParents, headOf, Meets, Good}
+use Rattle.case_verdicts.specs.Search.{Keeps, equations, lines, Refuted, RefutedBy, Alternatives}
+use Rattle.case_verdicts.proofs.Tableau.{log-formed}
+use Rattle.case_verdicts.proofs.Reduce.{row-con}
+use Rattle.case_verdicts.proofs.Refute.{list-gives, view-gives, copy-gives, step, none-left}
+use Rattle.tableau_plan.specs.Plan.{rowAt, rowValues, rowCount, viewCount, blockNumbers, blockSize, Plan}
+use Rattle.tableau_parts.specs.Views.{GivenAt, Listed, StrayAt, NoStray}
+use Rattle.search_chase.proofs.Padded.{refuted-padded}
+
+-- ---- the ten relations are plain
+
+line-plain : (cs : List ℕ) (n : ℕ) → (getD (map plain cs) n unknown .columns ≡ getD cs n 0) × (getD (map plain cs) n unknown .key ≡ 0) × (getD (map plain cs) n unknown .parent ≡ 0)
+line-plain [] n = (refl, refl, refl)
+line-plain (c ∷ cs) zero = (refl, refl, refl)
+line-plain (c ∷ cs) (suc n) = line-plain cs n
+
+pub ten-columns : (n : ℕ) → relation ten n .columns ≡ columnsOf (pos n)
+unfolding relation columnsOf
+ten-columns zero = refl
+ten-columns (suc n) = line-plain relations n .0
+
+ten-key : (n : ℕ) → relation ten n .key ≡ 0
+unfolding relation
+ten-key zero = refl
+ten-key (suc n) = line-plain relations n .1
+
+ten-parent : (n : ℕ) → relation ten n .parent ≡ 0
+unfolding relation
+ten-parent zero = refl
+ten-parent (suc n) = line-plain relations n .2
+
+pub no-parents : (f : Fact) → parents ten f ≡ []
+no-parents f = ap (λ k. owed k (f .row)) (ten-parent (f .rel))
+
+gather-alone : (l : Log) → gather (withParents ten) l ≡ l
+gather-alone [] = refl
+gather-alone (f ∷ l) = ap (λ q. (f ∷ q) ++ gather (withParents ten) l) (no-parents f) ∙ ap (λ q. f ∷ q) (gather-alone l)
+
+-- a plain sheet's log is its facts
+pub log-plain : (y : Sheet) (s : State) → y .table ≡ ten → logOf y s ≡ facts y s
+unfolding logOf
+log-plain y s e = ap (λ t. gather (withParents t) (facts y s)) e ∙ gather-alone (facts y s)
+
+-- no fact is settled by another
+pub no-keys : (y : Sheet) → y .table ≡ ten → (f g : Fact) → SameKey (y .table) f g → f .row ≡ g .row
+no-keys y e f g k = let h = k .some in let z : relation (y .table) (f .rel) .key ≡ 0 = ap (λ t. relation t (f .rel) .key) e ∙ ten-key (f .rel) in absurd (omega arith)
+
+-- ---- a task: the sheet itself, or the bare sheet, whose cases are the agreeing logs
+
+pub record Task (p : List ℕ) (x y : Sheet) : Type 0 where
+  pub accepted : Accepted top y
+  pub plain : y .table ≡ ten
+  pub same : y .views ≡ x .views
+  pub shaped : (v : ℕ) → v < viewCount p → Shaped (nth (x .views) v .block)
+  -- row i is copy i + 1
+  pub copies : (i : ℕ) → i < rowCount p → (r : List ℕ) → rowValues p i ≡ padded r → In r (nth (x .views) (rowAt p i 0) .rows)
+      → In (record { number = suc i; job = record { block = nth (x .views) (rowAt p i 0) .block; is = map con r } }) (numbered (jobs y))
+
+pub nth-in : (ws : List View) (v : ℕ) → v < length ws → In (nth ws v) ws
+nth-in [] v lt = absurd (omega arith)
+nth-in (w ∷ ws) zero lt = inl refl
+nth-in (w ∷ ws) (suc v) lt = inr (nth-in ws v (omega arith))
+
+pub in-nth : (ws : List View) (w : View) → In w ws → (v : ℕ) × (v < length ws) × (w ≡ nth ws v)
+in-nth (u ∷ ws) w (inl e) = (0, omega arith, e)
+in-nth (u ∷ ws) w (inr m) = let (v, lt, e) = in-nth ws w m in (suc v, omega arith, e)
+
+six : (n : ℕ) → n ≤ 6 → min n 6 ≡ n
+six n le = omega arith
+
+-- any log in numbers
+module _ (p : List ℕ) (x y : Sheet) (plan : Plan p x) (task : Task p x y) (log : Log) (ns : List ℕ) (fn : FactNumbers ns log) where
+  -- a view's answer in numbers
+  view-given : (v : ℕ) → v < viewCount p → (r : List ℕ) → Answer log (nth (x .views) v .block) r → GivenAt p (2 + v) ns (padded r)
+  view-given v lt r a =
+      let bn = plan .view v lt in
+      subst (λ n. Given (blockNumbers p (2 + v)) n ns (padded r)) (sym (six (blockSize p (2 + v)) (bn .few))) (answer-given bn (task .shaped v lt) fn a)
+
+  -- a row that is listed in the plan is listed in the sheet
+  listed-row : (v : ℕ) → v < viewCount p → (r : List ℕ) → length r ≡ length (nth (x .views) v .block .head) → Listed p v (padded r) → In r (nth (x .views) v .rows)
+  listed-row v lt r len (i, li, e, f) =
+      let o = plan .rows i li in
+      let c = plan .views in
+      let h = subst (λ w. In (o .row) (nth (x .views) w .rows)) e (o .listed) in
+      let q = task .accepted .lengths (nth (x .views) v) (subst (λ ws. In (nth (x .views) v) ws) (sym (task .same)) (nth-in (x .views) v (omega arith))) (o .row) h in
+      subst (λ t. In t (nth (x .views) v .rows)) (sym (pad-same r (o .row) (len ∙ sym q) (sym f ∙ o .values))) h
+
+  -- no stray row: every answer of a view is listed
+  pub none-stray : NoStray p ns → (w : View) → In w (y .views) → (r : List ℕ) → Answer log (w .block) r → In r (w .rows)
+  none-stray none w m r a =
+      let (v, lt, e) = in-nth (x .views) w (subst (λ ws. In w ws) (task .same) m) in
+      let c = plan .views in
+      let a' = subst (λ u. Answer log (u .block) r) e a in
+      subst (λ u. In r (u .rows)) (sym e) (listed-row v (omega arith) r (head-length a') (none v (omega arith) (padded r) (view-given v (omega arith) r a')))
+
+-- a state's log
+module _ (p : List ℕ) (x y : Sheet) (plan : Plan p x) (task : Task p x y) (s : State) (ns : List ℕ) (fn : FactNumbers ns (logOf y s)) where
+  pub shaped-log : ShapedLog (logOf y s)
+  shaped-log f m =
+      let d = log-formed y (task .accepted) s f m in
+      let e : length (f .row) ≡ columnsOf (pos (f .rel)) = d .full ∙ ap (λ t. relation t (f .rel) .columns) (task .plain) ∙ ten-columns (f .rel) in
+      let k = columns-most (pos (f .rel)) in
+      (e, omega arith)
+
+  -- a stray row, and each of its alternatives refuted
+  pub stray-refuted : (v : ℕ) (u : List ℕ) → StrayAt p ns v u
+      → ((i : ℕ) → i < rowCount p → rowAt p i 0 ≡ v → RefutedBy top y s (equations u (rowValues p i))) → Refuted top y s
+  stray-refuted v u st each =
+      let lt = st .view in
+      let c = plan .views in
+      let bn = plan .view v lt in
+      let sh = task .shaped v lt in
+      let w = nth (x .views) v in
+      let g = subst (λ n. Given (blockNumbers p (2 + v)) n ns u) (six (blockSize p (2 + v)) (bn .few)) (st .given) in
+      let holds = holds-by bn sh fn shaped-log (g .val) (g .met) in
+      let e : u ≡ padded (row (g .val) (w .block .head)) = sym (g .gives) ∙ head-row bn sh (g .val) in
+      let m = subst (λ ws. In w ws) (sym (task .same)) (nth-in (x .views) v (omega arith)) in
+      step (view-gives y (task .accepted) s w m (g .val) holds) (λ alt i.
+      let none : lines (g .val) (w .block) ≡ [] = ap (map _) (sh .plain) in
+      let (r, j, q) = from-map (equations (row (g .val) (w .block .head))) (w .rows) alt (subst (λ l. In alt l) (ap (λ l. map (equations (row (g .val) (w .block .head))) (w .rows) ++ l) none ∙ append-nil (map (equations (row (g .val) (w .block .head))) (w .rows))) i) in
+      let (k, lk, a, b) = plan .every-row v lt r j in
+      let len : length (row (g .val) (w .block .head)) ≡ length r = length-map (w .block .head) _ ∙ sym (task .accepted .lengths w m r j) in
+      subst (λ t. RefutedBy top y s t) (sym q) (refuted-padded top y s (row (g .val) (w .block .head)) r len
+      (subst (λ t. RefutedBy top y s (equations (padded (row (g .val) (w .block .head))) t)) b (subst (λ t. RefutedBy top y s (equations t (rowValues p k))) e (each k lk a)))))
+
+  -- the list gives the question's head: nothing below is good
+  pub list-refuted : (l : Block) → In l (y .lists) → Shaped l → BlockNumbers (blockNumbers p 1) (blockSize p 1) l → GivenAt p 1 ns (padded (headOf y s)) → length (l .head) ≡ length (headOf y s) → Refuted top y s
+  list-refuted l m sh bn g len =
+      let h = subst (λ n. Given (blockNumbers p 1) n ns (padded (headOf y s))) (six (blockSize p 1) (bn .few)) g in
+      let holds = holds-by bn sh fn shaped-log (h .val) (h .met) in
+      let e : row (h .val) (l .head) ≡ headOf y s = pad-same (row (h .val) (l .head)) (headOf y s) (length-map (l .head) _ ∙ len) (sym (head-row bn sh (h .val)) ∙ h .gives) in
+      none-left (subst (λ a. Alternatives top y s a) (ap (map _) (sh .plain)) (list-gives y (task .accepted) s l m (h .val) holds e))
+
+  -- the list lacks it
+  pub list-lacks : (l : Block) → Shaped l → BlockNumbers (blockNumbers p 1) (blockSize p 1) l → (GivenAt p 1 ns (padded (headOf y s)) → ⊥) → Answer (logOf y s) l (headOf y s) → ⊥
+  list-lacks l sh bn none a = none (subst (λ n. Given (blockNumbers p 1) n ns (padded (headOf y s))) (sym (six (blockSize p 1) (bn .few))) (answer-given bn sh fn a))
+
+  -- the head of row i's copy, with what it must be
+  pub head-refuted : (i : ℕ) → i < rowCount p → (u : List ℕ) → u ≡ padded (row (copy s (suc i)) (nth (x .views) (rowAt p i 0) .block .head)) → RefutedBy top y s (equations u (rowValues p i)) → Refuted top y s
+  head-refuted i lt u e r =
+      let o = plan .rows i lt in
+      let v = rowAt p i 0 in
+      let w = nth (x .views) v in
+      let c = plan .views in
+      let h = o .view in
+      let t = row (copy s (suc i)) (w .block .head) in
+      let m = subst (λ ws. In w ws) (sym (task .same)) (nth-in (x .views) v (omega arith)) in
+      let len : length t ≡ length (o .row) = length-map (w .block .head) _ ∙ sym (task .accepted .lengths w m (o .row) (o .listed)) in
+      let k = task .copies i lt (o .row) (o .values) (o .listed) in
+      let q = refuted-padded top y s t (o .row) len (subst (λ z. RefutedBy top y s (equations (padded t) z)) (o .values) (subst (λ z. RefutedBy top y s (equations z (rowValues p i))) e r)) in
+      step (copy-gives y (task .accepted) s (record { number = suc i; job = record { block = w .block; is = map con (o .row) } }) k)
+      (λ alt j. ⊎-elim (λ z. subst (λ a. RefutedBy top y s a) (sym z) (subst (λ a. RefutedBy top y s (equations t a)) (sym (row-con (copy s (suc i)) (o .row))) q)) absurd j)
+
+  -- every copy's head is what it must be, no view gives a stray row, no list gives the question's head: the state is good
+  pub good-state : ((c : Copy) → In c (numbered (jobs y)) → Meets (copy s (c .number)) (c .job)) → NoStray p ns → ((l : Block) → In l (y .lists) → Answer (logOf y s) l (headOf y s) → ⊥) → Good y s
+  good-state meets none lacks = record { meets = meets; keyed = λ f g m n k. no-keys y (task .plain) f g k; none-more = none-stray p x y plan task (logOf y s) ns fn none; missing = lacks }
+
+-- ---- what is settled stays settled
+
+pub kept-row : (h : ℕ → ℕ) (r : List ℕ) → Keeps top h → ((n : ℕ) → In n r → n < top) → map h r ≡ r
+kept-row h [] k small = refl
+kept-row h (n ∷ r) k small = ap (λ z. z ∷ map h r) (k n (small n (inl refl))) ∙ ap (λ l. n ∷ l) (kept-row h r k (λ m i. small m (inr i)))
+
+pub fine-row : (h v : ℕ → ℕ) (ts : List Term) → Keeps top h → Fine top ts → row (λ z. h (v z)) ts ≡ map h (row v ts)
+fine-row h v [] k f = refl
+fine-row h v (con c ∷ ts) k f = ap (λ z. z ∷ row (λ q. h (v q)) ts) (sym (k c (f (con c) (inl refl)))) ∙ ap (λ l. h c ∷ l) (fine-row h v ts k (λ t m. f t (inr m)))
+fine-row h v (var z ∷ ts) k f = ap (λ l. h (v z) ∷ l) (fine-row h v ts k (λ t m. f t (inr m)))
+
+-- a copy's head that is what it must be stays so when made-up values are replaced
+pub meets-kept : (h v : ℕ → ℕ) (j : Job) → Keeps top h → Fine top (j .block .head) → Fine top (j .is) → j .block .apart ≡ [] → Meets v j → Meets (λ z. h (v z)) j
+meets-kept h v j k f g e m = record {
+  gives = fine-row h v (j .block .head) k f ∙ ap (map h) (m .gives) ∙ sym (fine-row h v (j .is) k g);
+  differ = λ d i. absurd (subst (λ l. In d l) e i);
+}

@@ -1,0 +1,64 @@
+use mathlib.Core.Path.{_≡_, refl, sym, ap, _∙_}
+use mathlib.Core.Logic.{⊎-elim}
+use Prim.Native.Nat.{ℕ, _≤_, _<_, _-_, _%_, _+_, _*_}
+use native.Mathlib.Omega.{arith}
+use lib.ListN.{length, getD}
+use borrow.Author.Needs.{needs}
+use Rattle.search_chase.proofs.Heads.{head-variable, head-constant}
+use Rattle.search_chase.proofs.head_value.Statement.{statement}
+use Rattle.search_chase.proofs.head_value.Tie as tie
+use Rattle.search_chase.proofs.head_value.Reads as reads
+use Rattle.search_chase.proofs.head_value.Lts as lts
+
+mul-t : tie.Need-mul-t
+mul-t c = search needs
+
+add-t : tie.Need-add-t
+add-t c = search needs
+
+add-t-2 : tie.Need-add-t-2
+add-t-2 c = search needs
+
+add-t-3 : tie.Need-add-t-3
+add-t-3 c = search needs
+
+mul-t-2 : tie.Need-mul-t-2
+mul-t-2 c = search needs
+
+element-copy-out-t : tie.Need-element-copy-out-t
+element-copy-out-t c = search needs
+
+mul-result : tie.Need-mul-result
+mul-result c = search needs
+
+add-result : tie.Need-add-result
+add-result c = search needs
+
+mul-result-2 : tie.Need-mul-result-2
+mul-result-2 c = search needs
+
+shared-slice-read-result : tie.Need-shared-slice-read-result
+shared-slice-read-result c = search needs
+
+returns : tie.Need-returns
+returns c = let a = c .before .before .before .args in head-variable (a .p .now) (a .st .now) (a .b) (a .k) (a .c) (omega arith) (omega arith) (omega arith) (c .before .if1 .taken)
+
+returns-2 : tie.Need-returns-2
+returns-2 c = let a = c .before .before .args in head-constant (a .p .now) (a .st .now) (a .b) (a .k) (a .c) (omega arith) (omega arith) (omega arith) (c .if1 .left)
+
+pub head-value-spec : {M : Type 1} → statement M
+head-value-spec =
+    tie.close
+    (tie.spec
+    mul-t
+    add-t
+    add-t-2
+    add-t-3
+    mul-t-2
+    element-copy-out-t
+    mul-result
+    add-result
+    mul-result-2
+    shared-slice-read-result
+    returns
+    returns-2)

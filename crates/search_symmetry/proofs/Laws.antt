@@ -1,0 +1,197 @@
+-- What each step of a check adds to what is known of the values of two rows.
+use mathlib.Core.Path.{_≡_, refl, sym, ap, _∙_, subst}
+use mathlib.Core.Bool.{Bool, true, false, cond, true≢false}
+use mathlib.Core.List.{List, _∷_}
+use mathlib.Core.Logic.{_⊎_, inl, inr, ⊎-elim}
+use Prim.Native.Nat.{ℕ, zero, suc, _+_, _-_, _*_, _/_, _%_, _<_, _≤_}
+use native.Mathlib.Omega.{arith}
+use native.Mathlib.Numerals.{add-one}
+use borrow.Author.Tests.{eq-eqb, ne-eqb}
+use borrow.Author.Count.{below-more}
+use lib.Dec.{eqb}
+use lib.ListN.{length, getD, drop, set, length-set}
+use lib.Seq.{drop-cons, drop-length, getD-set-same, getD-set-other}
+use Rattle.case_verdicts.specs.Sheets.{top}
+use Rattle.tableau_plan.specs.Plan.{rowAt, rowValues, rowCount, viewCount, blockSize}
+use Rattle.search_conflict.specs.Reasons.{kept}
+use Rattle.search_symmetry.specs.Mirrors.{exchanged, copyTo, Mirrors}
+use Rattle.search_symmetry.specs.Steps.{Fours, Agrees, Swapped, Used, StaysAt, Stays, Becomes, Goes, Written, ComeBack, Unmoved, CopyTurned, CopiesTurned}
+
+-- a check that said no shows anything of a yes
+pub never : {P : Type 0} → false ≡ true → P
+never e = absurd (true≢false (sym e))
+
+-- a loop that counts to n ends there
+pub ended : (P : ℕ → Type 0) (c n : ℕ) → c ≤ n → n ≤ c → P c → P n
+ended P c n le ge h = subst P (let e : c ≡ n = omega arith in e) h
+
+-- ---- a value where those of two rows are exchanged
+
+module _ (a b : List ℕ) (v c : ℕ) (fours : Fours a b) (lt : c < 4) where
+  -- in the columns from c on
+  first : exchanged (drop c a) (drop c b) v ≡ cond (eqb v (getD a c 0)) (getD b c 0) (cond (eqb v (getD b c 0)) (getD a c 0) (exchanged (drop (suc c) a) (drop (suc c) b) v))
+  unfolding exchanged
+  first =
+      ap (λ (l : List ℕ). exchanged l (drop c b) v) (drop-cons a c 0 (let e = fours .0 in omega arith))
+      ∙ ap (λ (l : List ℕ). exchanged (getD a c 0 ∷ drop (suc c) a) l v) (drop-cons b c 0 (let e = fours .1 in omega arith))
+
+  pub turn-there : v ≡ getD a c 0 → exchanged (drop c a) (drop c b) v ≡ getD b c 0
+  turn-there e = first ∙ ap (λ (t : Bool). cond t (getD b c 0) (cond (eqb v (getD b c 0)) (getD a c 0) (exchanged (drop (suc c) a) (drop (suc c) b) v))) (eq-eqb v (getD a c 0) e)
+
+  miss : (v ≡ getD a c 0 → ⊥) → exchanged (drop c a) (drop c b) v ≡ cond (eqb v (getD b c 0)) (getD a c 0) (exchanged (drop (suc c) a) (drop (suc c) b) v)
+  miss n = first ∙ ap (λ (t : Bool). cond t (getD b c 0) (cond (eqb v (getD b c 0)) (getD a c 0) (exchanged (drop (suc c) a) (drop (suc c) b) v))) (ne-eqb v (getD a c 0) n)
+
+  pub turn-back : (v ≡ getD a c 0 → ⊥) → v ≡ getD b c 0 → exchanged (drop c a) (drop c b) v ≡ getD a c 0
+  turn-back n e = miss n ∙ ap (λ (t : Bool). cond t (getD a c 0) (exchanged (drop (suc c) a) (drop (suc c) b) v)) (eq-eqb v (getD b c 0) e)
+
+  pub turn-later : (v ≡ getD a c 0 → ⊥) → (v ≡ getD b c 0 → ⊥) → exchanged (drop c a) (drop c b) v ≡ exchanged (drop (c + 1) a) (drop (c + 1) b) v
+  turn-later n m =
+      miss n
+      ∙ ap (λ (t : Bool). cond t (getD a c 0) (exchanged (drop (suc c) a) (drop (suc c) b) v)) (ne-eqb v (getD b c 0) m)
+      ∙ ap (λ (k : ℕ). exchanged (drop k a) (drop k b) v) (sym (add-one c))
+
+pub turn-none : (a b : List ℕ) (v c : ℕ) → length a ≡ 4 → c ≡ 4 → exchanged (drop c a) (drop c b) v ≡ v
+unfolding exchanged
+turn-none a b v c long e =
+    ap (λ (l : List ℕ). exchanged l (drop c b) v) (ap (λ (k : ℕ). drop k a) (e ∙ sym long) ∙ drop-length a)
+
+-- ---- the constants of a stray row
+
+pub agrees-more : (u a : List ℕ) (c : ℕ) → Agrees u a c → (getD u c 0 < top → getD u c 0 ≡ getD a c 0) → Agrees u a (c + 1)
+agrees-more u a c s h = record { each = below-more (λ (d : ℕ). getD u d 0 < top → getD u d 0 ≡ getD a d 0) c (s .each) h }
+
+-- ---- rows that come back
+
+pub back-more : (to : List ℕ) (i : ℕ) → ComeBack to i → getD to i 0 < 40 → getD to (getD to i 0) 0 ≡ i → ComeBack to (i + 1)
+back-more to i s lt e = record { each = below-more (λ (j : ℕ). (getD to j 0 < 40) × (getD to (getD to j 0) 0 ≡ j)) i (s .each) (lt, e) }
+
+pub copy-on : (to : List ℕ) (k : ℕ) → (k ≡ 0 → ⊥) → getD to (k - 1) 0 + 1 ≡ copyTo to k
+copy-on to zero n = absurd (n refl)
+copy-on to (suc k) n = ap (λ (j : ℕ). getD to j 0 + 1) (let e : suc k - 1 ≡ k = omega arith in e) ∙ add-one (getD to k 0)
+
+-- ---- the copies of a stray row's made-up values
+
+pub unmoved-more : (to u : List ℕ) (c : ℕ) → Unmoved to u c → ((k x : ℕ) → k < 41 → x < 13 → getD u c 0 ≡ top + (k * 13 + x) → copyTo to k ≡ k) → Unmoved to u (c + 1)
+unmoved-more to u c s h = record { each = λ d k x lt. below-more (λ (e : ℕ). (i y : ℕ) → i < 41 → y < 13 → getD u e 0 ≡ top + (i * 13 + y) → copyTo to i ≡ i) c (λ e l i y. s .each e i y l) h d lt k x }
+
+pub unmoved-constant : (to u : List ℕ) (c : ℕ) → Unmoved to u c → getD u c 0 < top → Unmoved to u (c + 1)
+unmoved-constant to u c s lt = unmoved-more to u c s (λ k x a b e. absurd (omega arith))
+
+pub unmoved-outside : (to u : List ℕ) (c : ℕ) → Unmoved to u c → 533 ≤ getD u c 0 - top → Unmoved to u (c + 1)
+unmoved-outside to u c s ge = unmoved-more to u c s (λ k x a b e. absurd (omega arith))
+
+pub unmoved-slot : (to u : List ℕ) (c m : ℕ) → Unmoved to u c → m ≡ (getD u c 0 - top) / 13 → copyTo to m ≡ m → Unmoved to u (c + 1)
+unmoved-slot to u c m s q e = unmoved-more to u c s (λ k x a b h. let z : m ≡ k = omega arith in subst (λ (j : ℕ). copyTo to j ≡ j) z e)
+
+-- ---- the values of the rows, of blocks and of listed rows
+
+pub swapped-more : (a b : List ℕ) (c : ℕ) → Swapped a b c → exchanged a b (getD a c 0) ≡ getD b c 0 → exchanged a b (getD b c 0) ≡ getD a c 0 → Swapped a b (c + 1)
+swapped-more a b c s t r = record {
+  there = below-more (λ (d : ℕ). exchanged a b (getD a d 0) ≡ getD b d 0) c (s .there) t;
+  back = below-more (λ (d : ℕ). exchanged a b (getD b d 0) ≡ getD a d 0) c (s .back) r;
+}
+
+pub stays-more : (p a b : List ℕ) (k : ℕ) → Stays p a b k → StaysAt p a b k → Stays p a b (k + 1)
+stays-more p a b k s h = record { each = below-more (StaysAt p a b) k (s .each) h }
+
+pub becomes-none : (p a b : List ℕ) (i j : ℕ) → getD p (630 + j * 5) 0 ≡ getD p (630 + i * 5) 0 → Becomes p a b i j 0
+becomes-none p a b i j e = record {
+  view = ap (λ (k : ℕ). getD p k 0) (let q : 630 + j * 5 + 0 ≡ 630 + j * 5 = omega arith in q) ∙ e ∙ ap (λ (k : ℕ). getD p k 0) (let q : 630 + i * 5 ≡ 630 + i * 5 + 0 = omega arith in q);
+  values = λ c lt. absurd (omega arith);
+}
+
+pub becomes-more : (p a b : List ℕ) (i j c : ℕ) → Becomes p a b i j c → rowAt p j (1 + c) ≡ exchanged a b (rowAt p i (1 + c)) → Becomes p a b i j (c + 1)
+becomes-more p a b i j c s h = record { view = s .view; values = below-more (λ (d : ℕ). rowAt p j (1 + d) ≡ exchanged a b (rowAt p i (1 + d))) c (s .values) h }
+
+-- ---- where rows go
+
+pub written-more : (p a b : List ℕ) (rows : ℕ) (to : List ℕ) (i j : ℕ) → i < 40 → Written p a b rows to i → (i < rows → Goes p a b rows i j) → Written p a b rows (set to i j) (i + 1)
+written-more p a b rows to i j lt s h = record {
+  long = length-set to i j ∙ s .long;
+  each = below-more (λ (k : ℕ). k < rows → Goes p a b rows k (getD (set to i j) k 0)) i
+      (λ k l r. subst (Goes p a b rows k) (sym (getD-set-other to i k j 0 (λ e. omega arith))) (s .each k l r))
+      (λ r. subst (Goes p a b rows i) (sym (getD-set-same to i j 0 (let e = s .long in omega arith))) (h r));
+}
+
+-- ---- slots
+
+module _ (ws lv : List ℕ) (marks : List Bool) (a b : List ℕ) where
+  pub copy-more : (k m x : ℕ) → CopyTurned ws lv marks a b k m x
+      → (kept lv marks (k * 13 + x) ≡ true → getD ws (k * 13 + x) 0 < top → (kept lv marks (m * 13 + x) ≡ true) × (getD ws (m * 13 + x) 0 ≡ exchanged a b (getD ws (k * 13 + x) 0)))
+      → CopyTurned ws lv marks a b k m (x + 1)
+  copy-more k m x s h = record {
+    each = below-more (λ (y : ℕ). kept lv marks (k * 13 + y) ≡ true → getD ws (k * 13 + y) 0 < top → (kept lv marks (m * 13 + y) ≡ true) × (getD ws (m * 13 + y) 0 ≡ exchanged a b (getD ws (k * 13 + y) 0))) x (s .each) h;
+  }
+
+  pub copies-more : (to : List ℕ) (k m : ℕ) → CopiesTurned ws lv marks a b to k → m ≡ copyTo to k → CopyTurned ws lv marks a b k m 13 → CopiesTurned ws lv marks a b to (k + 1)
+  copies-more to k m s e h = record { each = below-more (λ (j : ℕ). CopyTurned ws lv marks a b j (copyTo to j) 13) k (s .each) (subst (λ (n : ℕ). CopyTurned ws lv marks a b k n 13) e h) }
+
+-- ---- all of it
+
+-- a row's values stand behind its view
+row-value : (p : List ℕ) (i c : ℕ) → c < 4 → getD (rowValues p i) c 0 ≡ rowAt p i (1 + c)
+row-value p i zero lt = ap (rowAt p i) (let e : 1 ≡ 1 + zero = omega arith in e)
+row-value p i (suc zero) lt = ap (rowAt p i) (let e : 2 ≡ 1 + suc zero = omega arith in e)
+row-value p i (suc (suc zero)) lt = ap (rowAt p i) (let e : 3 ≡ 1 + suc (suc zero) = omega arith in e)
+row-value p i (suc (suc (suc zero))) lt = ap (rowAt p i) (let e : 4 ≡ 1 + suc (suc (suc zero)) = omega arith in e)
+row-value p i (suc (suc (suc (suc c)))) lt = absurd (omega arith)
+
+exchanged-at : (p : List ℕ) (a b : List ℕ) (i j c : ℕ) → c < 4 → exchanged a b (getD (rowValues p i) c 0) ≡ getD (rowValues p j) c 0 → exchanged a b (rowAt p i (1 + c)) ≡ rowAt p j (1 + c)
+exchanged-at p a b i j c lt e = ap (exchanged a b) (sym (row-value p i c lt)) ∙ e ∙ row-value p j c lt
+
+-- what is found of rows whose values are a and b
+abbrev Found : List ℕ → List ℕ → List ℕ → List Bool → List ℕ → ℕ → ℕ → List ℕ → List ℕ → List ℕ → Type 0
+Found p ws lv marks u one other to a b =
+    Agrees u a 4
+    → Swapped a b 4
+    → Stays p a b ((2 + viewCount p) * 34)
+    → Written p a b (rowCount p) to 40
+    → CopiesTurned ws lv marks a b to 41
+    → Mirrors p ws lv marks u one other
+
+used-at : (p : List ℕ) (b k : ℕ) → k < 34 → (k / 5 < blockSize p b) ⊎ (30 ≤ k) → Used p (b * 34 + k)
+used-at p b k lt used =
+    let e : (b * 34 + k) % 34 ≡ k = omega arith in
+    let f : (b * 34 + k) / 34 ≡ b = omega arith in
+    ⊎-elim (λ h. inl (subst (λ (n : ℕ). (b * 34 + k) % 34 / 5 < getD p (1170 + n) 0) (sym f) (subst (λ (n : ℕ). n / 5 < blockSize p b) (sym e) h))) (λ h. inr (omega arith)) used
+
+all-mirrored : (p ws lv : List ℕ) (marks : List Bool) (u : List ℕ) (one other : ℕ) (to : List ℕ)
+    → one < rowCount p
+    → other < rowCount p
+    → rowCount p ≤ 40
+    → ComeBack to 40
+    → Unmoved to u 4
+    → Found p ws lv marks u one other to (rowValues p one) (rowValues p other)
+all-mirrored p ws lv marks u one other to lo lr few cb un ag sw st wr ct = record {
+  few = (lo, lr);
+  to = to;
+  exchanges = record {
+    there = λ c lt. exchanged-at p (rowValues p one) (rowValues p other) one other c lt (sw .there c lt);
+    back = λ c lt. exchanged-at p (rowValues p one) (rowValues p other) other one c lt (sw .back c lt);
+  };
+  fixed = record {
+    each = λ b k lb lk used.
+        subst (λ (n : ℕ). 13 ≤ getD p n 0 → exchanged (rowValues p one) (rowValues p other) (getD p n 0 - 13) ≡ getD p n 0 - 13)
+        (let e : 830 + (b * 34 + k) ≡ 830 + b * 34 + k = omega arith in e)
+        (st .each (b * 34 + k) (omega arith) (used-at p b k lk used));
+  };
+  rows = record {
+    row = λ i lt. record { inside = wr .each i (omega arith) lt .inside; view = wr .each i (omega arith) lt .becomes .view; values = wr .each i (omega arith) lt .becomes .values };
+    twice = cb .each;
+  };
+  slots = record { each = λ k x lk lx. ct .each k lk .each x lx };
+  stray = record { constants = λ c lt h. ag .each c lt h ∙ row-value p one c lt; slots = un .each };
+}
+
+pub all-found : (p ws lv : List ℕ) (marks : List Bool) (u : List ℕ) (one other : ℕ) (to a b : List ℕ)
+    → a ≡ rowValues p one
+    → b ≡ rowValues p other
+    → one < rowCount p
+    → other < rowCount p
+    → rowCount p ≤ 40
+    → ComeBack to 40
+    → Unmoved to u 4
+    → Found p ws lv marks u one other to a b
+all-found p ws lv marks u one other to a b ea eb lo lr few cb un =
+    subst (λ (l : List ℕ). Found p ws lv marks u one other to l b) (sym ea)
+    (subst (λ (l : List ℕ). Found p ws lv marks u one other to (rowValues p one) l) (sym eb) (all-mirrored p ws lv marks u one other to lo lr few cb un))

@@ -1,0 +1,59 @@
+-- What reading, writing and handing back a line give, for all input.
+use mathlib.Core.Bool.{Bool, true, false, cond}
+use mathlib.Core.List.{List, [], _∷_, _++_}
+use Prim.Native.Nat.{ℕ, zero, suc, _+_, _%_}
+use lib.Dec.{eqb, ltb}
+use lib.IntN.{ℤ}
+use lib.ListN.{length, drop}
+use Rattle.sheet_format.specs.Limits.{most-sheet-bytes, most-words, most-bytes, line-words}
+use Rattle.sheet_format.specs.Line.{byteLines, bytesOf, wordLines, wordsOf}
+use Rattle.sheet_format.specs.Cause.{refusal, refusalOf}
+use Rattle.sheet_format.specs.declared.Refusal.{Refusal}
+use Rattle.sheet_format.specs.declared.Ending.{Ending}
+use Rattle.sheet_format.specs.declared.Ending.the-variants.{Done, Refused}
+
+-- what is returned for each answer: number, line and count
+pub record Returned : Type 0 where
+  pub number : ℕ
+  pub line : ℕ
+  pub count : ℕ
+
+abbrev pub returned : Ending → Returned
+returned (Done n) = record { number = 0; line = 0; count = n }
+returned (Refused c l) = record { number = c; line = l; count = 0 }
+
+-- the refusal if there is one; else 13 if the lent room is below what is wanted; else n
+abbrev pub ending : Refusal → ℕ → ℕ → ℕ → Ending
+ending r room wanted n = cond (eqb (r .number) 0) (cond (ltb room wanted) (Refused 13 0) (Done n)) (Refused (r .number) (r .line))
+
+-- lent output afterwards: the new elements in front and the rest as it was; after a refusal all as it was
+abbrev pub over : {A : Type 0} → List A → List A → List A
+over new old = new ++ drop (length new) old
+
+abbrev pub lentBy : {A : Type 0} → Ending → List A → List A → List A
+lentBy (Done n) new old = over new old
+lentBy (Refused c l) new old = old
+
+-- ---- read: a sheet's bytes to its number form
+
+-- 1, then the causes of the lines
+unfoldable pub sheetRefusal : List ℕ → Refusal
+sheetRefusal s = cond (ltb most-sheet-bytes (length s)) (refusal 1 0) (refusalOf (byteLines s))
+
+unfoldable pub readEnding : List ℕ → ℕ → Ending
+readEnding s room = ending (sheetRefusal s) room most-words (length (byteLines s))
+
+unfoldable pub readWords : List ℕ → List ℤ → List ℤ
+readWords s out = lentBy (readEnding s (length out)) (wordsOf (byteLines s)) out
+
+-- ---- write: a number form to its bytes
+
+-- 1, then 2 for the word count, then the causes of the lines
+unfoldable pub wordsRefusal : List ℤ → Refusal
+wordsRefusal ws = cond (ltb most-words (length ws)) (refusal 1 0) (cond (eqb (length ws % line-words) 0) (refusalOf (wordLines ws)) (refusal 2 0))
+
+unfoldable pub writeEnding : List ℤ → ℕ → Ending
+writeEnding ws room = ending (wordsRefusal ws) room most-bytes (length (bytesOf (wordLines ws)))
+
+unfoldable pub writeBytes : List ℤ → List ℕ → List ℕ
+writeBytes ws out = lentBy (writeEnding ws (length out)) (bytesOf (wordLines ws)) out

@@ -1,0 +1,80 @@
+-- A signed word by its two cases: as a term, and as a relation's number. Assumes nothing.
+use mathlib.Core.Path.{_≡_, refl, sym, ap}
+use mathlib.Core.Bool.{true, false}
+use Prim.Native.Nat.{ℕ, zero, suc, _<_, _≤_, _-_}
+use native.Mathlib.Nat.{zero-add}
+use native.Mathlib.Omega.{arith}
+use lib.IntN.{ℤ, pos, negsuc, _-ℤ_}
+use lib.ListN.{getD, List·getD-eq-default}
+use lib.Signed.{ltZ}
+use mir.Syntax.{w32}
+use mir.Val.{SFits, toZ, ofZ}
+use mir.ValLaws.{toZ-ofZ, toZ-pos}
+use borrow.Author.Tests.{ltb-true, ltb-false, lt-ltb, le-ltb}
+use Rattle.sheet_format.specs.Cause.{termOf, orOut}
+use Rattle.sheet_format.specs.Relations.{columnsOf, relations}
+use Rattle.sheet_format.specs.declared.Term.the-variants.{Constant, Variable, OutOfRange}
+
+pub no-way {ℓ} : {A : Type ℓ} → false ≡ true → A
+no-way e = let z : _≡_ {A = ℕ} 0 1 = cc in absurd (omega arith)
+
+-- the word read back from its bits is the word
+pub back : {z : ℤ} → SFits w32 z → toZ w32 (ofZ w32 z) ≡ z
+back {z} h = toZ-ofZ w32 z h
+
+pub to-pos : (n : ℕ) → n < 2147483648 → toZ w32 n ≡ pos n
+to-pos n h = toZ-pos w32 n h
+
+-- ---- terms
+
+-- from the last variable to -1: the negation is the index
+pub variable : (z : ℤ) → ltZ z (pos 0) ≡ true → ltZ z (negsuc 11) ≡ false → (n : ℕ) × (n < 12) × (z ≡ negsuc n) × (pos 0 -ℤ z ≡ pos (suc n))
+variable (pos n) e f = let h = ltb-true n 0 e in absurd (omega arith)
+variable (negsuc n) e f = (n, (let h = ltb-false 11 n f in omega arith), refl, ap pos (zero-add (suc n)))
+
+pub term-variable : (n : ℕ) → n < 12 → Variable (suc n) ≡ termOf (negsuc n)
+unfolding termOf
+term-variable n h = ap (λ b. orOut b (Variable (suc n))) (sym (lt-ltb n 12 h))
+
+pub term-low : (z : ℤ) → ltZ z (negsuc 11) ≡ true → OutOfRange ≡ termOf z
+unfolding termOf
+term-low (pos n) e = no-way e
+term-low (negsuc n) e = ap (λ b. orOut b (Variable (suc n))) (sym (le-ltb n 12 (let h = ltb-true 11 n e in omega arith)))
+
+pub constant : (z : ℤ) → ltZ z (pos 0) ≡ false → ltZ z (pos 1000000) ≡ true → (n : ℕ) × (n < 1000000) × (z ≡ pos n)
+constant (pos n) e f = (n, ltb-true n 1000000 f, refl)
+constant (negsuc n) e f = no-way (sym e)
+
+pub term-constant : (n : ℕ) → n < 1000000 → Constant n ≡ termOf (pos n)
+unfolding termOf
+term-constant n h = ap (λ b. orOut b (Constant n)) (sym (lt-ltb n 1000000 h))
+
+pub term-high : (z : ℤ) → ltZ z (pos 1000000) ≡ false → OutOfRange ≡ termOf z
+unfolding termOf
+term-high (pos n) e = ap (λ b. orOut b (Constant n)) (sym e)
+term-high (negsuc n) e = no-way (sym e)
+
+-- ---- relations
+
+pub no-columns : (z : ℤ) → ltZ z (pos 1) ≡ true → 0 ≡ columnsOf z
+unfolding columnsOf
+no-columns (pos zero) e = refl
+no-columns (pos (suc n)) e = let h = ltb-true (suc n) 1 e in absurd (omega arith)
+no-columns (negsuc n) e = refl
+
+-- from 1 on
+pub relation : (z : ℤ) → ltZ z (pos 1) ≡ false → (n : ℕ) × (z ≡ pos (suc n))
+relation (pos zero) e = let h = ltb-false 0 1 e in absurd (omega arith)
+relation (pos (suc n)) e = (n, refl)
+relation (negsuc n) e = no-way (sym e)
+
+-- the table's entry is the relation's columns, and past its end there is none
+pub columns-at : (n : ℕ) → getD relations (suc n - 1) 0 ≡ columnsOf (pos (suc n))
+unfolding columnsOf
+columns-at n =
+    let e : suc n - 1 ≡ n = omega arith in
+    ap (λ k. getD relations k 0) e
+
+pub columns-past : (n : ℕ) → 10 ≤ n → 0 ≡ columnsOf (pos (suc n))
+unfolding columnsOf
+columns-past n h = sym (List·getD-eq-default relations 0 h)

@@ -1,0 +1,40 @@
+// Terms and relations of a sheet, by their numbers.
+use sheet_format::COLUMNS;
+use sheet_format::CONSTANT_END;
+use sheet_format::Term;
+use sheet_format::VARIABLES;
+ghost use mathlib.Core.Path.{_≡_};
+ghost use Rattle.sheet_format.specs.Cause.{termOf};
+ghost use Rattle.sheet_format.specs.Relations.{columnsOf};
+
+const LAST_VARIABLE: i32 = -VARIABLES;
+
+// What a number stands for as a term; a variable's index is its number negated.
+pub fn term_of(t: i32) -> Term
+    ensures { λ r. ⌜ r ≡ termOf t ⌝ }
+{
+    if t < 0 {
+        if t < LAST_VARIABLE {
+            return Term::OutOfRange;
+        }
+        return Term::Variable((-t) as usize);
+    }
+    if t < CONSTANT_END {
+        return Term::Constant(t as usize);
+    }
+    Term::OutOfRange
+}
+
+// The columns of a relation, 0 where there is no such relation.
+pub fn columns(relation: i32) -> usize
+    ensures { λ r. ⌜ r ≡ columnsOf relation ⌝ }
+{
+    if relation < 1 {
+        return 0;
+    }
+    let number = relation as usize;
+    if COLUMNS.len() < number {
+        return 0;
+    }
+    COLUMNS[number - 1]
+}

@@ -1,0 +1,71 @@
+-- `views::same` meets its contract: the loop's invariant: the rows agree in the columns before k. The measure is what is left of the columns. Assumes nothing.
+use Rattle.tableau_parts.proofs.Laws.{same-yes}
+use Rattle.query_answers.specs.Answers.{Agree}
+use Rattle.query_answers.proofs.Rows.{agree-more}
+use mathlib.Core.Path.{_≡_, ap, subst}
+use Prim.Native.Nat.{_≤_, _-_}
+use native.Mathlib.Omega.{arith}
+use borrow.Author.Needs.{needs}
+use lib.ListN.{length, getD}
+use Rattle.tableau_parts.proofs.same.Statement.{statement}
+use Rattle.tableau_parts.proofs.same.Tie as tie
+
+abbrev Inv-loop : tie.InvT-loop
+Inv-loop t u k₀ k = (k ≤ 4) × Agree k t u × (length t ≡ 4) × (length u ≡ 4)
+
+abbrev μ-loop : tie.MeasureT-loop
+μ-loop t u k₀ k = 4 - k
+
+loop-holds : tie.Need-loop-holds Inv-loop μ-loop
+loop-holds c = (omega arith, record { same = λ q lt. absurd (omega arith) }, search needs, search needs)
+
+mul-if1 : tie.Need-mul-if1 Inv-loop μ-loop
+mul-if1 c = search needs
+
+array-read-if1 : tie.Need-array-read-if1 Inv-loop μ-loop
+array-read-if1 c = search needs
+
+mul-if1-2 : tie.Need-mul-if1-2 Inv-loop μ-loop
+mul-if1-2 c = search needs
+
+array-read-if1-2 : tie.Need-array-read-if1-2 Inv-loop μ-loop
+array-read-if1-2 c = search needs
+
+returns : tie.Need-returns Inv-loop μ-loop
+returns c = λ e. c .if1 .taken (ap (λ l. getD l (c .before .before .loop .k) 0) e)
+
+add-k : tie.Need-add-k Inv-loop μ-loop
+add-k c = search needs
+
+loop-less : tie.Need-loop-less Inv-loop μ-loop
+loop-less c = search needs
+
+loop-again : tie.Need-loop-again Inv-loop μ-loop
+loop-again c =
+    let l = c .before .before in
+    let s = l .before in
+    (omega arith, agree-more (l .loop .k) (s .args .t1) (s .args .t2) (l .loop .inv .1) (c .if1 .left), l .loop .inv .2, l .loop .inv .3)
+
+returns-2 : tie.Need-returns-2 Inv-loop μ-loop
+returns-2 c =
+    let l = c .before in
+    let s = l .before in
+    let e : l .loop .k ≡ 4 = omega arith in
+    same-yes (s .args .t1) (s .args .t2) (l .loop .inv .2) (l .loop .inv .3) (subst (λ k. Agree k (s .args .t1) (s .args .t2)) e (l .loop .inv .1))
+
+pub same-spec : {M : Type 1} → statement M
+same-spec =
+    tie.close
+    (tie.spec
+    Inv-loop
+    μ-loop
+    loop-holds
+    mul-if1
+    array-read-if1
+    mul-if1-2
+    array-read-if1-2
+    returns
+    add-k
+    loop-less
+    loop-again
+    returns-2)

@@ -1,0 +1,125 @@
+-- The tableau: its terms under a state, its facts, and its copies one by one. Assumes nothing.
+use mathlib.Core.Path.{_≡_, refl, sym, ap, _∙_}
+use mathlib.Core.List.{List, [], _∷_, _++_, map}
+use mathlib.Core.Logic.{inl, inr}
+use Prim.Native.Nat.{ℕ, zero, suc, _+_, _-_, _*_, _<_, _≤_}
+use native.Mathlib.Omega.{arith}
+use lib.ListN.{length, getD, length-map, List·getD-map}
+use borrow.Author.Tests.{lt-ltb, le-ltb}
+use Rattle.sheet_format.specs.Line.{gather}
+use Rattle.sheet_format.proofs.Lists.{map-append}
+use Rattle.query_meaning.specs.Meaning.{Term, con, var, Fact, value, fact, factOf, Atom, Block}
+use Rattle.query_encoding.specs.Numbers.{number, termAt, FactNumbers}
+use Rattle.case_verdicts.specs.Accepted.{width, FineTerm, Fine}
+use Rattle.case_verdicts.specs.Sheets.{top}
+use Rattle.case_verdicts.specs.Verdict.{Sheet}
+use Rattle.case_verdicts.specs.Tableau.{Job, Copy, later, numbered, State, copy, copyFacts, facts, jobs, listed, bare}
+use Rattle.tableau_plan.specs.Plan.{tableauAt, slotValue, tableauFacts}
+use Rattle.tableau_plan.specs.Parts.{slotOf, Placed, unplaced, atomsFrom, PlacedNumbers}
+
+-- ---- a term of a copy under a state
+
+pub slot-value : (s : State) (k : ℕ) (t : Term) → k ≤ 40 → FineTerm top t → slotValue s (slotOf k (number t)) ≡ value (copy s k) t
+unfolding slotValue slotOf width
+slot-value s k (con c) h f =
+    let e : c + 13 + 520 - 533 ≡ c = omega arith in
+    let a : slotOf k (c + 13) ≡ c + 13 + 520 = simp (le-ltb (c + 13) 13 (omega arith), lt-ltb (c + 13) 1000013 (omega arith)) in
+    ap (slotValue s) a ∙ simp (le-ltb (c + 13 + 520) 533 (omega arith)) e
+slot-value s k (var x) h f =
+    let a : slotOf k x ≡ k * 13 + x = simp (lt-ltb x 13 f) in
+    ap (slotValue s) a ∙ simp (lt-ltb (k * 13 + x) 533 (omega arith))
+
+pub term-fine : (ts : List Term) → Fine top ts → (c : ℕ) → FineTerm top (termAt ts c)
+term-fine [] h c = omega arith
+term-fine (t ∷ ts) h zero = h t (inl refl)
+term-fine (t ∷ ts) h (suc c) = term-fine ts (λ u m. h u (inr m)) c
+
+-- ---- the facts of the tableau
+
+pub tableau-length : (p : List ℕ) (s : State) (a n : ℕ) → length (tableauFacts p s a n) ≡ n * 5
+unfolding tableauFacts
+tableau-length p s a zero = refl
+tableau-length p s a (suc n) = let e = tableau-length p s (suc a) n in omega arith
+
+pub tableau-relation : (p : List ℕ) (s : State) (a n i : ℕ) → i < n → getD (tableauFacts p s a n) (i * 5) 0 ≡ tableauAt p (a + i) 0
+unfolding tableauFacts
+tableau-relation p s a zero i h = absurd (omega arith)
+tableau-relation p s a (suc n) zero h = ap (λ y. tableauAt p y 0) (let e : a ≡ a + 0 = omega arith in e)
+tableau-relation p s a (suc n) (suc i) h =
+    let e : suc i * 5 ≡ suc (suc (suc (suc (suc (i * 5))))) = omega arith in
+    ap (λ y. getD (tableauFacts p s a (suc n)) y 0) e ∙ tableau-relation p s (suc a) n i (omega arith) ∙ ap (λ y. tableauAt p y 0) (let e : suc a + i ≡ a + suc i = omega arith in e)
+
+pub tableau-term : (p : List ℕ) (s : State) (a n i c : ℕ) → i < n → c < 4 → getD (tableauFacts p s a n) (i * 5 + 1 + c) 0 ≡ slotValue s (getD p ((a + i) * 5 + 1 + c) 0)
+unfolding tableauFacts
+tableau-term p s a zero i c h f = absurd (omega arith)
+tableau-term p s a (suc n) zero zero h f = ap (λ y. slotValue s (getD p y 0)) (let e : a * 5 + 1 ≡ (a + 0) * 5 + 1 + 0 = omega arith in e)
+tableau-term p s a (suc n) zero (suc zero) h f = ap (λ y. slotValue s (getD p y 0)) (let e : a * 5 + 2 ≡ (a + 0) * 5 + 1 + 1 = omega arith in e)
+tableau-term p s a (suc n) zero (suc (suc zero)) h f = ap (λ y. slotValue s (getD p y 0)) (let e : a * 5 + 3 ≡ (a + 0) * 5 + 1 + 2 = omega arith in e)
+tableau-term p s a (suc n) zero (suc (suc (suc zero))) h f = ap (λ y. slotValue s (getD p y 0)) (let e : a * 5 + 4 ≡ (a + 0) * 5 + 1 + 3 = omega arith in e)
+tableau-term p s a (suc n) zero (suc (suc (suc (suc c)))) h f = absurd (omega arith)
+tableau-term p s a (suc n) (suc i) c h f =
+    let e : suc i * 5 + 1 + c ≡ suc (suc (suc (suc (suc (i * 5 + 1 + c))))) = omega arith in
+    ap (λ y. getD (tableauFacts p s a (suc n)) y 0) e ∙ tableau-term p s (suc a) n i c (omega arith) f ∙ ap (λ y. slotValue s (getD p y 0)) (let e : (suc a + i) * 5 + 1 + c ≡ (a + suc i) * 5 + 1 + c = omega arith in e)
+
+-- an atom of a copy as a fact
+abbrev pub factIn : State → Placed → Fact
+factIn s a = factOf (copy s (a .number)) (a .atom)
+
+pub placed-facts : (p : List ℕ) (s : State) (l : List Placed) (a : ℕ) → ((i : ℕ) → i < length l → PlacedNumbers p (a + i) (getD l i unplaced)) → FactNumbers (tableauFacts p s a (length l)) (map (factIn s) l)
+placed-facts p s l a h =
+    let m = length-map l (factIn s) in
+    record {
+      count = tableau-length p s a (length l) ∙ ap (λ n. n * 5) (sym m);
+      relation = λ i k. tableau-relation p s a (length l) i (omega arith) ∙ h i (omega arith) .relation ∙ ap (λ (f : Fact). f .rel) (sym (List·getD-map (factIn s) l i unplaced));
+      values = λ i k c f.
+          tableau-term p s a (length l) i c (omega arith) f
+          ∙ h i (omega arith) .terms s c f
+          ∙ sym (List·getD-map (value (copy s (getD l i unplaced .number))) (getD l i unplaced .atom .terms) c (con 0))
+          ∙ ap (λ (f : Fact). getD (f .row) c 0) (sym (List·getD-map (factIn s) l i unplaced));
+    }
+
+-- ---- the facts of the copies
+
+blocksOf : List Job → List Block
+blocksOf js = map (λ j. j .block) js
+
+module _ {A B : Type 0} where
+  gather-same : (f g : A → List B) → ((x : A) → f x ≡ g x) → (l : List A) → gather f l ≡ gather g l
+  gather-same f g e [] = refl
+  gather-same f g e (x ∷ l) = ap (λ t. t ++ gather f l) (e x) ∙ ap (λ t. g x ++ t) (gather-same f g e l)
+
+  gather-map : {C : Type 0} (f : B → List C) (h : A → B) (l : List A) → gather f (map h l) ≡ gather (λ x. f (h x)) l
+  gather-map f h [] = refl
+  gather-map f h (x ∷ l) = ap (λ t. f (h x) ++ t) (gather-map f h l)
+
+placed-map : (s : State) (k : ℕ) (l : List Atom) → map (factIn s) (map (λ a. record { number = k; atom = a }) l) ≡ map (factOf (copy s k)) l
+placed-map s k [] = refl
+placed-map s k (a ∷ l) = ap (λ t. factOf (copy s k) a ∷ t) (placed-map s k l)
+
+-- the facts of jobs whose numbers start at m
+abbrev from : State → ℕ → Copy → List Fact
+from s m c = map (factOf (copy s (m + c .number))) (c .job .block .atoms)
+
+from-next : (s : State) (m : ℕ) (c : Copy) → from s m (later c) ≡ from s (suc m) c
+from-next s m c = ap (λ n. map (factOf (copy s n)) (c .job .block .atoms)) (let e : m + suc (c .number) ≡ suc m + c .number = omega arith in e)
+
+facts-from : (s : State) (m : ℕ) (js : List Job) → gather (from s m) (numbered js) ≡ map (factIn s) (atomsFrom m (blocksOf js))
+unfolding blocksOf
+facts-from s m [] = refl
+facts-from s m (j ∷ js) =
+    let z : m + 0 ≡ m = omega arith in
+    ap (λ n. map (factOf (copy s n)) (j .block .atoms) ++ gather (from s m) (map later (numbered js))) z
+    ∙ ap (λ t. map (factOf (copy s m)) (j .block .atoms) ++ t)
+    (gather-map (from s m) later (numbered js) ∙ gather-same (λ c. from s m (later c)) (from s (suc m)) (from-next s m) (numbered js) ∙ facts-from s (suc m) js)
+    ∙ ap (λ t. t ++ map (factIn s) (atomsFrom (suc m) (blocksOf js))) (sym (placed-map s m (j .block .atoms)))
+    ∙ sym (map-append (factIn s) (map (λ a. record { number = m; atom = a }) (j .block .atoms)) (atomsFrom (suc m) (blocksOf js)))
+
+copies-from : (s : State) (c : Copy) → copyFacts s c ≡ from s 0 c
+copies-from s c = ap (λ n. map (factOf (copy s n)) (c .job .block .atoms)) (let e : c .number ≡ 0 + c .number = omega arith in e)
+
+pub facts-placed : (x : Sheet) (s : State) → facts x s ≡ map (factIn s) (atomsFrom 0 (map (λ (j : Job). j .block) (jobs x)))
+unfolding blocksOf
+facts-placed x s = gather-same (copyFacts s) (from s 0) (copies-from s) (numbered (jobs x)) ∙ facts-from s 0 (jobs x)
+
+pub bare-placed : (x : Sheet) (s : State) → facts (bare x) s ≡ map (factIn s) (atomsFrom 1 (map (λ (j : Job). j .block) (gather listed (x .views))))
+bare-placed x s = facts-placed (bare x) s

@@ -1,0 +1,308 @@
+-- Blocks, rows, tableau and counts together are the plan of an accepted sheet. Assumes nothing.
+use mathlib.Core.Path.{_≡_, refl, sym, ap, _∙_, subst}
+use mathlib.Core.List.{List, [], _∷_, map}
+use mathlib.Core.Logic.{inl, inr}
+use Prim.Native.Nat.{ℕ, zero, suc, _+_, _-_, _*_, _<_, _≤_}
+use native.Mathlib.Omega.{arith}
+use lib.ListN.{length, getD, length-map, length-append}
+use lib.Seq.{getD-append-add}
+use Rattle.sheet_format.specs.Line.{Line, gather}
+use Rattle.query_meaning.specs.Meaning.{con, Atom, Block, In}
+use Rattle.query_meaning.specs.Blocks.{View, blocks, nth, blockAt}
+use Rattle.query_encoding.specs.Numbers.{BlockNumbers, FactNumbers, padded}
+use Rattle.case_verdicts.specs.Verdict.{Sheet}
+use Rattle.case_verdicts.specs.Handed.{rowAtoms, size}
+use Rattle.case_verdicts.specs.Accepted.{Fine}
+use Rattle.case_verdicts.specs.Sheets.{top, isView, sheetOf}
+use Rattle.case_verdicts.specs.Tableau.{Job, State, listed, jobs, facts, bare}
+use Rattle.case_verdicts.proofs.Lists.{total, total-each, total-append, total-map}
+use Rattle.case_verdicts.proofs.Order.{block-question, block-list, block-view, block-count}
+use Rattle.case_verdicts.proofs.Sizes.{accepted-size}
+use Rattle.case_verdicts.proofs.Accepted.{accepted-sheet}
+use Rattle.tableau_plan.specs.Plan.{rowAt, rowValues, blockNumbers, blockSize, tableauSize, askedSize, rowCount, viewCount, tableauFacts, RowOf, Plan}
+use Rattle.tableau_plan.specs.Parts.{Accepted, Kept, Blocks, Listed, unlisted, rowsFrom, RowNumbers, RowsDone, sourceOf, noBlock, Placed, unplaced, atomsFrom, Sources, PlacedNumbers, TableauDone, Closed}
+use Rattle.tableau_plan.proofs.Blocks.{accepted-views, numbers-same}
+use Rattle.tableau_plan.proofs.Rows.{flatFrom, rows-walked, jobOf, views-all, view-jobs, OfView, flat-of, flat-place, at-in}
+use Rattle.tableau_plan.proofs.Taken.{row-same, all-taken}
+use Rattle.tableau_plan.proofs.Tableau.{placed-facts, facts-placed, bare-placed}
+use Rattle.tableau_plan.proofs.Copies.{placed-same, copies-all}
+
+-- ---- lists
+
+map-get : {A B : Type 0} (f : A → B) (d : A) (e : B) (l : List A) (i : ℕ) → i < length l → getD (map f l) i e ≡ f (getD l i d)
+map-get f d e [] i h = absurd (omega arith)
+map-get f d e (x ∷ l) zero h = refl
+map-get f d e (x ∷ l) (suc i) h = map-get f d e l i (omega arith)
+
+nth-in : (ws : List View) (j : ℕ) → j < length ws → In (nth ws j) ws
+nth-in [] j h = absurd (omega arith)
+nth-in (w ∷ ws) zero h = inl refl
+nth-in (w ∷ ws) (suc j) h = inr (nth-in ws j (omega arith))
+
+-- ---- how many atoms there are
+
+abbrev jobSize : Job → ℕ
+jobSize j = length (j .block .atoms)
+
+atoms-length : (k : ℕ) (js : List Job) → length (atomsFrom k (map (λ (j : Job). j .block) js)) ≡ total jobSize js
+atoms-length k [] = refl
+atoms-length k (j ∷ js) =
+    let f : Atom → Placed = λ a. record { number = k; atom = a } in
+    let a = length-append (map f (j .block .atoms)) (atomsFrom (suc k) (map (λ (j : Job). j .block) js)) in
+    let b = length-map (j .block .atoms) f in
+    let c = atoms-length (suc k) js in
+    omega arith
+
+view-size : (w : View) → total jobSize (listed w) ≡ length (w .rows) * length (w .block .atoms)
+view-size w = total-map jobSize (λ r. record { block = w .block; is = map con r }) (w .rows) ∙ total-each (length (w .block .atoms)) (w .rows)
+
+rows-size : (ws : List View) → total jobSize (gather listed ws) ≡ rowAtoms ws
+rows-size [] = refl
+rows-size (w ∷ ws) =
+    let a = total-append jobSize (listed w) (gather listed ws) in
+    let b = view-size w in
+    let c = rows-size ws in
+    omega arith
+
+-- ---- the parts
+
+-- numbers that are the same from the rows on to the counts
+record Agree (q p : List ℕ) (from : ℕ) : Type 0 where
+  long : length q ≡ 1184
+  long-too : length p ≡ 1184
+  same : (y : ℕ) → from ≤ y → y < 1180 → getD p y 0 ≡ getD q y 0
+
+block-moved : (q p : List ℕ) (b : ℕ) (k : Block) → b < 10 → Agree q p 830 → BlockNumbers (blockNumbers q b) (blockSize q b) k → BlockNumbers (blockNumbers p b) (blockSize p b) k
+block-moved q p b k lt a h =
+    subst (λ z. BlockNumbers (blockNumbers p b) z k) (sym (a .same (1170 + b) (omega arith) (omega arith)))
+    (numbers-same q p b (λ z. BlockNumbers z (blockSize q b) k) (a .long) (a .long-too) lt (λ y g w. a .same y (omega arith) (omega arith)) h)
+
+module _ (ls : List Line) (ok : Accepted ls) where
+  abbrev sheet : Sheet
+  sheet = sheetOf ls
+
+  abbrev views : List View
+  views = blocks isView ls
+
+  abbrev rest : List Job
+  rest = gather listed views
+
+  abbrev blockList : List Block
+  blockList = map (λ (j : Job). j .block) (jobs sheet)
+
+  -- the rows by the lines are the jobs after the question's
+  rest-is : rest ≡ map (jobOf (nth views)) (rowsFrom 0 ls)
+  rest-is = view-jobs (nth views) 0 views (views-all views) ∙ ap (map (jobOf (nth views))) (sym (rows-walked ls ok))
+
+  rest-length : length rest ≡ length (rowsFrom 0 ls)
+  rest-length = ap length rest-is ∙ length-map (rowsFrom 0 ls) (jobOf (nth views))
+
+  rest-at : (i : ℕ) → i < length (rowsFrom 0 ls) → (d : Job) → getD rest i d ≡ jobOf (nth views) (getD (rowsFrom 0 ls) i unlisted)
+  rest-at i h d = ap (λ l. getD l i d) rest-is ∙ map-get (jobOf (nth views)) unlisted d (rowsFrom 0 ls) i h
+
+  row-of : (i : ℕ) → i < length (rowsFrom 0 ls) → OfView (nth views) (length views) (getD (rowsFrom 0 ls) i unlisted)
+  row-of i h =
+      let z : 0 + length views ≡ length views = omega arith in
+      let m : In (getD (rowsFrom 0 ls) i unlisted) (flatFrom 0 views) = subst (λ l. In (getD (rowsFrom 0 ls) i unlisted) l) (rows-walked ls ok) (at-in unlisted (rowsFrom 0 ls) i h) in
+      subst (λ e. OfView (nth views) e (getD (rowsFrom 0 ls) i unlisted)) z (flat-of (nth views) 0 views (views-all views) (getD (rowsFrom 0 ls) i unlisted) m)
+
+  list-length : length blockList ≡ suc (length (rowsFrom 0 ls))
+  list-length = length-map (jobs sheet) (λ (j : Job). j .block) ∙ ap suc rest-length
+
+  list-at : (i : ℕ) → i < length (rowsFrom 0 ls) → getD blockList (suc i) noBlock ≡ nth views (getD (rowsFrom 0 ls) i unlisted .view) .block
+  list-at i h =
+      let e = rest-length in
+      let d : Job = record { block = noBlock; is = [] } in
+      map-get (λ (j : Job). j .block) d noBlock rest i (omega arith) ∙ ap (λ (j : Job). j .block) (rest-at i h d)
+
+  few-atoms : length (atomsFrom 0 blockList) ≤ 126
+  few-atoms =
+      let a = atoms-length 0 (jobs sheet) in
+      let b = rows-size views in
+      let c = accepted-size ls ok in
+      omega arith
+
+  question-fine : (a : Atom) → In a (sheet .question .atoms) → Fine top (a .terms)
+  question-fine a m = accepted-sheet ls ok .question .atoms a m .terms
+
+  view-fine : (j : ℕ) → j < length views → (a : Atom) → In a (nth views j .block .atoms) → Fine top (a .terms)
+  view-fine j h a m = accepted-sheet ls ok .views (nth views j) (nth-in views j h) .atoms a m .terms
+
+  -- ---- the blocks of the copies stand in q
+  module _ (q : List ℕ) (r : ℕ) (each : (b : ℕ) → b < 2 + length views → BlockNumbers (blockNumbers q b) (blockSize q b) (blockAt ls (suc b)))
+      (count : r ≡ length (rowsFrom 0 ls)) (rows : (k : ℕ) → k < r → RowNumbers q k (getD (rowsFrom 0 ls) k unlisted)) where
+    source-low : (k : ℕ) → k < length blockList → sourceOf q k < 2 + length views
+    source-low zero h = omega arith
+    source-low (suc i) h =
+        let n = list-length in
+        let o = row-of i (omega arith) .low in
+        let e = rows i (omega arith) .view in
+        omega arith
+
+    source-numbers : (k : ℕ) → k < length blockList → BlockNumbers (blockNumbers q (sourceOf q k)) (blockSize q (sourceOf q k)) (getD blockList k noBlock)
+    source-numbers zero h = subst (BlockNumbers (blockNumbers q 0) (blockSize q 0)) (block-question ls ok) (each 0 (omega arith))
+    source-numbers (suc i) h =
+        let n = list-length in
+        let e = rows i (omega arith) .view in
+        let b = each (2 + rowAt q i 0) (source-low (suc i) h) in
+        let z : suc (2 + rowAt q i 0) ≡ suc (suc (suc (rowAt q i 0))) = omega arith in
+        subst (BlockNumbers (blockNumbers q (2 + rowAt q i 0)) (blockSize q (2 + rowAt q i 0)))
+        (ap (blockAt ls) z ∙ block-view ls ok (rowAt q i 0) ∙ ap (λ v. nth views v .block) e ∙ sym (list-at i (omega arith)))
+        b
+
+    source-fine : (k : ℕ) → k < length blockList → (a : Atom) → In a (getD blockList k noBlock .atoms) → Fine top (a .terms)
+    source-fine zero h a m = question-fine a m
+    source-fine (suc i) h a m =
+        let n = list-length in
+        view-fine (getD (rowsFrom 0 ls) i unlisted .view) (row-of i (omega arith) .low) a (subst (λ b. In a (b .atoms)) (list-at i (omega arith)) m)
+
+    sources : Sources q r blockList
+    sources =
+        let v = accepted-views ls ok in
+        record {
+          count = list-length ∙ ap suc (sym count);
+          low = λ k h. let l = source-low k h in omega arith;
+          numbers = source-numbers;
+          fine = source-fine;
+          few = few-atoms;
+        }
+
+  -- ---- all parts together
+  module _ (q1 q2 q3 p : List ℕ) (nb i v r m : ℕ) (s : length q1 ≡ 1184) (bl : Blocks q1 ls nb) (k2 : Kept q1 q2 630 830) (few : r ≤ 40) (end : length ls ≤ i) (rd : RowsDone q2 ls i v r) (k3 : Kept q2 q3 0 630)
+      (most : m ≤ 126) (td : (bs : List Block) → Sources q2 r bs → TableauDone q3 (r + 1) m bs) (cl : Closed q3 p m r (nb - 2)) where
+    count : r ≡ length (rowsFrom 0 ls)
+    count = all-taken q2 ls i v r end rd
+
+    blocks-count : nb ≡ 2 + length views
+    blocks-count = bl .count ∙ block-count ls ok
+
+    agree2 : Agree q1 q2 830
+    agree2 = record { long = s; long-too = k2 .same ∙ s; same = λ y g h. k2 .above y g }
+
+    agree : Agree q2 p 630
+    agree = record {
+      long = k2 .same ∙ s;
+      long-too = cl .same ∙ k3 .same ∙ k2 .same ∙ s;
+      same = λ y g h. cl .kept y h ∙ k3 .above y g;
+    }
+
+    agree-blocks : Agree q2 p 830
+    agree-blocks = record { long = agree .long; long-too = agree .long-too; same = λ y g h. agree .same y (omega arith) h }
+
+    each2 : (b : ℕ) → b < 2 + length views → BlockNumbers (blockNumbers q2 b) (blockSize q2 b) (blockAt ls (suc b))
+    each2 b h =
+        let n = blocks-count in
+        let w = accepted-views ls ok in
+        block-moved q1 q2 b (blockAt ls (suc b)) (omega arith) agree2 (bl .each b (omega arith))
+
+    each : (b : ℕ) → b < 2 + length views → BlockNumbers (blockNumbers p b) (blockSize p b) (blockAt ls (suc b))
+    each b h =
+        let w = accepted-views ls ok in
+        block-moved q2 p b (blockAt ls (suc b)) (omega arith) agree-blocks (each2 b h)
+
+    row-numbers : (k : ℕ) → k < r → RowNumbers p k (getD (rowsFrom 0 ls) k unlisted)
+    row-numbers k h = row-same q2 p k (getD (rowsFrom 0 ls) k unlisted) (λ c f. agree .same (630 + k * 5 + c) (omega arith) (omega arith)) (rd .each k h)
+
+    done : TableauDone q3 (r + 1) m blockList
+    done = td blockList (sources q2 r each2 count (rd .each))
+
+    abbrev placed : List Placed
+    placed = atomsFrom 0 blockList
+
+    size-is : m ≡ length placed
+    size-is = let l = list-length in let c = count in copies-all q3 (r + 1) m blockList (omega arith) done
+
+    placed-numbers : (k : ℕ) → k < length placed → PlacedNumbers p k (getD placed k unplaced)
+    placed-numbers k h =
+        let e = size-is in
+        placed-same q3 p k (getD placed k unplaced) (λ c f. cl .kept (k * 5 + c) (omega arith)) (done .each k (omega arith))
+
+    whole-facts : (t : State) → FactNumbers (tableauFacts p t 0 (tableauSize p)) (facts sheet t)
+    whole-facts t =
+        let e : tableauSize p ≡ length placed = cl .atoms-is ∙ size-is in
+        let f = placed-facts p t placed 0 (λ k h. let z : 0 + k ≡ k = omega arith in subst (λ y. PlacedNumbers p y (getD placed k unplaced)) (sym z) (placed-numbers k h)) in
+        subst (λ n. FactNumbers (tableauFacts p t 0 n) (facts sheet t)) (sym e) (subst (FactNumbers (tableauFacts p t 0 (length placed))) (sym (facts-placed sheet t)) f)
+
+    -- the question's atoms come first
+    abbrev own : List Placed
+    own = map (λ a. record { number = 0; atom = a }) (sheet .question .atoms)
+
+    abbrev others : List Placed
+    others = atomsFrom 1 (map (λ (j : Job). j .block) rest)
+
+    own-length : length own ≡ askedSize p
+    own-length =
+        let q = subst (BlockNumbers (blockNumbers q2 0) (blockSize q2 0)) (block-question ls ok) (each2 0 (omega arith)) in
+        length-map (sheet .question .atoms) (λ a. record { number = 0; atom = a }) ∙ sym (q .count) ∙ sym (k3 .above 1170 (omega arith)) ∙ sym (cl .asked-is)
+
+    both-length : length placed ≡ askedSize p + length others
+    both-length = length-append own others ∙ ap (λ n. n + length others) own-length
+
+    agreeing-facts : (t : State) → FactNumbers (tableauFacts p t (askedSize p) (tableauSize p - askedSize p)) (facts (bare sheet) t)
+    agreeing-facts t =
+        let e : tableauSize p ≡ length placed = cl .atoms-is ∙ size-is in
+        let b = both-length in
+        let n : tableauSize p - askedSize p ≡ length others = omega arith in
+        let f = placed-facts p t others (askedSize p)
+        (λ k h. subst (PlacedNumbers p (askedSize p + k)) (ap (λ l. getD placed (l + k) unplaced) (sym own-length) ∙ getD-append-add own others k unplaced) (placed-numbers (askedSize p + k) (omega arith))) in
+        subst (λ n. FactNumbers (tableauFacts p t (askedSize p) n) (facts (bare sheet) t)) (sym n) (subst (FactNumbers (tableauFacts p t (askedSize p) (length others))) (sym (bare-placed sheet t)) f)
+
+    views-count : viewCount p ≡ length views
+    views-count = let n = blocks-count in let c = cl .views-is in omega arith
+
+    row-in : (k : ℕ) → k < rowCount p → RowOf p sheet k
+    row-in k h =
+        let n = cl .listed-is in
+        let c = count in
+        let o = row-of k (omega arith) in
+        let l = getD (rowsFrom 0 ls) k unlisted in
+        let w = row-numbers k (omega arith) in
+        let e = w .view in
+        let u = views-count in
+        record {
+          view = let g = o .low in omega arith;
+          row = l .row;
+          listed = subst (λ v. In (l .row) (nth views v .rows)) (sym e) (o .listed-in);
+          values = w .values;
+          copy = rest-at k (omega arith) (record { block = sheet .question; is = [] }) ∙ ap (λ v. record { block = nth views v .block; is = map con (l .row) }) (sym e);
+        }
+
+    row-place : (j : ℕ) → j < viewCount p → (t : List ℕ) → In t (nth views j .rows) → (k : ℕ) × (k < rowCount p) × (rowAt p k 0 ≡ j) × (rowValues p k ≡ padded t)
+    row-place j h t g =
+        let u = views-count in
+        let (k, lt, e) = flat-place views j (omega arith) t g in
+        let f : getD (rowsFrom 0 ls) k unlisted ≡ record { view = j; row = t } = ap (λ l. getD l k unlisted) (rows-walked ls ok) ∙ e in
+        let n = cl .listed-is in
+        let c = count in
+        let z = ap length (rows-walked ls ok) in
+        let w = row-numbers k (omega arith) in
+        (k, omega arith, w .view ∙ ap (λ (l : Listed). l .view) f, w .values ∙ ap (λ (l : Listed). padded (l .row)) f)
+
+    pub plan-of : Plan p sheet
+    plan-of =
+        let e : tableauSize p ≡ length placed = cl .atoms-is ∙ size-is in
+        let b = both-length in
+        let n = cl .listed-is in
+        let a = cl .atoms-is in
+        let u = views-count in
+        let w = accepted-views ls ok in
+        record {
+          size = agree .long-too;
+          few = omega arith;
+          asked = omega arith;
+          rows-few = omega arith;
+          views-few = omega arith;
+          whole = whole-facts;
+          agreeing = agreeing-facts;
+          question = subst (BlockNumbers (blockNumbers p 0) (blockSize p 0)) (block-question ls ok) (each 0 (omega arith));
+          saved = blockAt ls 2;
+          lists = block-list ls ok;
+          list = each 1 (omega arith);
+          views = views-count;
+          view = λ j h.
+              let z : suc (2 + j) ≡ suc (suc (suc j)) = omega arith in
+              subst (BlockNumbers (blockNumbers p (2 + j)) (blockSize p (2 + j))) (ap (blockAt ls) z ∙ block-view ls ok j) (each (2 + j) (omega arith));
+          rows = row-in;
+          every-row = row-place;
+          copies = let l = rest-length in let c = count in omega arith;
+        }

@@ -1,0 +1,68 @@
+-- `plan::plan` meets its contract: blocks, rows, tableau and counts together. Assumes nothing.
+use mathlib.Core.Path.{refl}
+use native.Mathlib.Omega.{arith}
+use lib.ListN.{length}
+use Prim.Native.Nat.{_/_}
+use Rattle.sheet_format.specs.Line.{wordLines}
+use Rattle.query_blocks.proofs.Words.{lines-length}
+use Rattle.tableau_plan.proofs.Whole.{plan-of}
+use borrow.Author.Needs.{needs}
+use Rattle.tableau_plan.proofs.plan.Statement.{statement}
+use Rattle.tableau_plan.proofs.plan.Tie as tie
+use Rattle.tableau_plan.proofs.plan.Reads as reads
+use Rattle.tableau_plan.proofs.plan.Lts as lts
+use Rattle.tableau_plan.proofs.put_blocks.Reads as put-blocks-reads
+use Rattle.tableau_plan.proofs.put_counts.Reads as put-counts-reads
+use Rattle.tableau_plan.proofs.put_rows.Reads as put-rows-reads
+use Rattle.tableau_plan.proofs.put_tableau.Reads as put-tableau-reads
+
+-- src/lib.rt:284:9
+returns : tie.Need-returns
+returns c = (λ long. absurd (c .if1 .taken long), λ _. refl)
+
+-- src/lib.rt:286:9
+put-blocks-requires : tie.Need-put-blocks-requires
+put-blocks-requires c κs = search needs
+
+-- src/lib.rt:287:9
+put-rows-requires : tie.Need-put-rows-requires
+put-rows-requires c κs = search needs
+
+-- src/lib.rt:288:9
+put-tableau-requires : tie.Need-put-tableau-requires
+put-tableau-requires c κs = search needs
+
+-- src/lib.rt:289:5
+put-counts-requires : tie.Need-put-counts-requires
+put-counts-requires c κs = search needs
+
+-- src/lib.rt:280:1
+same-length : tie.Need-same-length
+same-length c = search needs
+
+-- src/lib.rt:280:1
+returns-2 : tie.Need-returns-2
+returns-2 c = (
+  λ long ok.
+      let w = c .before .before .before .before .before .before .before .before .before .before .before .before .before .before .before .before .before .before .args .ws .now in
+      let b = c .before .before .before .before .before .before .before .before .before .before .before .before .before .before .put-blocks in
+      let r = c .before .before .before .before .before .before .before .before .before .before .put-rows in
+      let t = c .before .before .before .before .before .before .put-tableau in
+      let n = c .before .before .put-counts in
+      let l = lines-length w in
+      let (v, d) = r .ensures .2 ok in
+      plan-of (wordLines w) ok (b .last .1 .0) (r .last .1 .0) (t .last .0) (n .last .0) (b .result) (length w / 7) v (r .result) (t .result) (b .ensures .0) (b .ensures .1 ok) (r .ensures .1) (r .ensures .0) (omega arith) d (t .ensures .1) (t .ensures .0) (t .ensures .2) (n .ensures),
+  λ other. absurd (other (c .before .before .before .before .before .before .before .before .before .before .before .before .before .before .before .before .if1 .left)),
+)
+
+pub plan-spec : {M : Type 1} → statement M
+plan-spec =
+    tie.close
+    (tie.spec
+    returns
+    put-blocks-requires
+    put-rows-requires
+    put-tableau-requires
+    put-counts-requires
+    same-length
+    returns-2)

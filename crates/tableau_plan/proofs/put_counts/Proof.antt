@@ -1,0 +1,76 @@
+-- `plan::put_counts` meets its contract: four stores. Assumes nothing.
+use mathlib.Core.Path.{_≡_}
+use Prim.Native.Nat.{_-_}
+use native.Mathlib.Omega.{arith}
+use borrow.Author.Needs.{needs}
+use Rattle.tableau_plan.proofs.Laws.{closed}
+use Rattle.tableau_plan.proofs.put_counts.Statement.{statement}
+use Rattle.tableau_plan.proofs.put_counts.Tie as tie
+
+slice-read-asked : tie.Need-slice-read-asked
+slice-read-asked c = search needs
+
+slice-write-p : tie.Need-slice-write-p
+slice-write-p c = search needs
+
+add-p : tie.Need-add-p
+add-p c = search needs
+
+mul-p : tie.Need-mul-p
+mul-p c = search needs
+
+slice-write-p-2 : tie.Need-slice-write-p-2
+slice-write-p-2 c = search needs
+
+add-p-2 : tie.Need-add-p-2
+add-p-2 c = search needs
+
+mul-p-2 : tie.Need-mul-p-2
+mul-p-2 c = search needs
+
+slice-write-p-3 : tie.Need-slice-write-p-3
+slice-write-p-3 c = search needs
+
+view-of-requires : tie.Need-view-of-requires
+view-of-requires c κs = search needs
+
+view-of-requires-2 : tie.Need-view-of-requires-2
+view-of-requires-2 c κs = search needs
+
+add-p-3 : tie.Need-add-p-3
+add-p-3 c = search needs
+
+mul-p-3 : tie.Need-mul-p-3
+mul-p-3 c = search needs
+
+slice-write-p-4 : tie.Need-slice-write-p-4
+slice-write-p-4 c = search needs
+
+same-length : tie.Need-same-length
+same-length c = search needs
+
+returns : tie.Need-returns
+returns c =
+    let a = c .before .before .before .before .args in
+    let e : c .view-of2 .result ≡ a .blocks - 2 = omega arith in
+    rw e (closed (a .p .now) (a .atoms) (a .listed) (a .blocks - 2) (c .before .before .before .before .pre))
+
+pub put-counts-spec : {M : Type 1} → statement M
+put-counts-spec =
+    tie.close
+    (tie.spec
+    slice-read-asked
+    slice-write-p
+    add-p
+    mul-p
+    slice-write-p-2
+    add-p-2
+    mul-p-2
+    slice-write-p-3
+    view-of-requires
+    view-of-requires-2
+    add-p-3
+    mul-p-3
+    slice-write-p-4
+    same-length
+    returns)

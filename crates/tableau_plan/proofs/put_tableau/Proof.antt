@@ -1,0 +1,71 @@
+-- `plan::put_tableau` meets its contract. The loop's invariant: the first copies have been stored. Assumes nothing.
+use mathlib.Core.Path.{_≡_, _∙_, subst}
+use Prim.Native.Nat.{_≤_, _-_, _+_}
+use native.Mathlib.Omega.{arith}
+use borrow.Author.Needs.{needs}
+use mathlib.Core.List.{List}
+use Rattle.query_meaning.specs.Meaning.{Block}
+use Rattle.tableau_plan.specs.Parts.{Kept, Sources, TableauDone}
+use Rattle.tableau_plan.proofs.Laws.{kept-none, kept-more}
+use Rattle.tableau_plan.proofs.Copies.{sources-kept, copies-start}
+use Rattle.tableau_plan.proofs.put_tableau.Statement.{statement}
+use Rattle.tableau_plan.proofs.put_tableau.Tie as tie
+
+abbrev Inv-loop : tie.InvT-loop
+Inv-loop p₀ n at₀ copy₀ p at copy = (copy ≤ n + 1) × (at ≤ 126) × Kept p₀ p 0 630 × ((bs : List Block) → Sources p₀ n bs → TableauDone p copy at bs)
+
+abbrev μ-loop : tie.MeasureT-loop
+μ-loop p₀ n at₀ copy₀ p at copy = n + 1 - copy
+
+loop-holds : tie.Need-loop-holds Inv-loop μ-loop
+loop-holds c = (omega arith, omega arith, kept-none (c .before .args .p .now) 0 630, λ bs d. copies-start (c .before .args .p .now) bs)
+
+put-copy-requires : tie.Need-put-copy-requires Inv-loop μ-loop
+put-copy-requires c κs =
+    let l = c .before .before .loop in
+    let h = l .inv .2 .same in
+    (h ∙ c .before .before .before .before .pre .0, omega arith, l .inv .1)
+
+add-copy : tie.Need-add-copy Inv-loop μ-loop
+add-copy c = search needs
+
+loop-less : tie.Need-loop-less Inv-loop μ-loop
+loop-less c = search needs
+
+loop-again : tie.Need-loop-again Inv-loop μ-loop
+loop-again c =
+    let l = c .before .before .before .before .before .loop in
+    let s = c .before .before .before .before .before .before .before in
+    let a = s .args in
+    let t = c .before .before .put-copy in (
+      omega arith,
+      t .ensures .0,
+      kept-more (a .p .now) (l .p) (t .last .0) 0 630 (l .inv .2) (t .ensures .1),
+      λ bs d.
+          let n = d .count in
+          t .ensures .2 (a .n) bs (omega arith) (sources-kept (a .p .now) (l .p) (a .n) bs (s .pre .0) (l .inv .2) d) (l .inv .3 bs d),
+    )
+
+same-length : tie.Need-same-length Inv-loop μ-loop
+same-length c = c .before .loop .inv .2 .same
+
+returns : tie.Need-returns Inv-loop μ-loop
+returns c =
+    let l = c .before .loop in
+    let a = c .before .before .before .args in
+    let e : l .copy ≡ a .n + 1 = omega arith in
+    (l .inv .1, l .inv .2, λ bs d. subst (λ k. TableauDone (l .p) k (l .at) bs) e (l .inv .3 bs d))
+
+pub put-tableau-spec : {M : Type 1} → statement M
+put-tableau-spec =
+    tie.close
+    (tie.spec
+    Inv-loop
+    μ-loop
+    loop-holds
+    put-copy-requires
+    add-copy
+    loop-less
+    loop-again
+    same-length
+    returns)

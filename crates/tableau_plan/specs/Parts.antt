@@ -1,0 +1,124 @@
+-- The parts of making a plan: what each step writes and keeps.
+use mathlib.Core.Path.{_≡_}
+use mathlib.Core.Bool.{cond}
+use mathlib.Core.List.{List, [], _∷_, _++_, map}
+use Prim.Native.Nat.{ℕ, zero, suc, _+_, _-_, _*_, _%_, _<_, _≤_}
+use lib.Dec.{eqb, ltb}
+use lib.ListN.{length, getD, drop}
+use Rattle.sheet_format.specs.Line.{Line, natural}
+use Rattle.sheet_format.specs.Cause.{kind, rest, refusalOf}
+use Rattle.query_meaning.specs.Meaning.{value, Atom, Block, In}
+use Rattle.query_meaning.specs.Blocks.{isRow, allBlocks, nowhere, blockAt}
+use Rattle.query_encoding.specs.Numbers.{termAt, BlockNumbers, padded}
+use Rattle.case_verdicts.specs.Accepted.{Fine}
+use Rattle.case_verdicts.specs.Sheets.{top, isView}
+use Rattle.case_verdicts.specs.Tableau.{State, copy}
+use Rattle.tableau_plan.specs.Plan.{tableauAt, rowAt, rowValues, blockNumbers, blockSize, tableauSize, askedSize, rowCount, viewCount, slotValue}
+
+abbrev pub Accepted : List Line → Type 0
+Accepted ls = refusalOf ls .number ≡ 0
+
+-- q is p but for the places from `from` to before `end`
+pub record Kept (p q : List ℕ) (from end : ℕ) : Type 0 where
+  pub same : length q ≡ length p
+  pub below : (y : ℕ) → y < from → getD q y 0 ≡ getD p y 0
+  pub above : (y : ℕ) → end ≤ y → getD q y 0 ≡ getD p y 0
+
+-- ---- the blocks
+
+-- block b has been stored, with its size; the blocks before it stay
+pub record BlockStored (p q : List ℕ) (b n : ℕ) (blk : List ℕ) : Type 0 where
+  pub long : length q ≡ 1184
+  pub kept : (y : ℕ) → y < 830 + b * 34 → getD q y 0 ≡ getD p y 0
+  pub sizes : (c : ℕ) → c < b → getD q (1170 + c) 0 ≡ getD p (1170 + c) 0
+  pub numbers : (x : ℕ) → x < 34 → getD q (830 + b * 34 + x) 0 ≡ getD blk x 0
+  pub size : getD q (1170 + b) 0 ≡ n
+
+pub record Blocks (p : List ℕ) (ls : List Line) (n : ℕ) : Type 0 where
+  pub count : n ≡ length (allBlocks ls)
+  pub each : (b : ℕ) → b < n → BlockNumbers (blockNumbers p b) (blockSize p b) (blockAt ls (suc b))
+
+-- ---- the listed rows
+
+-- a row with its view, from 0
+pub record Listed : Type 0 where
+  pub view : ℕ
+  pub row : List ℕ
+
+abbrev pub unlisted : Listed
+unlisted = record { view = 0; row = [] }
+
+-- the rows of the lines, where v views have begun before
+unfoldable pub rowsFrom : ℕ → List Line → List Listed
+rowsFrom v [] = []
+rowsFrom v (l ∷ ls) = cond (isView (kind l)) (rowsFrom (suc v) ls) (cond (isRow (kind l)) (record { view = v - 1; row = map natural (rest l) } ∷ rowsFrom v ls) (rowsFrom v ls))
+
+pub record RowNumbers (p : List ℕ) (i : ℕ) (l : Listed) : Type 0 where
+  pub view : rowAt p i 0 ≡ l .view
+  pub values : rowValues p i ≡ padded (l .row)
+
+-- the rows of the first i lines, which are r and begin v views, have been taken
+pub record RowsDone (p : List ℕ) (ls : List Line) (i v r : ℕ) : Type 0 where
+  pub within : r ≤ length (rowsFrom 0 ls)
+  pub left : drop r (rowsFrom 0 ls) ≡ rowsFrom v (drop i ls)
+  pub each : (k : ℕ) → k < r → RowNumbers p k (getD (rowsFrom 0 ls) k unlisted)
+
+-- ---- the tableau
+
+-- a term of a block as one of copy k
+unfoldable pub slotOf : ℕ → ℕ → ℕ
+slotOf k t = cond (ltb t 13) (k * 13 + t) (cond (ltb t 1000013) (t + 520) 0)
+
+-- number x of the atoms of copy k
+unfoldable pub placedNumber : ℕ → ℕ → ℕ → ℕ
+placedNumber k x t = cond (eqb (x % 5) 0) t (slotOf k t)
+
+-- the block of a copy, by the rows
+abbrev pub sourceOf : List ℕ → ℕ → ℕ
+sourceOf p zero = 0
+sourceOf p (suc r) = 2 + rowAt p r 0
+
+abbrev pub noBlock : Block
+noBlock = nowhere .block
+
+-- an atom with the number of its copy
+pub record Placed : Type 0 where
+  pub number : ℕ
+  pub atom : Atom
+
+abbrev pub unplaced : Placed
+unplaced = record { number = 0; atom = record { rel = 0; terms = [] } }
+
+-- the atoms of the blocks, which are copies from k on
+abbrev pub atomsFrom : ℕ → List Block → List Placed
+atomsFrom k [] = []
+atomsFrom k (b ∷ bs) = map (λ a. record { number = k; atom = a }) (b .atoms) ++ atomsFrom (suc k) bs
+
+-- the blocks of a tableau with n rows stand in p
+pub record Sources (p : List ℕ) (n : ℕ) (bs : List Block) : Type 0 where
+  pub count : length bs ≡ suc n
+  pub low : (k : ℕ) → k < length bs → sourceOf p k < 10
+  pub numbers : (k : ℕ) → k < length bs → BlockNumbers (blockNumbers p (sourceOf p k)) (blockSize p (sourceOf p k)) (getD bs k noBlock)
+  pub fine : (k : ℕ) → k < length bs → (a : Atom) → In a (getD bs k noBlock .atoms) → Fine top (a .terms)
+  pub few : length (atomsFrom 0 bs) ≤ 126
+
+-- atom i of the tableau under every state
+pub record PlacedNumbers (p : List ℕ) (i : ℕ) (a : Placed) : Type 0 where
+  pub relation : tableauAt p i 0 ≡ a .atom .rel
+  pub terms : (s : State) (c : ℕ) → c < 4 → slotValue s (getD p (i * 5 + 1 + c) 0) ≡ value (copy s (a .number)) (termAt (a .atom .terms) c)
+
+-- the atoms of the first k copies, which are n, stand in the tableau
+pub record TableauDone (p : List ℕ) (k n : ℕ) (bs : List Block) : Type 0 where
+  pub within : n ≤ length (atomsFrom 0 bs)
+  pub left : drop n (atomsFrom 0 bs) ≡ atomsFrom k (drop k bs)
+  pub each : (i : ℕ) → i < n → PlacedNumbers p i (getD (atomsFrom 0 bs) i unplaced)
+
+-- ---- the counts
+
+pub record Closed (p q : List ℕ) (atoms listed views : ℕ) : Type 0 where
+  pub same : length q ≡ length p
+  pub kept : (y : ℕ) → y < 1180 → getD q y 0 ≡ getD p y 0
+  pub atoms-is : tableauSize q ≡ atoms
+  pub asked-is : askedSize q ≡ blockSize p 0
+  pub listed-is : rowCount q ≡ listed
+  pub views-is : viewCount q ≡ views

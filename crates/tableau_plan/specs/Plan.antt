@@ -1,0 +1,91 @@
+-- A sheet in plain numbers, as the search for a case works on it: the tableau's atoms over slots, the listed rows, the blocks. No promise to
+-- a caller rests on these.
+use mathlib.Core.Path.{_≡_}
+use mathlib.Core.Bool.{Bool, true, false, cond}
+use mathlib.Core.List.{List, [], _∷_, map}
+use Prim.Native.Nat.{ℕ, zero, suc, _+_, _-_, _*_, _<_, _≤_}
+use lib.Dec.{ltb}
+use lib.ListN.{length, getD, take, drop}
+use Rattle.query_meaning.specs.Meaning.{Term, con, Block, In}
+use Rattle.query_meaning.specs.Blocks.{View, nth}
+use Rattle.query_encoding.specs.Numbers.{BlockNumbers, FactNumbers, padded}
+use Rattle.case_verdicts.specs.Verdict.{Sheet}
+use Rattle.case_verdicts.specs.Tableau.{Job, State, jobs, facts, bare}
+
+-- ---- the layout of the 1,184 numbers
+
+-- slots: 13 for each of at most 41 copies. A term of the tableau below this is a slot, and from it on a constant
+abbrev pub slot-end : ℕ
+slot-end = 533
+
+-- number c of atom i of the tableau: 0 its relation, 1 to 4 its terms
+abbrev pub tableauAt : List ℕ → ℕ → ℕ → ℕ
+tableauAt p i c = getD p (i * 5 + c) 0
+
+-- number c of listed row i: 0 its view, from 0, and 1 to 4 its values
+abbrev pub rowAt : List ℕ → ℕ → ℕ → ℕ
+rowAt p i c = getD p (630 + i * 5 + c) 0
+
+-- block b: 0 the question, 1 the list, 2 + v view v; and how many atoms it has
+abbrev pub blockNumbers : List ℕ → ℕ → List ℕ
+blockNumbers p b = take 34 (drop (830 + b * 34) p)
+
+abbrev pub blockSize : List ℕ → ℕ → ℕ
+blockSize p b = getD p (1170 + b) 0
+
+-- how many atoms the tableau has, how many of them, in front, are the question's, how many rows there are, and how many views
+abbrev pub tableauSize : List ℕ → ℕ
+tableauSize p = getD p 1180 0
+
+abbrev pub askedSize : List ℕ → ℕ
+askedSize p = getD p 1181 0
+
+abbrev pub rowCount : List ℕ → ℕ
+rowCount p = getD p 1182 0
+
+abbrev pub viewCount : List ℕ → ℕ
+viewCount p = getD p 1183 0
+
+-- ---- the tableau under a state
+
+unfoldable pub slotValue : State → ℕ → ℕ
+slotValue s t = cond (ltb t slot-end) (s t) (t - slot-end)
+
+-- the facts of n atoms from atom i on, five numbers each
+unfoldable pub tableauFacts : List ℕ → State → ℕ → ℕ → List ℕ
+tableauFacts p s i zero = []
+tableauFacts p s i (suc n) =
+    tableauAt p i 0 ∷ slotValue s (tableauAt p i 1) ∷ slotValue s (tableauAt p i 2) ∷ slotValue s (tableauAt p i 3) ∷ slotValue s (tableauAt p i 4) ∷ tableauFacts p s (suc i) n
+
+-- the four values of row i
+abbrev pub rowValues : List ℕ → ℕ → List ℕ
+rowValues p i = rowAt p i 1 ∷ rowAt p i 2 ∷ rowAt p i 3 ∷ rowAt p i 4 ∷ []
+
+-- row i of the plan: a listed row of its view, and copy i + 1 of the tableau
+pub record RowOf (p : List ℕ) (x : Sheet) (i : ℕ) : Type 0 where
+  pub view : rowAt p i 0 < viewCount p
+  pub row : List ℕ
+  pub listed : In row (nth (x .views) (rowAt p i 0) .rows)
+  pub values : rowValues p i ≡ padded row
+  pub copy : getD (jobs x) (suc i) (record { block = x .question; is = [] }) ≡ record { block = nth (x .views) (rowAt p i 0) .block; is = map con row }
+
+pub record Plan (p : List ℕ) (x : Sheet) : Type 0 where
+  pub size : length p ≡ 1184
+  pub few : tableauSize p ≤ 126
+  pub asked : askedSize p ≤ tableauSize p
+  pub rows-few : rowCount p ≤ 40
+  pub views-few : viewCount p ≤ 8
+  -- the tableau's facts, with the question's and without
+  pub whole : (s : State) → FactNumbers (tableauFacts p s 0 (tableauSize p)) (facts x s)
+  pub agreeing : (s : State) → FactNumbers (tableauFacts p s (askedSize p) (tableauSize p - askedSize p)) (facts (bare x) s)
+  -- the blocks
+  pub question : BlockNumbers (blockNumbers p 0) (blockSize p 0) (x .question)
+  pub saved : Block
+  pub lists : x .lists ≡ saved ∷ []
+  pub list : BlockNumbers (blockNumbers p 1) (blockSize p 1) saved
+  pub views : viewCount p ≡ length (x .views)
+  pub view : (v : ℕ) → v < viewCount p → BlockNumbers (blockNumbers p (2 + v)) (blockSize p (2 + v)) (nth (x .views) v .block)
+  -- the listed rows: each row of the plan is one, and each one is a row of the plan
+  pub rows : (i : ℕ) → i < rowCount p → RowOf p x i
+  pub every-row : (v : ℕ) → v < viewCount p → (r : List ℕ) → In r (nth (x .views) v .rows) → (i : ℕ) × (i < rowCount p) × (rowAt p i 0 ≡ v) × (rowValues p i ≡ padded r)
+  pub copies : length (jobs x) ≡ suc (rowCount p)

@@ -1,0 +1,50 @@
+-- The measure is the views that are left.
+use Prim.Native.Nat.{_-_}
+use borrow.Author.Needs.{needs}
+use Rattle.test_cover.proofs.checks.agrees.Statement.{statement}
+use Rattle.test_cover.proofs.checks.agrees.Tie as tie
+
+abbrev Inv-loop : tie.InvT-loop
+Inv-loop sheet words facts blocks block₀ block = Unit {0}
+
+abbrev μ-loop : tie.MeasureT-loop
+μ-loop sheet words facts blocks block₀ block = blocks - block
+
+heads-requires : tie.Need-heads-requires Inv-loop μ-loop
+heads-requires c κs = search needs
+
+loop-holds : tie.Need-loop-holds Inv-loop μ-loop
+loop-holds c = search needs
+
+add-block : tie.Need-add-block Inv-loop μ-loop
+add-block c = search needs
+
+is-listed-requires : tie.Need-is-listed-requires Inv-loop μ-loop
+is-listed-requires c κs = search needs
+
+returns : tie.Need-returns Inv-loop μ-loop
+returns c = search needs
+
+loop-less : tie.Need-loop-less Inv-loop μ-loop
+loop-less c = search needs
+
+loop-again : tie.Need-loop-again Inv-loop μ-loop
+loop-again c = search needs
+
+returns-2 : tie.Need-returns-2 Inv-loop μ-loop
+returns-2 c = search needs
+
+pub agrees-spec : {M : Type 1} → statement M
+agrees-spec =
+    tie.close
+    (tie.spec
+    Inv-loop
+    μ-loop
+    heads-requires
+    loop-holds
+    add-block
+    is-listed-requires
+    returns
+    loop-less
+    loop-again
+    returns-2)

@@ -1,0 +1,37 @@
+-- The measure is the answers that are left.
+use Prim.Native.Nat.{_≤_, _-_}
+use borrow.Author.Needs.{needs}
+use Rattle.test_cover.proofs.checks.first_lacking.Statement.{statement}
+use Rattle.test_cover.proofs.checks.first_lacking.Tie as tie
+
+abbrev Inv-loop : tie.InvT-loop
+Inv-loop asked n saved m i₀ i = i ≤ n
+
+abbrev μ-loop : tie.MeasureT-loop
+μ-loop asked n saved m i₀ i = n - i
+
+loop-holds : tie.Need-loop-holds Inv-loop μ-loop
+loop-holds c = search needs
+
+has-requires : tie.Need-has-requires Inv-loop μ-loop
+has-requires c κs = search needs
+
+returns : tie.Need-returns Inv-loop μ-loop
+returns c = search needs
+
+add-i : tie.Need-add-i Inv-loop μ-loop
+add-i c = search needs
+
+loop-less : tie.Need-loop-less Inv-loop μ-loop
+loop-less c = search needs
+
+loop-again : tie.Need-loop-again Inv-loop μ-loop
+loop-again c = search needs
+
+returns-2 : tie.Need-returns-2 Inv-loop μ-loop
+returns-2 c = search needs
+
+pub first-lacking-spec : {M : Type 1} → statement M
+first-lacking-spec =
+    tie.close
+    (tie.spec Inv-loop μ-loop loop-holds has-requires returns add-i loop-less loop-again returns-2)

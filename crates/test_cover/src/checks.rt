@@ -1,0 +1,369 @@
+// What evaluation says of a case that was handed over.
+//
+// A sheet's words are its number form in 602 words: seven to a line, the field count, the kind and the fields after it, and zeros after the
+// last line.
+use sheet_format::Ending;
+use sheet_format::LINE_WORDS;
+use sheet_format::MOST_LINES;
+use sheet_format::MOST_WORDS;
+ghost use mathlib.Core.Path.{_≡_};
+ghost use Prim.Native.Nat.{_+_, _*_, _<_, _≤_};
+ghost use lib.ListN.{length};
+
+// The words of a fact and of an answer, and the answers that there is room for.
+const FACT: usize = 5;
+
+const ANSWER: usize = 4;
+
+const ANSWERS: usize = 1024;
+
+const ROOM: usize = ANSWERS * ANSWER;
+
+// Puts a mark for each check at a place.
+pub(crate) fn put_marks(
+    out: &mut [u8],
+    at: usize,
+    sheet: &[u8],
+    facts: &[i32],
+    missing: &[usize; 4],
+) -> usize {
+    let mut words = [0i32; MOST_WORDS];
+    sheet::read(sheet, &mut words);
+    let a = test_results::put_mark(out, at, are_facts(sheet, &words, facts));
+    let b = test_results::put_mark(out, a, agrees(sheet, &words, facts));
+    let c = test_results::put_mark(out, b, is_least(sheet, facts, missing));
+    test_results::put_mark(out, c, is_bare(sheet, &words, facts))
+}
+
+// Whether evaluation takes the facts, and each value stands in the sheet or is made up.
+fn are_facts(sheet: &[u8], words: &[i32], facts: &[i32]) -> bool {
+    let mut answers = [0i32; ROOM];
+    let ending = evaluate::evaluate(sheet, 1, facts, &mut answers);
+    match ending {
+        Ending::Done(_) => are_known(words, facts),
+        Ending::Refused(_, _) => false,
+    }
+}
+
+fn are_known(words: &[i32], facts: &[i32]) -> bool {
+    let mut i = 0;
+    while i < facts.len() {
+        if !is_known(words, facts, i) {
+            return false;
+        }
+        i += 1;
+    }
+    true
+}
+
+// The same of the word at a place. The relation and unused words are evaluation's to test, and so is the end of the made-up values.
+fn is_known(words: &[i32], facts: &[i32], i: usize) -> bool
+    requires { ⌜ i < length (now facts) ⌝ }
+{
+    let column = i % FACT;
+    if column == 0 {
+        return true;
+    }
+    if sheet_terms::columns(facts[i - column]) < column {
+        return true;
+    }
+    if 999999 < facts[i] {
+        return true;
+    }
+    stands(words, facts[i])
+}
+
+// Whether w is a term of the sheet.
+fn stands(words: &[i32], w: i32) -> bool {
+    let mut i = 0;
+    while i < words.len() {
+        if is_term(words, i, w) {
+            return true;
+        }
+        i += 1;
+    }
+    false
+}
+
+// Whether w is the term at a place. An atom's relation is none, and nor is what follows a line's fields.
+fn is_term(words: &[i32], i: usize, w: i32) -> bool
+    requires { ⌜ i < length (now words) ⌝ }
+{
+    let field = i % LINE_WORDS;
+    if field < 2 {
+        return false;
+    }
+    if words[i - field] < field as i32 {
+        return false;
+    }
+    if words[i - field + 1] == 4 {
+        if field == 2 {
+            return false;
+        }
+    }
+    words[i] == w
+}
+
+// Whether the facts are a case of the sheet.
+fn is_case(sheet: &[u8], words: &[i32], facts: &[i32]) -> bool
+    requires { ⌜ length (now words) ≡ 602 ⌝ }
+{
+    let mut asked = [0i32; ROOM];
+    if lacking(sheet, facts, &mut asked) == ANSWERS {
+        return false;
+    }
+    agrees(sheet, words, facts)
+}
+
+// Whether each view's answers are its listed rows.
+fn agrees(sheet: &[u8], words: &[i32], facts: &[i32]) -> bool
+    requires { ⌜ length (now words) ≡ 602 ⌝ }
+{
+    let blocks = heads(words, MOST_LINES);
+    let mut block = 2;
+    while block < blocks {
+        block += 1;
+        if !is_listed(sheet, words, facts, block) {
+            return false;
+        }
+    }
+    true
+}
+
+// How many of the first lines are heads.
+fn heads(words: &[i32], lines: usize) -> usize
+    requires { ⌜ lines * 7 ≤ length (now words) ⌝ }
+    ensures { λ r. ⌜ r ≤ lines ⌝ }
+{
+    let mut n = 0;
+    let mut i = 0;
+    while i < lines {
+        n += head(words[i * LINE_WORDS + 1]);
+        i += 1;
+    }
+    n
+}
+
+// 1 for the kinds of a head, and 0 for others.
+fn head(kind: i32) -> usize
+    ensures { λ r. ⌜ r ≤ 1 ⌝ }
+{
+    match kind {
+        1 | 2 | 3 => 1,
+        _ => 0,
+    }
+}
+
+// Whether a view's answers are its listed rows.
+fn is_listed(sheet: &[u8], words: &[i32], facts: &[i32], block: usize) -> bool
+    requires { ⌜ length (now words) ≡ 602 ⌝ }
+{
+    let mut listed = [0i32; ROOM];
+    let n = list(words, block, &mut listed);
+    let mut given = [0i32; ROOM];
+    let ending = evaluate::evaluate(sheet, block, facts, &mut given);
+    let Ending::Done(count) = ending else {
+        return false;
+    };
+    if count != n {
+        return false;
+    }
+    are_same(&listed, &given)
+}
+
+// Puts the listed rows of a view at the start of out, and returns how many they are.
+fn list(words: &[i32], block: usize, out: &mut [i32]) -> usize
+    requires { ⌜ (length (now words) ≡ 602) × (length (now out) ≡ 4096) ⌝ }
+{
+    let mut n = 0;
+    let mut i = 0;
+    while i < MOST_LINES {
+        n = list_line(words, i, block, out, n);
+        i += 1;
+    }
+    n
+}
+
+// The same with a line, after n rows.
+fn list_line(words: &[i32], line: usize, block: usize, out: &mut [i32], n: usize) -> usize
+    requires { ⌜ (line * 7 + 7 ≤ length (now words)) × (n * 4 + 4 ≤ length (now out)) ⌝ }
+    ensures { λ r. ⌜ r ≤ n + 1 ⌝ }
+{
+    if words[line * LINE_WORDS + 1] != 5 {
+        return n;
+    }
+    if heads(words, line) != block {
+        return n;
+    }
+    put_row(words, line, out, n);
+    n + 1
+}
+
+fn put_row(words: &[i32], line: usize, out: &mut [i32], n: usize)
+    requires { ⌜ (line * 7 + 7 ≤ length (now words)) × (n * 4 + 4 ≤ length (now out)) ⌝ }
+{
+    let mut k = 0;
+    while k < ANSWER {
+        out[n * ANSWER + k] = words[line * LINE_WORDS + 2 + k];
+        k += 1;
+    }
+}
+
+fn are_same(a: &[i32], b: &[i32]) -> bool
+    requires { ⌜ length (now a) ≡ length (now b) ⌝ }
+{
+    let mut i = 0;
+    while i < a.len() {
+        if a[i] != b[i] {
+            return false;
+        }
+        i += 1;
+    }
+    true
+}
+
+// Whether the missing answer is the least that the facts give the question and not the list.
+fn is_least(sheet: &[u8], facts: &[i32], missing: &[usize; 4]) -> bool {
+    let mut asked = [0i32; ROOM];
+    let n = lacking(sheet, facts, &mut asked);
+    if n == ANSWERS {
+        return false;
+    }
+    is_missing(&asked, n, missing)
+}
+
+// Whether the missing answer is answer n.
+fn is_missing(answers: &[i32], n: usize, missing: &[usize; 4]) -> bool
+    requires { ⌜ n * 4 + 4 ≤ length (now answers) ⌝ }
+{
+    let mut k = 0;
+    while k < ANSWER {
+        if answers[n * ANSWER + k] != word(missing[k]) {
+            return false;
+        }
+        k += 1;
+    }
+    true
+}
+
+// A number as a word, and -1 where it is too large.
+fn word(n: usize) -> i32 {
+    if n < 2147483648 { n as i32 } else { -1 }
+}
+
+// Puts the question's answers at the start of the room, and returns the number, from 0, of the first that is none of the list's; the
+// number of answers that there is room for where each is one, or where there are more.
+fn lacking(sheet: &[u8], facts: &[i32], asked: &mut [i32]) -> usize
+    requires { ⌜ length (now asked) ≡ 4096 ⌝ }
+    ensures { λ r. ⌜ r ≤ 1024 ⌝ }
+{
+    let question = evaluate::evaluate(sheet, 1, facts, asked);
+    let Ending::Done(n) = question else {
+        return ANSWERS;
+    };
+    let mut saved = [0i32; ROOM];
+    let list = evaluate::evaluate(sheet, 2, facts, &mut saved);
+    let Ending::Done(m) = list else {
+        return ANSWERS;
+    };
+    first_lacking(asked, least(n, ANSWERS), &saved, least(m, ANSWERS))
+}
+
+fn least(a: usize, b: usize) -> usize
+    ensures { λ r. ⌜ r ≤ b ⌝ }
+{
+    if a < b { a } else { b }
+}
+
+fn first_lacking(asked: &[i32], n: usize, saved: &[i32], m: usize) -> usize
+    requires { ⌜ (n * 4 ≤ length (now asked)) × (n ≤ 1024) × (m * 4 ≤ length (now saved)) ⌝ }
+    ensures { λ r. ⌜ r ≤ 1024 ⌝ }
+{
+    let mut i = 0;
+    while i < n {
+        if !has(saved, m, asked, i) {
+            return i;
+        }
+        i += 1;
+    }
+    ANSWERS
+}
+
+// Whether answer i of b is among the first m answers of a.
+fn has(a: &[i32], m: usize, b: &[i32], i: usize) -> bool
+    requires { ⌜ (m * 4 ≤ length (now a)) × (i * 4 + 4 ≤ length (now b)) ⌝ }
+{
+    let mut k = 0;
+    while k < m {
+        if is_answer(a, k, b, i) {
+            return true;
+        }
+        k += 1;
+    }
+    false
+}
+
+// Whether answer k of a is answer i of b.
+fn is_answer(a: &[i32], k: usize, b: &[i32], i: usize) -> bool
+    requires { ⌜ (k * 4 + 4 ≤ length (now a)) × (i * 4 + 4 ≤ length (now b)) ⌝ }
+{
+    let mut c = 0;
+    while c < ANSWER {
+        if a[k * ANSWER + c] != b[i * ANSWER + c] {
+            return false;
+        }
+        c += 1;
+    }
+    true
+}
+
+// Whether the facts are no case without any one of them.
+fn is_bare(sheet: &[u8], words: &[i32], facts: &[i32]) -> bool
+    requires { ⌜ length (now words) ≡ 602 ⌝ }
+{
+    let mut i = 0;
+    while i < facts.len() / FACT {
+        if is_case_without(sheet, words, facts, i) {
+            return false;
+        }
+        i += 1;
+    }
+    true
+}
+
+// Whether the facts are a case without fact i.
+fn is_case_without(sheet: &[u8], words: &[i32], facts: &[i32], i: usize) -> bool
+    requires { ⌜ length (now words) ≡ 602 ⌝ }
+{
+    let mut rest = [0i32; 640];
+    let n = put_without(facts, i, &mut rest);
+    is_case(sheet, words, &rest[0..n])
+}
+
+// Puts all facts but fact i at the start of out, and returns how many words they have there.
+fn put_without(facts: &[i32], i: usize, out: &mut [i32]) -> usize
+    ensures { λ r. ⌜ r ≤ length (now (out .exit)) ⌝ }
+{
+    let mut n = 0;
+    let mut at = 0;
+    while at < facts.len() {
+        n = put(out, n, facts[at], at / FACT == i);
+        at += 1;
+    }
+    n
+}
+
+// Puts a word at a place unless it is dropped or there is no room, and returns the next place.
+fn put(out: &mut [i32], at: usize, w: i32, dropped: bool) -> usize
+    requires { ⌜ at ≤ length (now out) ⌝ }
+    ensures { λ r. ⌜ r ≤ length (now (out .exit)) ⌝ }
+{
+    if dropped {
+        return at;
+    }
+    if at < out.len() {
+        out[at] = w;
+        return at + 1;
+    }
+    at
+}

@@ -1,0 +1,90 @@
+-- The words that were read are those of the lines of the sheet, and their text is put.
+use mathlib.Core.Path.{refl, sym, ap, _∙_}
+use native.Mathlib.Omega.{arith}
+use borrow.Author.Needs.{needs}
+use mathlib.Core.Logic.{inl, inr}
+use Rattle.sheet.proofs.Calls.{few-lines, clean-sheet, refused-by}
+use Rattle.text_buffer.proofs.Laws.{said}
+use Rattle.text_writer.specs.Texts.{linesBytes}
+use Rattle.text_from_sheet.proofs.Calls.{words-read}
+use Rattle.text_from_sheet.proofs.text_of.Statement.{statement}
+use Rattle.text_from_sheet.proofs.text_of.Tie as tie
+
+slice-aggregate-read : tie.Need-slice-aggregate-read
+slice-aggregate-read c = search needs
+
+read-requires : tie.Need-read-requires
+read-requires c κs = search needs
+
+enum-known-number : tie.Need-enum-known-number
+enum-known-number c = search needs
+
+enum-known-lines : tie.Need-enum-known-lines
+enum-known-lines c = search needs
+
+returns : tie.Need-returns
+returns c = record { lent = refl; why = inr (c .if1 .taken, refl) }
+
+mul-put-lines : tie.Need-mul-put-lines
+mul-put-lines c =
+    let a = c .before .before .before .before .before .before .before .before .before .before .args in
+    let rd = c .before .before .before .before .before .before .read in
+    let g = c .before .before .before .lines .given in
+    let f = few-lines (a .sheet .now) (g .0 .0) (sym (rd .ensures .0) ∙ g .1) in
+    let k = rd .kept .1 .0 in
+    omega arith
+
+sub-put-lines : tie.Need-sub-put-lines
+sub-put-lines c = search needs
+
+part-put-lines-start : tie.Need-part-put-lines-start
+part-put-lines-start c = search needs
+
+part-put-lines-end : tie.Need-part-put-lines-end
+part-put-lines-end c =
+    let a = c .before .before .before .before .before .before .before .before .before .before .before .args in
+    let rd = c .before .before .before .before .before .before .before .read in
+    let g = c .before .before .before .before .lines .given in
+    let f = few-lines (a .sheet .now) (g .0 .0) (sym (rd .ensures .0) ∙ g .1) in
+    let k = rd .kept .1 .0 in
+    omega arith
+
+put-lines-requires : tie.Need-put-lines-requires
+put-lines-requires c κs = search needs
+
+returns-2 : tie.Need-returns-2
+returns-2 c =
+    let a = c .before .before .before .before .before .before .before .before .args in
+    let rd = c .before .before .before .before .read in
+    let g = c .before .number .given in
+    record { lent = refl; why = inl (refused-by (a .sheet .now) (g .0 .0) (g .0 .1 .0) (rd .result) (rd .ensures .0) (g .1)) }
+
+same-length : tie.Need-same-length
+same-length c = search needs
+
+returns-3 : tie.Need-returns-3
+returns-3 c =
+    let s = c .before .before .before .before .before .before .before .before .before .before .before .before .before .before .before .args .sheet .now in
+    let rd = c .before .before .before .before .before .before .before .before .before .before .before .read in
+    let g = c .before .before .before .before .before .before .before .before .lines .given in
+    let done = sym (rd .ensures .0) ∙ g .1 in
+    let words = words-read s (g .0 .0) _ (rd .last .1 .0) done refl (rd .ensures .1) in
+    record { accepted = clean-sheet s (g .0 .0) done; text = said (ap linesBytes words) (c .before .before .put-lines .ensures) }
+
+pub text-of-spec : {M : Type 1} → statement M
+text-of-spec =
+    tie.close
+    (tie.spec
+    slice-aggregate-read
+    read-requires
+    enum-known-number
+    enum-known-lines
+    returns
+    mul-put-lines
+    sub-put-lines
+    part-put-lines-start
+    part-put-lines-end
+    put-lines-requires
+    returns-2
+    same-length
+    returns-3)
