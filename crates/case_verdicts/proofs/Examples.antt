@@ -11,11 +11,16 @@ use Rattle.case_verdicts.specs.Tableau.{logOf}
 use Rattle.case_verdicts.specs.Examples.{Entry, Says, examples}
 use Rattle.case_verdicts.proofs.Measure.{measure}
 use Rattle.case_verdicts.proofs.Run.{search-from}
-use Rattle.case_verdicts.proofs.Tests.{says?, passed, each-says}
+use Rattle.case_verdicts.proofs.Tests.{says?, passed, Onlys, each-says}
+use Rattle.case_verdicts.proofs.Shown.{whole-shows, straps-show, ticks-show}
 
 examples-pass : all (λ e. passed (says? e)) examples ≡ true
 unfolding kindOf atoms rows blocks relation width logOf search-from measure
 examples-pass = refl
 
+-- the three with verdict 1 have more to show
+examples-only : Onlys examples
+examples-only = (whole-shows, (tt, (tt, (tt, (straps-show, (tt, (tt, (ticks-show, (tt, (tt, (tt, tt)))))))))))
+
 pub examples-hold : (e : Entry) → In e examples → Says e
-examples-hold = each-says examples examples-pass
+examples-hold = each-says examples examples-only examples-pass

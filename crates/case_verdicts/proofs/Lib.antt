@@ -10,10 +10,12 @@ pub mod Refute
 pub mod Measure
 pub mod Known
 pub mod Shrink
+pub mod Needed
 pub mod Judge
 pub mod Run
 pub mod Check
 pub mod Tests
+pub mod Shown
 pub mod Examples
 pub mod Accepted
 pub mod Order

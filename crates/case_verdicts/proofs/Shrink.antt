@@ -42,13 +42,15 @@ part-case x log rest a k high parented given asked = record {
   missing = λ l m b. k .missing l m (monotone high b);
 }
 
--- so it is with all that lies between a case and the good state's log in it
-between : (x : Sheet) {top : ℕ} (ok : Accepted top x) (log rest : Log) (a : List ℕ) → Case x log a → (i : Inside x log a)
-    → Within (logOf x (i .state)) rest → Within rest log → Parented x rest → Case x rest a
-between x ok log rest a k i low high parented =
-    let c = good-case x ok (i .state) (i .good) in
-    part-case x log rest a k high parented (λ w m r n. monotone low (c .agreeing .agrees w m .none-missing r n))
-    (subst (Answer rest (x .question)) (i .head) (monotone low (c .asked)))
+-- these facts give the listed rows and the answer
+pub record Enough (x : Sheet) (facts : Log) (a : List ℕ) : Type 0 where
+  pub given : (w : View) → In w (x .views) → (r : List ℕ) → In r (w .rows) → Answer facts (w .block) r
+  pub asked : Answer facts (x .question) a
+
+-- so it is with all that lies between a case and facts of it that are enough
+between : (x : Sheet) (log rest small : Log) (a : List ℕ) → Case x log a → Enough x small a → Within small rest → Within rest log → Parented x rest → Case x rest a
+between x log rest small a k e low high parented =
+    part-case x log rest a k high parented (λ w m r n. monotone low (e .given w m r n)) (monotone low (e .asked))
 
 -- and with another list of the same facts
 pub same-facts : (x : Sheet) (log log′ : Log) (a : List ℕ) → Within log log′ → Within log′ log → Case x log a → Case x log′ a
@@ -64,28 +66,35 @@ less f log = without fact? f log
 less-dropped : (f : Fact) (log : Log) → Dropped f log (less f log)
 less-dropped f log = record { only = λ g m. of-without fact? f g log m; kept = λ g m ne. in-without fact? f g log m ne }
 
+-- where some of the facts are enough, any other that no fact owes could be dropped
+pub drops : (x : Sheet) (log small : Log) (a : List ℕ) → Case x log a → SpareFree x log → Within small log → Enough x small a
+    → (f : Fact) → In f log → (In f small → ⊥) → ((g : Fact) → In g log → In f (parents (x .table) g) → ⊥) → ⊥
+drops x log small a k spare-free sub e f m out unowed = spare-free f m (less f log) (less-dropped f log) a (between x log (less f log) small a k e
+    (record { at = λ g n. in-without fact? f g log (sub .at g n) (λ p. out (subst (λ z. In z small) p n)) })
+    (record { at = λ g n. of-without fact? f g log n .0 })
+    (record {
+      at = λ g n h p. in-without fact? f h log (k .agreeing .lawful .parented g (of-without fact? f g log n .0) h p)
+          (λ q. unowed g (of-without fact? f g log n .0) (subst (λ z. In z (parents (x .table) g)) q p));
+    }))
+
 module _ (x : Sheet) {top : ℕ} (ok : Accepted top x) (log : Log) (a : List ℕ) (k : Case x log a) (spare-free : SpareFree x log) (i : Inside x log a) where
   abbrev small : Log
   small = logOf x (i .state)
 
-  -- a fact outside, which no fact owes, could be dropped
-  drops : (f : Fact) → In f log → (In f small → ⊥) → ((g : Fact) → In g log → In f (parents (x .table) g) → ⊥) → ⊥
-  drops f m out unowed = spare-free f m (less f log) (less-dropped f log) a (between x ok log (less f log) a k i
-      (record { at = λ g n. in-without fact? f g log (i .within .at g n) (λ e. out (subst (λ z. In z small) e n)) })
-      (record { at = λ g n. of-without fact? f g log n .0 })
-      (record {
-        at = λ g n h p. in-without fact? f h log (k .agreeing .lawful .parented g (of-without fact? f g log n .0) h p)
-            (λ e. unowed g (of-without fact? f g log n .0) (subst (λ z. In z (parents (x .table) g)) e p));
-      }))
+  small-enough : Enough x small a
+  small-enough = let c = good-case x ok (i .state) (i .good) in record { given = λ w m. c .agreeing .agrees w m .none-missing; asked = subst (Answer small (x .question)) (i .head) (c .asked) }
+
+  outside : (f : Fact) → In f log → (In f small → ⊥) → ((g : Fact) → In g log → In f (parents (x .table) g) → ⊥) → ⊥
+  outside = drops x log small a k spare-free (i .within) small-enough
 
   -- a fact that owes a row is owed by none, so it is inside; hence so is what it owes
   owing : (f g : Fact) → In f log → In g (parents (x .table) f) → In f small
-  owing f g m p = ⊎-elim (λ n. n) (λ out. absurd (drops f m out (λ h n q. no-grandparent (x .table) (ok .table) h f g q p))) (in-or fact? f small)
+  owing f g m p = ⊎-elim (λ n. n) (λ out. absurd (outside f m out (λ h n q. no-grandparent (x .table) (ok .table) h f g q p))) (in-or fact? f small)
 
   pub inside : Within log small
   inside = record {
     at = λ f m. ⊎-elim (λ n. n)
-        (λ out. absurd (drops f m out (λ g n p. out (log-parented x (i .state) (ok .table) g (owing g f n p) f p)))) (in-or fact? f small);
+        (λ out. absurd (outside f m out (λ g n p. out (log-parented x (i .state) (ok .table) g (owing g f n p) f p)))) (in-or fact? f small);
   }
 
 -- ---- the number of those facts

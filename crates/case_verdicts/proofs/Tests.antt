@@ -1,4 +1,5 @@
--- The examples by computation: each is tested, and a test that is passed is a proof of what the entry says.
+-- The examples by computation: each is tested, and a test that is passed is a proof of what the entry says, but for what it says of every
+-- case that may be handed over.
 use mathlib.Core.Path.{_≡_}
 use mathlib.Core.Bool.{Bool, true, false}
 use mathlib.Core.List.{List, [], _∷_}
@@ -18,9 +19,9 @@ use Rattle.case_verdicts.specs.Handed.{Handed}
 use Rattle.case_verdicts.specs.Accepted.{width, FineTerm, FineAtom, FineBlock, Accepted, variables, Bound, Safe, Evaluable}
 use Rattle.case_verdicts.specs.Tableau.{jobs}
 use Rattle.case_verdicts.specs.Sheets.{top}
-use Rattle.case_verdicts.specs.Examples.{Shown, covered, case, no-log, Entry, judge, judge-any, evaluate, evaluate-any, sheet, SaysOf, Says}
+use Rattle.case_verdicts.specs.Examples.{Shown, covered, case, no-log, Shows, Entry, judge, judge-any, evaluate, evaluate-any, sheet, SaysOf, Says}
 use Rattle.case_verdicts.proofs.Tables.{LineSound, sound}
-use Rattle.case_verdicts.proofs.Decide.{same?, less?, row?, fact?, in?, all-or, answer?, inside-or}
+use Rattle.case_verdicts.proofs.Decide.{same?, less?, in?, first-all, all-or, answer?, inside-or}
 use Rattle.case_verdicts.proofs.Check.{judged}
 
 -- a proof of P, or nothing
@@ -101,20 +102,22 @@ verdict? x =
     then (safe? (x .question)) (λ q.
     ⊎-elim (λ l. inr tt) (λ r. inl (judged x r (a .0) q (a .1))) (less? value-end (top + length (jobs x) * width))))
 
-abbrev pub shown? : (x : Sheet) → Judgement x → (r : Shown) → Or (SaysOf x r)
-shown? x (inl c) covered = inl c
+-- what no test can show: with 1 every case that may be handed over is as shown
+abbrev pub OnlyOf : Sheet → Shown → Type 0
+OnlyOf x covered = Unit {0}
+OnlyOf x (case a n fs) = (h : Handed top value-end x) → Shows x a n fs h
+OnlyOf x no-log = Unit {0}
+
+abbrev pub shown? : (x : Sheet) → Judgement x → (r : Shown) → Or (OnlyOf x r → SaysOf x r)
+shown? x (inl c) covered = inl (λ o. c)
 shown? x (inl c) (case a n fs) = inr tt
 shown? x (inl c) no-log = inr tt
 shown? x (inr (inl h)) covered = inr tt
-shown? x (inr (inl h)) (case a n fs) =
-    then (of-dec (row? (h .answer) a)) (λ p.
-    then (of-dec (same? (length (h .log)) n)) (λ q.
-    then (all-or (λ f. In f (h .log)) fs (λ f m. of-dec (in? fact? f (h .log)))) (λ i.
-    inl (h, p, q, i))))
+shown? x (inr (inl h)) (case a n fs) = inl (λ o. (h, o))
 shown? x (inr (inl h)) no-log = inr tt
 shown? x (inr (inr z)) covered = inr tt
 shown? x (inr (inr z)) (case a n fs) = inr tt
-shown? x (inr (inr z)) no-log = inl z
+shown? x (inr (inr z)) no-log = inl (λ o. z)
 
 -- agreeing does not look at the question and the lists
 pub unasked : (ws : List View) → NoLog (sheet (nowhere .block) [] ws) → (q : Block) (ls : List Block) → NoLog (sheet q ls ws)
@@ -154,11 +157,22 @@ any-block? (f ∷ log) ts = inr tt
 
 -- ---- entries
 
-abbrev pub says? : (e : Entry) → Or (Says e)
+abbrev pub Only : Entry → Type 0
+Only (judge x r) = OnlyOf x r
+Only (judge-any ws) = Unit {0}
+Only (evaluate b log ts) = Unit {0}
+Only (evaluate-any log ts) = Unit {0}
+
+-- a proof that holds without more
+abbrev pub outright : {P : Type 0} → Or P → Or (Unit {0} → P)
+outright (inl p) = inl (λ o. p)
+outright (inr z) = inr z
+
+abbrev pub says? : (e : Entry) → Or (Only e → Says e)
 says? (judge x r) = then (verdict? x) (λ v. shown? x v r)
-says? (judge-any ws) = then (verdict? (sheet (nowhere .block) [] ws)) (unasked? ws)
-says? (evaluate b log ts) = answers? b log ts
-says? (evaluate-any log ts) = any-block? log ts
+says? (judge-any ws) = outright (then (verdict? (sheet (nowhere .block) [] ws)) (unasked? ws))
+says? (evaluate b log ts) = outright (answers? b log ts)
+says? (evaluate-any log ts) = outright (any-block? log ts)
 
 abbrev pub passed : {P : Type 0} → Or P → Bool
 passed (inl p) = true
@@ -168,6 +182,15 @@ pub of-passed : {P : Type 0} (o : Or P) → passed o ≡ true → P
 of-passed (inl p) e = p
 of-passed (inr z) e = no-way e
 
+-- one for each entry
+abbrev pub Onlys : List Entry → Type 0
+Onlys [] = Unit {0}
+Onlys (e ∷ es) = Only e × Onlys es
+
+of-onlys : (es : List Entry) → Onlys es → (e : Entry) → In e es → Only e
+of-onlys [] o e m = absurd m
+of-onlys (d ∷ es) o e m = first-all Only d es (o .0) (of-onlys es (o .1)) e m
+
 -- where all entries pass, each says what is so
-pub each-says : (es : List Entry) → all (λ e. passed (says? e)) es ≡ true → (e : Entry) → In e es → Says e
-each-says es h e m = of-passed (says? e) (all-in (λ e. passed (says? e)) es e h m)
+pub each-says : (es : List Entry) → Onlys es → all (λ e. passed (says? e)) es ≡ true → (e : Entry) → In e es → Says e
+each-says es o h e m = of-passed (says? e) (all-in (λ e. passed (says? e)) es e h m) (of-onlys es o e m)

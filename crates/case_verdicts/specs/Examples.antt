@@ -30,10 +30,16 @@ pub data Entry : Type 0 where
 abbrev pub sheet : Block → List Block → List View → Sheet
 sheet q ls ws = record { table = ten; question = q; lists = ls; views = ws }
 
--- the verdict holds; with 1 there is such a case to hand over
+-- the case handed over has this missing answer, so many facts, and these among them
+pub record Shows (x : Sheet) (a : List ℕ) (n : ℕ) (fs : List Fact) (h : Handed top value-end x) : Type 0 where
+  pub answer : h .answer ≡ a
+  pub count : length (h .log) ≡ n
+  pub facts : (f : Fact) → In f fs → In f (h .log)
+
+-- the verdict holds; with 1 there is a case to hand over, and every case that may be handed over is as shown
 abbrev pub SaysOf : Sheet → Shown → Type 0
 SaysOf x covered = Covered x
-SaysOf x (case a n fs) = (h : Handed top value-end x) × (h .answer ≡ a) × (length (h .log) ≡ n) × ((f : Fact) → In f fs → In f (h .log))
+SaysOf x (case a n fs) = Handed top value-end x × ((h : Handed top value-end x) → Shows x a n fs h)
 SaysOf x no-log = NoLog x
 
 -- a sheet's verdict; no log for these views, whatever the question and the list are; a block's answers; those of every block (it has
@@ -56,7 +62,7 @@ without-rows =
     ∷ (pos 4 ∷ pos 4 ∷ negsuc 0 ∷ negsuc 1 ∷ [])
     ∷ []
 
-abbrev whole : List Line
+abbrev pub whole : List Line
 whole = without-rows ++ ((pos 5 ∷ pos 7 ∷ pos 1 ∷ []) ∷ (pos 5 ∷ pos 7 ∷ pos 2 ∷ []) ∷ [])
 
 -- ---- the blocks of the others: their letters are variables
@@ -64,7 +70,7 @@ whole = without-rows ++ ((pos 5 ∷ pos 7 ∷ pos 1 ∷ []) ∷ (pos 5 ∷ pos 7
 abbrev block : List Term → List Atom → Block
 block h ls = record { head = h; atoms = ls; apart = [] }
 
-abbrev view : Block → List (List ℕ) → View
+abbrev pub view : Block → List (List ℕ) → View
 view b rs = record { block = b; rows = rs }
 
 abbrev strap : List Term → Atom
@@ -94,16 +100,16 @@ both = s ∷ t ∷ []
 abbrev first : List Term
 first = s ∷ []
 
-abbrev all-sig : Block
+abbrev pub all-sig : Block
 all-sig = block both (sig both ∷ [])
 
-abbrev all-beat : Block
+abbrev pub all-beat : Block
 all-beat = block both (beat both ∷ [])
 
-abbrev sig-straps : Block
+abbrev pub sig-straps : Block
 sig-straps = block first (sig both ∷ [])
 
-abbrev seven : Block
+abbrev pub seven : Block
 seven = block (con 7 ∷ []) (sig (con 7 ∷ t ∷ []) ∷ [])
 
 abbrev all-straps : Block
@@ -116,14 +122,14 @@ abbrev paused-strap : Block
 paused-strap = block [] (strap first ∷ pause first ∷ [])
 
 -- Beat(7,1) and Noise(7,n), asked for without a column
-abbrev beat-and-noise : ℕ → Block
+abbrev pub beat-and-noise : ℕ → Block
 beat-and-noise n = block [] (beat (con 7 ∷ con 1 ∷ []) ∷ noise (con 7 ∷ con n ∷ []) ∷ [])
 
-abbrev one-pause : Block
+abbrev pub one-pause : Block
 one-pause = block [] (pause (con 1 ∷ []) ∷ [])
 
 -- ticks with both a beat and noise
-abbrev same-tick : Block
+abbrev pub same-tick : Block
 same-tick = block (t ∷ []) (beat (con 7 ∷ t ∷ []) ∷ noise (con 7 ∷ t ∷ []) ∷ [])
 
 -- ---- the table

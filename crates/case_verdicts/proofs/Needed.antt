@@ -1,0 +1,61 @@
+-- In a case without a fact to spare every fact is needed: facts of it that are enough for the listed rows and the answer are all it has.
+use mathlib.Core.Path.{_≡_, refl}
+use mathlib.Core.List.{List, [], _∷_}
+use mathlib.Core.Logic.{⊎-elim}
+use Prim.Native.Nat.{ℕ}
+use native.Mathlib.Omega.{arith}
+use lib.ListN.{length}
+use Rattle.query_meaning.specs.Meaning.{Term, Fact, Log, Atom, Block, In, row, factOf, Answer}
+use Rattle.query_meaning.specs.Blocks.{View}
+use Rattle.case_verdicts.specs.Table.{relation, parents}
+use Rattle.case_verdicts.specs.Verdict.{Sheet}
+use Rattle.case_verdicts.specs.Handed.{Distinct, Handed}
+use Rattle.case_verdicts.proofs.Laws.{Within}
+use Rattle.case_verdicts.proofs.Distinct.{at-most, in-or}
+use Rattle.case_verdicts.proofs.Decide.{fact?, first-all}
+use Rattle.case_verdicts.proofs.Tableau.{of-parents}
+use Rattle.case_verdicts.proofs.Shrink.{Enough, drops}
+
+-- these are the log's facts, each once
+pub record Exactly (log facts : Log) : Type 0 where
+  pub has : Within facts log
+  pub no-more : Within log facts
+  pub count : length log ≡ length facts
+
+-- for tables without parents; with them a fact can be needed because another owes it
+pub needed : {x : Sheet} {top end : ℕ} → ((n : ℕ) → relation (x .table) n .parent ≡ 0) → (h : Handed top end x) (facts : Log)
+    → Distinct facts → Within facts (h .log) → Enough x facts (h .answer) → Exactly (h .log) facts
+needed {x} parentless h facts once sub enough =
+    let all : (f : Fact) → In f (h .log) → In f facts = λ f m.
+    ⊎-elim (λ i. i) (λ out. absurd (drops x (h .log) facts (h .answer) (h .is) (h .spare-free) sub enough f m out (λ g n p. unowed f g p))) (in-or fact? f facts) in
+    let few = at-most fact? (h .log) facts (h .distinct) all in
+    let many = at-most fact? facts (h .log) once (sub .at) in
+    record { has = sub; no-more = record { at = all }; count = omega arith }
+  where
+    unowed : (f g : Fact) → In f (parents (x .table) g) → ⊥
+    unowed f g p = let z = parentless (g .rel) in let l = of-parents (x .table) g f p .0 in omega arith
+
+-- ---- blocks of one atom
+
+abbrev one : List Term → Atom → Block
+one ts a = record { head = ts; atoms = a ∷ []; apart = [] }
+
+-- a fact that fits the atom gives the block an answer
+pub answer-of : (log : Log) (ts : List Term) (a : Atom) (v : ℕ → ℕ) → In (factOf v a) log → Answer log (one ts a) (row v ts)
+answer-of log ts a v m = record { val = v; holds = first-all (λ c. In (factOf v c) log) a [] m (λ c i. absurd i); differ = λ d i. absurd i; gives = refl }
+
+-- ---- lists of one and of two elements
+
+pub sole : {A : Type 0} (P : A → Type 0) (y : A) → P y → (x : A) → In x (y ∷ []) → P x
+sole P y p = first-all P y [] p (λ x m. absurd m)
+
+pub both : {A : Type 0} (P : A → Type 0) (y z : A) → P y → P z → (x : A) → In x (y ∷ z ∷ []) → P x
+both P y z p q = first-all P y (z ∷ []) p (sole P z q)
+
+pub two-distinct : {A : Type 0} (y z : A) → (y ≡ z → ⊥) → Distinct (y ∷ z ∷ [])
+two-distinct y z ne = ((λ m. ⊎-elim ne absurd m), ((λ m. m), tt))
+
+-- the rows of the only view
+pub one-view : (facts : Log) (w : View) → ((r : List ℕ) → In r (w .rows) → Answer facts (w .block) r)
+    → (v : View) → In v (w ∷ []) → (r : List ℕ) → In r (v .rows) → Answer facts (v .block) r
+one-view facts w = sole (λ v. (r : List ℕ) → In r (v .rows) → Answer facts (v .block) r) w
