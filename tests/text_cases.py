@@ -1,21 +1,23 @@
 #!/usr/bin/env python3
-"""The stored cases of crates/text_tests: texts and sheets, with what is to be said of each.
+"""The stored cases of crates/test_text: texts and sheets, with what is to be said of each.
 
 usage: text_cases.py            writes crates/test_text/stdin and stdout
        text_cases.py --check    says whether the stored files are these
        text_cases.py --run      runs the built programs (rt check) on made-up sheets, and compares them with a writer and a reader of
                                 its own
 
-What is expected was worked out by hand from the paper, and not taken from the program. The values that a log has beyond the sheet's are
-free: they are in the one case marked so as the library chooses them.
+What is expected was worked out by hand from the description in words, and not taken from the program. Each log that stands in it is the
+only one that may be handed over for its sheet. Which values beyond the sheet's a log has is free: --run looks at a few that need some, and
+asks of them only what has to hold (FREE_VALUES).
 """
 import pathlib
 import random
+import re
 import subprocess
 import sys
 
 ROOT = pathlib.Path(__file__).resolve().parent.parent
-CRATE = ROOT / "crates" / "text_tests"
+CRATE = ROOT / "crates" / "test_text"
 RELATIONS = "a relation: Rower, Strap, Worn, Sig, Beat, Noise, Pulse, Coach, Seat or Pause"
 CAUSES = {
     1: "the sheet is too long",
@@ -67,9 +69,9 @@ CASES = [
     ("both views", PAPER + "v(s,t): Sig(s,t) = (7,1)/v(s,t): Beat(s,t) = (7,1)/", "covered",
      PAPER_BACK + "v(a,b): Sig(a,b) = (7,1)/v(a,b): Beat(a,b) = (7,1)/"),
     ("head constant", "q(s): Sig(s,t)/l(7): Sig(7,t)/v(s): Sig(s,t) = 7/", "covered", "q(a): Sig(a,b)/l(7): Sig(7,a)/v(a): Sig(a,b) = 7/"),
-    # the two ticks are free
-    ("two rows", "q(s): Sig(s,t)/l(7): Sig(7,t)/v(s): Sig(s,t) = 7; 8/", "not covered: (8) is missing. Log: Sig(7,FREE), Sig(8,FREE)",
-     "q(a): Sig(a,b)/l(7): Sig(7,a)/v(a): Sig(a,b) = 7; 8/"),
+    # without the second view the ticks would be free
+    ("two rows", "q(s): Sig(s,t)/l(7): Sig(7,t)/v(s): Sig(s,t) = 7; 8/v(t): Sig(s,t) = 1/", "not covered: (8) is missing. Log: Sig(7,1), Sig(8,1)",
+     "q(a): Sig(a,b)/l(7): Sig(7,a)/v(a): Sig(a,b) = 7; 8/v(a): Sig(b,a) = 1/"),
     ("no log", QL + "v(): Beat(s,t) = ()/v(s,t): Beat(s,t) =/", "no log gives these rows",
      QL_BACK + "v(): Beat(a,b) = ()/v(a,b): Beat(a,b) =/"),
     ("004 example 5", "q(a): Strap(a), Pause(b)/l(a): Strap(a)/v(): Strap(a), Pause(a) =/", "covered",
@@ -159,7 +161,7 @@ CASES = [
 ]
 
 
-def stored(free=None):
+def stored():
     given, said = [], []
     for case in CASES:
         if isinstance(case, str):
@@ -168,8 +170,6 @@ def stored(free=None):
             continue
         name, text, words = case[:3]
         given.append(f"{name}|{text}")
-        for value in free or ():
-            words = words.replace("FREE", value, 1)
         said.append(f"{name}|{words}")
         if len(case) == 4:
             said.append(case[3].rstrip("/").replace("/", "\n"))
@@ -177,8 +177,15 @@ def stored(free=None):
     return "".join(l + "\n" for l in given), "".join(l + "\n" for l in said)
 
 
-FREE = ("1000015", "1000028")
-
+# Texts whose logs need values that are made up, and what is said of them, whichever values those are: the groups are values, and the same
+# value where the same group stands.
+FREE_VALUES = [
+    ("q(s): Sig(s,t)/l(7): Sig(7,t)/v(s): Sig(s,t) = 7; 8/", r"not covered: \(8\) is missing\. Log: Sig\(7,(\d+)\), Sig\(8,(\d+)\)"),
+    ("q(s,t): Sig(s,t), Beat(s,t)/l(s,t): Noise(s,t)/", r"not covered: \((\d+),(\d+)\) is missing\. Log: Sig\(\1,\2\), Beat\(\1,\2\)"),
+    ("q(r): Seat(r,4,b,b)/l(r): Seat(r,s,b,1), Pause(s)/v(): Pause(s) = ()/",
+     r"not covered: \((\d+)\) is missing\. Log: Seat\(\1,4,(\d+),\2\), Pause\((\d+)\)"),
+]
+LEAST_MADE_UP, MOST_MADE_UP = 1_000_000, 1_000_999
 
 NAMES = ["Rower", "Strap", "Worn", "Sig", "Beat", "Noise", "Pulse", "Coach", "Seat", "Pause"]
 COLUMNS = [2, 1, 3, 2, 2, 2, 3, 2, 4, 1]
@@ -260,7 +267,18 @@ def damaged(rng, text):
     return bytes(text)
 
 
+def free_values():
+    """The texts whose logs need made-up values: what is said fits, and each value stands in the text or is one that may be made up."""
+    for text, form in FREE_VALUES:
+        said = ran("cover_text", text.replace("/", "\n").encode())[0].decode()
+        fits = re.fullmatch(form + r"\n", said)
+        assert fits, (text, said)
+        allowed = {int(number) for number in re.findall(r"\d+", text)}
+        assert all(int(v) in allowed or LEAST_MADE_UP <= int(v) <= MOST_MADE_UP for v in fits.groups()), (text, said)
+
+
 def run():
+    free_values()
     rng = random.Random(7)
     seen = {}
     for n in range(300):
@@ -291,11 +309,12 @@ def run():
     assert ran("cover_text", long)[0] == b"line 1: expected at most 65536 bytes\n"
     assert ran("cover_text", long[:65536])[0].startswith(b"refused: cause 3:")
     print(f"the longest text has {len(plain)} bytes")
+    print(f"{len(FREE_VALUES)} texts whose logs need made-up values")
     print("300 sheets and 300 damaged texts:", ", ".join(f"{v.strip()} {k}" for v, k in sorted(seen.items())))
 
 
 def main():
-    given, said = stored(FREE)
+    given, said = stored()
     files = {CRATE / "stdin": given, CRATE / "stdout": said}
     if sys.argv[1:] == ["--check"]:
         for path, text in files.items():
