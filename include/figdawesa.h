@@ -1,7 +1,7 @@
 /* Figdawesa from C: sheets read and written, their lines, evaluation, and the verdict on cover.
  *
- * Link target/staticlib/libfigdawesa.a, which `rt staticlib figdawesa` writes, for x86-64 Linux. Of the C library it needs memcpy and
- * memset alone. README.md says what a sheet is, docs/PROMISES.md what each call promises.
+ * Link target/staticlib/libfigdawesa.a, which `rt staticlib figdawesa` writes, for x86-64 Linux. Of the C library it needs memcpy,
+ * memmove and memset, and nothing else. README.md says what a sheet is, docs/PROMISES.md what each call promises.
  *
  * For every call:
  *
@@ -31,9 +31,9 @@ extern "C" {
 #define FIGDAWESA_WRITE_BYTES 4214 /* the bytes that figdawesa_write wants */
 #define FIGDAWESA_JUDGE_WORDS 640  /* the words that figdawesa_judge wants */
 #define FIGDAWESA_FACTS 128        /* facts given to figdawesa_evaluate, at most */
-#define FIGDAWESA_LINE_WORDS 7     /* a line in the number form: its field count, then six fields, unused ones 0 */
-#define FIGDAWESA_FACT_WORDS 5     /* a fact: its relation, then four values, unused ones 0 */
-#define FIGDAWESA_ANSWER_WORDS 4   /* an answer: four values, unused ones 0 */
+#define FIGDAWESA_LINE_WORDS 7     /* a line in the number form: how many fields it has, and the fields, filled up with 0 to six */
+#define FIGDAWESA_FACT_WORDS 5     /* a fact: its relation and its values, filled up with 0 to four */
+#define FIGDAWESA_ANSWER_WORDS 4   /* an answer: its values, filled up with 0 to four */
 
 /* A relation's number, name and columns:
  *
@@ -46,8 +46,8 @@ extern "C" {
 
 /* ---- Refusals, by number; the line that is returned stands behind the colon.
  *
- * The first that holds is returned, in this order: 1; words not by sevens; line by line 2, 3, 4, 5, 6, 7, 9; a question or a list that
- * is missing; 8, head by head; 10; the facts' word count; fact by fact 11, then 12; 13. */
+ * The first that holds is returned, in this order: 1; words not by sevens; for one line after the other 2 to 7, then 9; a question or a
+ * list that is missing; 8, head by head; 10; the facts' word count; fact by fact 11, then 12; 13. */
 
 enum {
     FIGDAWESA_DONE = 0,          /* nothing is refused */
@@ -56,13 +56,13 @@ enum {
     FIGDAWESA_MISPLACED = 3,     /* no kind, out of place, or a wrong field count: its line; question or list missing: line 0 */
     FIGDAWESA_WRONG_COLUMNS = 4, /* no such relation, or its columns not met: the atom's line */
     FIGDAWESA_OUT_OF_RANGE = 5,  /* a term out of range, a variable in a row: its line */
-    FIGDAWESA_TOO_MANY = 6,      /* one atom, view or row too many: its line */
+    FIGDAWESA_TOO_MANY = 6,      /* more atoms, views or rows than there may be: the line of the first beyond */
     FIGDAWESA_WRONG_LENGTH = 7,  /* the list's head unlike the question's in length, or a row unlike its head: its line */
-    FIGDAWESA_UNSAFE_HEAD = 8,   /* a block without atoms, a head variable in no atom of its block: the head's line */
+    FIGDAWESA_UNSAFE_HEAD = 8,   /* a block without atoms, or with a variable that only its head has: the head's line */
     FIGDAWESA_NOT_ABOVE = 9,     /* a row that is not above the one before: its line */
     FIGDAWESA_NO_BLOCK = 10,     /* no such block: line 0 */
-    FIGDAWESA_WRONG_FACT = 11,   /* fact words not by fives; a fact with a wrong relation, value or unused word: line 0 */
-    FIGDAWESA_FACT_ORDER = 12,   /* over 128 facts, or not ascending: line 0 */
+    FIGDAWESA_WRONG_FACT = 11,   /* fact words not by fives; a fact that is none by its relation, values or filling: line 0 */
+    FIGDAWESA_FACT_ORDER = 12,   /* more than 128 facts, or facts that do not ascend: line 0 */
     FIGDAWESA_NO_ROOM = 13       /* `out` is too short: line 0 */
 };
 
@@ -89,7 +89,7 @@ enum {
 };
 
 /* A judgement. Number and line are 0 unless the verdict is 9. Count and missing are 0 unless the verdict is 1: then `count` facts stand in
- * `out`, and `missing` is the least answer that they give the question and not the list, in four numbers, unused ones 0. */
+ * `out`, and `missing` is the least of the question's answers that the list lacks there, filled up with 0 to four numbers. */
 struct figdawesa_outcome {
     size_t verdict;
     size_t number;
@@ -109,7 +109,7 @@ struct figdawesa_ended figdawesa_read(const uint8_t *sheet, size_t sheet_bytes, 
 struct figdawesa_ended figdawesa_write(const int32_t *words, size_t word_count, uint8_t *out, size_t out_bytes);
 
 /* Where line `number`, counted from 1, stands in the sheet: its own bytes, without the byte 10 that closes it. Start and length are 0
- * where there is no such closed line. Bytes of any length and content are taken, a sheet or not. */
+ * for a line that is not there or is not closed. Bytes of any length and content are taken, a sheet or not. */
 struct figdawesa_stretch figdawesa_line(const uint8_t *sheet, size_t sheet_bytes, size_t number);
 
 /* The answers that given facts give a block of the sheet: `count` answers of four words at the front of `out`, ascending, each once, and
@@ -120,7 +120,8 @@ struct figdawesa_ended figdawesa_evaluate(const uint8_t *sheet, size_t sheet_byt
 
 /* Whether the sheet's list covers its question. Verdicts 0 and 2 write nothing. Verdict 1 writes `count` facts of five words at the front
  * of `out`, ascending, each once: a log that gives exactly the listed rows, shows that the list does not cover, and has no fact to spare.
- * There are at most 126 of them, so at most 630 words are written; each value stands in the sheet or lies in 1,000,000 to 1,000,999.
+ * There are at most 126 of them, so at most 630 words are written; their values are numbers of the sheet, or made up from 1,000,000 to
+ * 1,000,999.
  * Verdict 9: refused by 1 to 9, and then by 13 where out_words is below 640, whatever the verdict would be. */
 struct figdawesa_outcome figdawesa_judge(const uint8_t *sheet, size_t sheet_bytes, int32_t *out, size_t out_words);
 
