@@ -29,8 +29,8 @@ def times(program):
 
 def main():
     root = pathlib.Path(__file__).resolve().parent.parent
-    subprocess.run(["rt", "check", "evaluate_bench"], cwd=root, check=True, stdout=subprocess.DEVNULL)
-    program = root / "target" / "bin" / "evaluate_bench"
+    subprocess.run(["rt", "check", "test_evaluate_speed"], cwd=root, check=True, stdout=subprocess.DEVNULL)
+    program = root / "target" / "bin" / "test_evaluate_speed"
     runs = [times(program) for _ in range(RUNS)]
     least = [min(run[at][1] for run in runs) for at in range(len(runs[0]))]
     for (line, _), seconds in zip(runs[0], least):
