@@ -484,7 +484,7 @@ def word_forms():
     write_case([2, 1, 0, 0, 0, 0, 0] + words("4 2 1") + [2, 2, 0, 0, 0, 0, 0] + words("4 2 1"), TAKEN)
     write_case([2, 1, 0, 0, 0, 0, 0] + words("4 2 1 / 2 / 4 2 1"), (7, 3))
     write_case(words("1") + [3, 0, 0, 0, 0, 0, 0] + words("2 / 4 2 1"), (3, 2))
-    heading("2: a number too wide for a field")
+    heading("2: a number of more than eight bytes")
     for value in (100_000_000, -10_000_000, 2**31 - 1, -2**31, 999_999_999, -100_000_000):
         for at in range(1, 7):
             line = [6, 4, 9, 1, 2, 3, 4]
@@ -681,7 +681,7 @@ def heads():
     both("1 / 2 / 3", (8, 1))
     both("1 / 2 / 3 / 3", (8, 1))
     both("1 7 / 2 7 / 4 2 1", (8, 1))
-    heading("8: a head variable in no atom of its block")
+    heading("8: a variable that only the head has")
     both("1 -1 / 4 2 -2 / 2 -1 / 4 2 -1", (8, 1))
     both("1 -1 / 4 2 -1 / 2 -1 / 4 2 -2", (8, 3))
     both("1 -1 / 4 2 1 / 2 1 / 4 2 -1", (8, 1))
@@ -784,7 +784,7 @@ def lent():
 
 
 def within_a_line():
-    heading("two causes in one line: the first of 2, 3, 4, 5, 6, 7, 9")
+    heading("two causes in one line: 2 to 7 and then 9, the first that holds")
     six = joined("1", *["4 2 1"] * 6)
     nine = joined(LEAST, *["3 / 4 2 1"] * 8)
     two = joined(LEAST, "3 1 1 / 4 2 1 / 5 7 7")

@@ -18,11 +18,11 @@ pub const WRITE_BYTES: usize = 4214;
 pub const JUDGE_WORDS: usize = 640;
 /// The facts given to [`evaluate`], at most.
 pub const FACTS: usize = 128;
-/// A line in the number form: its field count, then six fields, unused ones 0.
+/// A line in the number form: how many fields it has, and the fields, filled up with 0 to six.
 pub const LINE_WORDS: usize = 7;
-/// A fact: its relation, then four values, unused ones 0.
+/// A fact: its relation and its values, filled up with 0 to four.
 pub const FACT_WORDS: usize = 5;
-/// An answer: four values, unused ones 0.
+/// An answer: its values, filled up with 0 to four.
 pub const ANSWER_WORDS: usize = 4;
 
 /// The relations' names and columns, from relation 1 on.
@@ -93,19 +93,19 @@ pub enum Cause {
     WrongColumns = 4,
     /// A term out of range, a variable in a row.
     OutOfRange = 5,
-    /// One atom, view or row too many.
+    /// More atoms, views or rows than there may be.
     TooMany = 6,
     /// The list's head unlike the question's in length, or a row unlike its head.
     WrongLength = 7,
-    /// A block without atoms, a head variable in no atom of its block.
+    /// A block without atoms, or with a variable that only its head has.
     UnsafeHead = 8,
     /// A row that is not above the one before.
     NotAbove = 9,
     /// No such block.
     NoBlock = 10,
-    /// Fact words not by fives; a fact with a wrong relation, value or unused word.
+    /// Fact words not by fives; a fact that is none by its relation, values or filling.
     WrongFact = 11,
-    /// Over 128 facts, or not ascending.
+    /// More than 128 facts, or facts that do not ascend.
     FactOrder = 12,
     /// What was lent is too short.
     NoRoom = 13,
@@ -140,7 +140,7 @@ impl Cause {
             Cause::Misplaced => "out of place, or a question or a list is missing",
             Cause::WrongColumns => "no such relation, or not its columns",
             Cause::OutOfRange => "a term out of range",
-            Cause::TooMany => "one atom, view or row too many",
+            Cause::TooMany => "more atoms, views or rows than there may be",
             Cause::WrongLength => "lengths differ",
             Cause::UnsafeHead => "a block without atoms, or a head variable in none of them",
             Cause::NotAbove => "a row that is not above the one before",
@@ -217,7 +217,7 @@ pub fn write<'a>(words: &[i32], out: &'a mut [u8]) -> Result<&'a [u8], Refused> 
     Ok(&out[..counted(ended)?])
 }
 
-/// A line's own bytes, counted from 1, without the byte 10 that closes it; none where there is no such closed line.
+/// A line's own bytes, counted from 1, without the byte 10 that closes it; none for a line that is not there or is not closed.
 pub fn line(sheet: &[u8], number: usize) -> &[u8] {
     // SAFETY: the pointer is valid for its length.
     let part = unsafe { c::figdawesa_line(sheet.as_ptr(), sheet.len(), number) };

@@ -252,7 +252,7 @@ pub fn write(words: &[i32], lent: usize) -> Taken<Vec<u8>> {
     Ok(bytes_of(&lines))
 }
 
-/// Where line `number` stands: its start and length, (0, 0) where there is no such closed line.
+/// Where line `number` stands: its start and length; (0, 0) for a line that is not there or is not closed.
 pub fn line(sheet: &[u8], number: usize) -> (usize, usize) {
     let mut ends: Vec<usize> = (0..sheet.len()).filter(|at| sheet[*at] == 10).collect();
     if is(Slip::UnclosedLineHandedBack) && ends.last().map_or(0, |end| end + 1) < sheet.len() {
