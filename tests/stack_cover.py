@@ -5,8 +5,8 @@
 
 It runs target/bin/cover, which `rt check cover` writes. Each sheet has 40 rows, of views whose three atoms have all twelve
 variables, and is judged with less and less stack (what `ulimit -s` sets), down to the least that works. It prints that, in
-KiB, with the made-up values at the start of the search and the time of a run, and fails where more than 256 KiB are needed
-or the verdict is another than the one that is due.
+KiB, with the made-up values at the start of the search and the processor time of a run (as a multiple of that of the first
+sheet that is run), and fails where more than 256 KiB are needed or the verdict is another than the one that is due.
 
     made-up     as many made-up values as a sheet can have, and a choice of 33 rows for each first column
     forced      a view with one row for each other column forces every value there: one level of the search after the other
@@ -16,7 +16,6 @@ or the verdict is another than the one that is due.
 import resource
 import subprocess
 import sys
-import time
 
 from cover_cases import MADE_UP, NO_LOG, NOT_COVERED, most_general, page, parts_of
 from sheet_cases import MOST_WORDS, read
@@ -67,6 +66,12 @@ def run(program, sheet, kib):
     return done.stdout if done.returncode == 0 else None
 
 
+def processor_time():
+    """Seconds of the processes that have ended so far."""
+    used = resource.getrusage(resource.RUSAGE_CHILDREN)
+    return used.ru_utime + used.ru_stime
+
+
 def works(program, sheet, kib, whole):
     try:
         return run(program, sheet, kib) == whole
@@ -84,17 +89,18 @@ def least_stack(program, sheet, whole):
 
 
 def main():
-    good = True
+    good, first = True, None
     for name in sys.argv[1:] or SHEETS:
         verdict, sheet = SHEETS[name]
-        start = time.monotonic()
+        start = processor_time()
         whole = run(PROGRAM, sheet, TOP_KIB)
-        seconds = time.monotonic() - start
+        seconds = processor_time() - start
+        first = first or max(seconds, 0.001)
         if whole is None:
             sys.exit(f"{name}: more than {TOP_KIB} KiB")
         printed = int(whole[:8])
         least = least_stack(PROGRAM, sheet, whole)
-        print(f"{name:<10} {made_up_values(sheet)} made-up values  verdict {printed}  {least:>4} KiB  {seconds:.3f} s", flush=True)
+        print(f"{name:<10} {made_up_values(sheet)} made-up values  verdict {printed}  {least:>4} KiB  {seconds / first:.2f} times the first", flush=True)
         if printed != verdict:
             print(f"    the verdict that is due is {verdict}")
         good = good and printed == verdict and least <= MOST_KIB

@@ -1,11 +1,13 @@
 //! One input of a call: made, given to the library and to this implementation, and compared.
 
+use crate::full;
 use crate::generate::{self, Known};
+use crate::large;
 use crate::library::{self, Lent};
 use crate::meaning::{self, Judgement};
 use crate::random::Random;
 use crate::sheet::{self, Taken};
-use crate::slips::{is, Slip};
+use crate::slips::{self, is, Slip};
 use std::time::{Duration, Instant};
 
 pub const CALLS: [&str; 5] = ["read", "write", "line", "evaluate", "judge"];
@@ -20,6 +22,8 @@ pub struct Outcome {
     pub known: &'static str,
     /// What makes a verdict hard to come by without the rows or without values that are made up.
     pub notes: Vec<&'static str>,
+    /// The limits that a sheet meets whose verdict was compared, and that verdict.
+    pub limits: Vec<(&'static str, usize)>,
     /// The input and both answers, where they differ or are asked for.
     pub shown: Option<String>,
     pub differs: bool,
@@ -97,6 +101,7 @@ fn ended<T: Copy + PartialEq + std::fmt::Debug>(
         result: named(told.number),
         known: "",
         notes: vec![],
+        limits: vec![],
         shown: (show || !same).then(text),
         differs: !same,
         took: Duration::ZERO,
@@ -148,6 +153,7 @@ fn line(random: &mut Random, show: bool) -> Outcome {
         result: result.into(),
         known: "",
         notes: vec![],
+        limits: vec![],
         shown: (show || !same).then(text),
         differs: !same,
         took: Duration::ZERO,
@@ -161,20 +167,32 @@ fn evaluate(random: &mut Random, show: bool) -> Outcome {
     let told = library::evaluate(&bytes, block, &facts, &mut out);
     let ours = meaning::evaluate(&bytes, block, &facts, out.length());
     let text = || format!("sheet b\"{}\"\nblock {block}\nfacts {facts:?}", bytes.escape_ascii());
+    let apart = meaning::evaluate(&bytes, block, &facts, usize::MAX).ok().filter(|_| !slips::any()).is_some_and(|found| {
+        let (sheet, log) = (sheet::of_bytes(&bytes).unwrap().1, meaning::given(&facts).unwrap());
+        let other = large::answers(&sheet.blocks[block - 1], &log, &large::Steps::new(EVALUATION_STEPS));
+        other.is_some_and(|other| other.into_iter().flatten().map(|v| v as i32).collect::<Vec<i32>>() != found)
+    });
     let mut outcome = ended((name, &text), told, &out, ours, 4, show);
+    if apart {
+        outcome.differs = true;
+        outcome.shown = Some(format!("the ways here differ\n{}", text()));
+    }
     if outcome.result == "done" {
         outcome.result = if wanted == 0 { "done, no answer".into() } else { "done, answers".into() };
     }
     outcome
 }
 
+/// The steps of `large` for a verdict that nothing else gives, and where it is only held to another way.
+const VERDICT_STEPS: u64 = 3_000_000;
+const SECOND_STEPS: u64 = 100_000;
+const EVALUATION_STEPS: u64 = 1_000_000;
+
 /// A sheet to judge, how its verdict is known, and the log that it is known by.
-fn to_judge(random: &mut Random, lent: usize) -> (&'static str, Vec<u8>, Known, Vec<meaning::Fact>) {
+fn to_judge(random: &mut Random) -> (&'static str, Vec<u8>, Known, Vec<meaning::Fact>) {
     if random.percent(25) {
         let (name, bytes) = generate::sheet(random);
-        if lent < 640 || sheet::of_bytes(&bytes).is_err() {
-            return (name, bytes, Known::Searched, vec![]);
-        }
+        return (name, bytes, Known::Large, vec![]);
     }
     match random.below(100) {
         0..=7 => {
@@ -196,13 +214,35 @@ fn to_judge(random: &mut Random, lent: usize) -> (&'static str, Vec<u8>, Known, 
                 _ => ("small, damaged", sheet::bytes_of(&lines), Known::Searched, vec![]),
             }
         }
+        18..=29 => {
+            let (name, lines) = full::sheet(random);
+            (name, sheet::bytes_of(&lines), Known::Large, vec![])
+        }
         _ => ("small", sheet::bytes_of(&generate::small(random)), Known::Searched, vec![]),
     }
 }
 
-/// The verdicts that are right here, and how they are known.
+/// The verdicts that are right here, and how they are known. Where no slip is on, `large` has to come to the same verdict.
 fn verdicts(sheet: &sheet::Sheet, known: Known, log: &[meaning::Fact]) -> Result<(Vec<usize>, &'static str), String> {
+    let (right, how) = plain_verdicts(sheet, known, log)?;
+    if slips::any() || known == Known::Large {
+        return Ok((right, how));
+    }
+    match large::verdict(sheet, SECOND_STEPS)? {
+        Some(verdict) if !right.contains(&verdict) => {
+            Err(format!("the ways here differ: {right:?} {how}, {verdict} by the search for large sheets"))
+        }
+        Some(verdict) if right.len() > 1 => Ok((vec![verdict], BY_SEARCH)),
+        _ => Ok((right, how)),
+    }
+}
+
+const BY_SEARCH: &str = "by the search for large sheets";
+const UNKNOWN: &str = "not known";
+
+fn plain_verdicts(sheet: &sheet::Sheet, known: Known, log: &[meaning::Fact]) -> Result<(Vec<usize>, &'static str), String> {
     match known {
+        Known::Large => Ok(large::verdict(sheet, VERDICT_STEPS)?.map_or((vec![0, 1, 2], UNKNOWN), |v| (vec![v], BY_SEARCH))),
         Known::Pinned if !meaning::agrees(sheet, log) => Ok((vec![2], "by the only log")),
         Known::Pinned => Ok((vec![!meaning::missing(sheet, log).is_empty() as usize], "by the only log")),
         Known::Planted(true) => Ok((vec![1], "by a planted case")),
@@ -215,7 +255,7 @@ fn verdicts(sheet: &sheet::Sheet, known: Known, log: &[meaning::Fact]) -> Result
             let cost = meaning::cost(sheet);
             if cost > 400 {
                 let found = meaning::verdict(sheet, true, 3_000_000);
-                return Ok(found.map_or((vec![0, 1, 2], "not known"), |v| (vec![v], "by valuations, cut")));
+                return Ok(found.map_or((vec![0, 1, 2], UNKNOWN), |v| (vec![v], "by valuations, cut")));
             }
             // Small enough for more ways, which have to agree.
             let plain = meaning::verdict(sheet, false, u64::MAX).unwrap();
@@ -231,17 +271,20 @@ fn verdicts(sheet: &sheet::Sheet, known: Known, log: &[meaning::Fact]) -> Result
 
 fn judge(random: &mut Random, show: bool) -> Outcome {
     let length = if random.percent(50) { 640 } else { lent(random, 640) };
-    let (name, bytes, known, log) = to_judge(random, length);
+    let (name, bytes, known, log) = to_judge(random);
     let mut out = Lent::new(length, random, word);
     let start = Instant::now();
     let told = library::judge(&bytes, &mut out);
     let took = start.elapsed();
-    let (mut how, mut notes) = ("", vec![]);
-    let found = check_judgement(&bytes, &told, &out, |taken| {
+    let (mut how, mut notes, mut limits) = ("", vec![], vec![]);
+    let mut found = check_judgement(&bytes, &told, &out, |taken| {
         let (right, way) = verdicts(taken, known, &log)?;
         how = way;
-        let without = meaning::verdict(&sheet::Sheet { blocks: taken.blocks[..2].to_vec() }, true, 3_000_000);
-        if told.verdict == 0 && without == Some(1) {
+        if right.len() == 1 {
+            limits = full::met(taken);
+        }
+        let alone = sheet::Sheet { blocks: taken.blocks[..2].to_vec() };
+        if told.verdict == 0 && large::verdict(&alone, SECOND_STEPS)? == Some(1) {
             notes.push("0 that is 1 without the views");
         }
         if told.verdict == 1 && out.after().chunks(5).take(told.count).any(|f| f[1..].iter().any(|v| *v > 999_999)) {
@@ -250,15 +293,27 @@ fn judge(random: &mut Random, show: bool) -> Outcome {
         if told.verdict == 1 && taken.views().iter().any(|v| !v.rows.is_empty()) {
             notes.push("1 with listed rows");
         }
+        if told.verdict == 1 && told.count >= 100 {
+            notes.push(if told.count == 126 { "1 with 126 facts" } else { "1 with 100 to 125 facts" });
+        }
         Ok(right)
     });
+    if found.as_ref().is_err_and(|why| why == meaning::UNCHECKED) {
+        notes.push("1 with a case too large to be checked");
+        limits.clear();
+        found = Ok(());
+    }
+    if found.is_err() {
+        limits.clear();
+    }
+    let limits = limits.into_iter().map(|name| (name, told.verdict)).collect();
     let text = || {
         let facts: Vec<&[i32]> = out.after().chunks(5).take(told.count.min(130)).collect();
         let found = found.as_ref().err().map_or("the same", |e| e);
         format!("sheet b\"{}\"\nlent {length}\nlibrary: {told:?}\nfacts {facts:?}\nfound: {found}", bytes.escape_ascii())
     };
     let result = if told.verdict == 9 { named(told.number) } else { format!("verdict {}", told.verdict) };
-    Outcome { input: name, result, known: how, notes, shown: (show || found.is_err()).then(text), differs: found.is_err(), took }
+    Outcome { input: name, result, known: how, notes, limits, shown: (show || found.is_err()).then(text), differs: found.is_err(), took }
 }
 
 /// Whether a judgement of a sheet is right, with what it left in the lent words.
@@ -275,6 +330,7 @@ fn check_judgement(
         Err(_) => return Ok(()),
         Ok(taken) => taken,
     };
+    let taken = forgotten(taken);
     let right = right(&taken)?;
     if !right.contains(&told.verdict) {
         return Err(format!("expected a verdict of {right:?}"));
@@ -291,6 +347,34 @@ fn check_judgement(
     } else {
         Err("lent words are changed".into())
     }
+}
+
+/// The sheet without what a slip forgets of it at a limit.
+fn forgotten(mut sheet: sheet::Sheet) -> sheet::Sheet {
+    let cut = |block: &mut sheet::Block, most: usize| {
+        let mut less = block.clone();
+        less.atoms.truncate(most);
+        let safe = less.head.iter().all(|t| *t >= 0 || less.atoms.iter().any(|a| a.terms.contains(t)));
+        if safe {
+            *block = less;
+        }
+    };
+    if is(Slip::EighthViewForgotten) {
+        sheet.blocks.truncate(9);
+    }
+    if is(Slip::FortiethRowForgotten) && sheet.views().iter().map(|v| v.rows.len()).sum::<usize>() == 40 {
+        sheet.blocks.iter_mut().rev().find(|b| !b.rows.is_empty()).unwrap().rows.pop();
+    }
+    if is(Slip::SixthAskedAtomForgotten) {
+        cut(&mut sheet.blocks[0], 5);
+    }
+    if is(Slip::SixthListAtomForgotten) {
+        cut(&mut sheet.blocks[1], 5);
+    }
+    if is(Slip::ThirdViewAtomForgotten) {
+        sheet.blocks[2..].iter_mut().for_each(|view| cut(view, 2));
+    }
+    sheet
 }
 
 pub const TAMPERINGS: [&str; 10] = [
@@ -310,10 +394,10 @@ pub const TAMPERINGS: [&str; 10] = [
 pub fn tampered(seed: u64, index: u64, way: usize) -> Option<bool> {
     let mut random = Random::new(seed, 5, index);
     let length = if random.percent(50) { 640 } else { lent(&mut random, 640) };
-    let (_, bytes, _, _) = to_judge(&mut random, length);
+    let (_, bytes, _, _) = to_judge(&mut random);
     let mut out = Lent::new(length, &mut random, word);
     let mut told = library::judge(&bytes, &mut out);
-    if told.verdict != 1 || told.count < 2 || told.count > 120 {
+    if told.verdict != 1 || told.count < 2 || told.count > 126 {
         return None;
     }
     let mut words = out.after()[..told.count * 5].to_vec();
@@ -354,5 +438,6 @@ pub fn tampered(seed: u64, index: u64, way: usize) -> Option<bool> {
     for (place, word) in words.into_iter().enumerate() {
         out.spoil(place, word);
     }
-    Some(check_judgement(&bytes, &told, &out, |_| Ok(vec![1])).is_err())
+    let found = check_judgement(&bytes, &told, &out, |_| Ok(vec![1]));
+    (!found.as_ref().is_err_and(|why| why == meaning::UNCHECKED)).then_some(found.is_err())
 }

@@ -43,7 +43,7 @@ impl Stock {
 }
 
 /// An atom's line.
-fn atom(random: &mut Random, stock: &Stock) -> Vec<i64> {
+pub fn atom(random: &mut Random, stock: &Stock) -> Vec<i64> {
     let relation = random.pick(&stock.relations);
     let mut line = vec![4, relation as i64];
     for _ in 0..COLUMNS[relation] {
@@ -53,7 +53,7 @@ fn atom(random: &mut Random, stock: &Stock) -> Vec<i64> {
 }
 
 /// A head's line over atoms, safe unless it is too long for any.
-fn head(random: &mut Random, stock: &Stock, kind: i64, columns: usize, atoms: &Lines) -> Vec<i64> {
+pub fn head(random: &mut Random, stock: &Stock, kind: i64, columns: usize, atoms: &Lines) -> Vec<i64> {
     let variables: Vec<i64> = atoms.iter().flat_map(|a| a[2..].iter().copied()).filter(|t| *t < 0).collect();
     let mut line = vec![kind];
     for _ in 0..columns {
@@ -555,10 +555,12 @@ pub enum Known {
     Pinned,
     /// By a log that agrees, from which the rows were drawn; it is a case, or there is none known.
     Planted(bool),
+    /// By the search for large sheets alone.
+    Large,
 }
 
 /// The question's lines with little changed, as the list.
-fn list_like(random: &mut Random, stock: &Stock, question: &Lines) -> Lines {
+pub fn list_like(random: &mut Random, stock: &Stock, question: &Lines) -> Lines {
     let mut list = question.clone();
     list[0][0] = 2;
     match random.below(5) {

@@ -9,7 +9,9 @@
 //! It ends with 1 where something differs, or a mistake is not found.
 
 mod compare;
+mod full;
 mod generate;
+mod large;
 mod library;
 mod limits;
 mod meaning;
@@ -93,6 +95,7 @@ struct Tally {
     results: BTreeMap<String, usize>,
     known: BTreeMap<String, usize>,
     notes: BTreeMap<&'static str, usize>,
+    limits: BTreeMap<&'static str, [usize; 3]>,
     differences: Vec<(u64, String)>,
     differing: usize,
     slowest: (Duration, u64),
@@ -105,6 +108,7 @@ impl Tally {
             *self.known.entry(format!("{} {}", outcome.result, outcome.known)).or_default() += 1;
         }
         outcome.notes.into_iter().for_each(|note| *self.notes.entry(note).or_default() += 1);
+        outcome.limits.into_iter().for_each(|(limit, verdict)| self.limits.entry(limit).or_default()[verdict] += 1);
         *self.results.entry(outcome.result).or_default() += 1;
         self.slowest = self.slowest.max((outcome.took, index));
         self.differing += outcome.differs as usize;
@@ -118,6 +122,9 @@ impl Tally {
         other.results.into_iter().for_each(|(name, n)| *self.results.entry(name).or_default() += n);
         other.known.into_iter().for_each(|(name, n)| *self.known.entry(name).or_default() += n);
         other.notes.into_iter().for_each(|(name, n)| *self.notes.entry(name).or_default() += n);
+        for (name, counts) in other.limits {
+            self.limits.entry(name).or_default().iter_mut().zip(counts).for_each(|(one, more)| *one += more);
+        }
         self.differences.extend(other.differences);
         self.differences.sort();
         self.differing += other.differing;
@@ -167,6 +174,24 @@ fn list<K: std::fmt::Display>(counts: &BTreeMap<K, usize>) -> String {
     counts.iter().map(|(name, n)| format!("{name}: {n}")).collect::<Vec<_>>().join(", ")
 }
 
+/// Prints how often a sheet that meets a limit had each verdict, here as in the library; whether all were met, in a run of this size.
+fn limits_met(tally: &Tally, count: u64) -> bool {
+    let mut all = true;
+    println!("  limits   of sheets whose verdict was compared");
+    for name in full::LIMITS {
+        let [covered, case, none] = tally.limits.get(name).copied().unwrap_or_default();
+        println!("           {name}: {} (verdict 0: {covered}, 1: {case}, 2: {none})", covered + case + none);
+        all &= covered > 0 && case > 0 && none > 0;
+    }
+    if !all {
+        println!("  not met: each limit with each verdict");
+    }
+    all || count < LIMITS_FROM || generate::deep()
+}
+
+/// Runs of judge with this many inputs have to meet each limit with each verdict.
+const LIMITS_FROM: u64 = 10_000;
+
 /// One call; whether nothing differs and, in a run that is large enough, every kind of answer was met.
 fn compared(call: usize, count: u64, seed: u64) -> bool {
     let start = Instant::now();
@@ -180,6 +205,9 @@ fn compared(call: usize, count: u64, seed: u64) -> bool {
         println!("  slowest  {:.1} ms, input {}", tally.slowest.0.as_secs_f64() * 1e3, tally.slowest.1);
     }
     let mut good = tally.differing == 0;
+    if call == 4 {
+        good &= limits_met(&tally, count);
+    }
     for name in MET[call].iter().filter(|name| !tally.results.contains_key(**name)) {
         println!("  not met: {name}");
         good &= count < 100_000;

@@ -32,12 +32,17 @@ pub enum Slip {
     MappingAlone,
     GreatestMissing,
     RefusalKeepsVerdict,
+    EighthViewForgotten,
+    FortiethRowForgotten,
+    SixthAskedAtomForgotten,
+    SixthListAtomForgotten,
+    ThirdViewAtomForgotten,
 }
 
 use Slip::*;
 
 /// Each slip with the call that it is looked for in, by its place in main's table of calls.
-pub const ALL: [(Slip, usize); 27] = [
+pub const ALL: [(Slip, usize); 32] = [
     (MinusZeroTaken, 0),
     (UnclosedLastLineTaken, 0),
     (ConstantOneTooHigh, 0),
@@ -65,12 +70,22 @@ pub const ALL: [(Slip, usize); 27] = [
     (MappingAlone, 4),
     (GreatestMissing, 4),
     (RefusalKeepsVerdict, 4),
+    (EighthViewForgotten, 4),
+    (FortiethRowForgotten, 4),
+    (SixthAskedAtomForgotten, 4),
+    (SixthListAtomForgotten, 4),
+    (ThirdViewAtomForgotten, 4),
 ];
 
 static CURRENT: AtomicUsize = AtomicUsize::new(None as usize);
 
 pub fn set(slip: Slip) {
     CURRENT.store(slip as usize, Ordering::SeqCst);
+}
+
+/// Whether a slip is on.
+pub fn any() -> bool {
+    !is(None)
 }
 
 pub fn is(slip: Slip) -> bool {
