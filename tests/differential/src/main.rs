@@ -6,7 +6,8 @@
 //!     cargo run --release --offline -- --slip                      mistakes put into this implementation, and into results: all are found
 //!     cargo run --release --offline -- --slip NAME                 one of those mistakes, with the first inputs that differ
 //!
-//! It ends with 1 where something differs, or a mistake is not found.
+//! It ends with 1 where something differs, or a mistake is not found; from a number of inputs on also where an answer, or a limit with a
+//! verdict, was never met. How often each limit was met is printed last.
 
 mod compare;
 mod full;
