@@ -181,9 +181,10 @@ fn tell(what: &str, is_met: bool, how: String) -> bool {
     is_met
 }
 
+/// The sheets' names behind a colon, where there are any.
 fn names(lines: &[&Line]) -> String {
     let shown: Vec<String> = lines.iter().map(|l| l.name()).collect();
-    shown.join("; ")
+    if shown.is_empty() { String::new() } else { format!(": {}", shown.join("; ")) }
 }
 
 /// A target that is asked for and could not be measured: not met.
@@ -223,6 +224,8 @@ fn ratio_target(lines: &[Line], strategy: &str) -> bool {
     }
     let (_, how) = told_ratios(lines.iter().filter_map(|l| l.ratio_to(l.cut_down).map(|r| (r, l))).collect());
     println!("        not a target, the time by that of this search cut down to nearly the library's strategy: {how}");
+    let lacking: Vec<&Line> = lines.iter().filter(|l| l.ratio_to(l.cut_down).is_none()).collect();
+    println!("        without that ratio, since one of the two did not end in its time: {} of {}{}", lacking.len(), lines.len(), names(&lacking));
     met
 }
 
@@ -243,7 +246,7 @@ fn targets(lines: &[Line], strategy: &str, largest: &[u8]) -> bool {
     let slow: Vec<&Line> = hard.iter().copied().filter(|l| !l.sample.excused && !l.is_within(HARD_LIMIT)).collect();
     let excused: Vec<&Line> = hard.iter().copied().filter(|l| l.sample.excused && !l.is_within(HARD_LIMIT)).collect();
     if !hard.is_empty() {
-        all &= tell("every hard sheet under 1 s", slow.is_empty(), format!("{} of {} over it: {}", slow.len(), hard.len(), names(&slow)));
+        all &= tell("every hard sheet under 1 s", slow.is_empty(), format!("{} of {} over it{}", slow.len(), hard.len(), names(&slow)));
         println!("        not asked of pigeons by triples from nine into eight: {} over it", excused.len());
     }
     all &= ratio_target(lines, strategy);
@@ -264,9 +267,9 @@ fn targets(lines: &[Line], strategy: &str, largest: &[u8]) -> bool {
         None => all &= untold("read and write at 100 MB/s", NOT_LINKED),
     }
     let wrong: Vec<&Line> = lines.iter().filter(|l| l.fault.is_some()).collect();
-    all &= tell("no wrong answer", wrong.is_empty(), format!("{} wrong: {}", wrong.len(), names(&wrong)));
+    all &= tell("no wrong answer", wrong.is_empty(), format!("{} wrong{}", wrong.len(), names(&wrong)));
     let unchecked: Vec<&Line> = lines.iter().filter(|l| !l.is_checked()).collect();
-    println!("        answers that could not be compared: {} of {}: {}", unchecked.len(), lines.len(), names(&unchecked));
+    println!("        answers that could not be compared: {} of {}{}", unchecked.len(), lines.len(), names(&unchecked));
     all
 }
 
