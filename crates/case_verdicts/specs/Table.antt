@@ -45,8 +45,8 @@ pub record SameKey (table : Table) (f g : Fact) : Type 0 where
   pub some : 0 < relation table (f .rel) .key
   pub first : take (relation table (f .rel) .key) (f .row) ≡ take (relation table (f .rel) .key) (g .row)
 
--- Meaning, of logs: the log is made of facts. Nothing more is asked by a table without keys and parents: any row may stand in any
--- relation, whatever the others hold.
+-- Meaning, of logs: the log is made of facts. Nothing more is asked by a table without keys and parents: a relation's
+-- rows are free, and so are those beside them.
 pub record Lawful (table : Table) (log : Log) : Type 0 where
   pub formed : (f : Fact) → In f log → Formed table f
   pub parented : (f : Fact) → In f log → (g : Fact) → In g (parents table f) → In g log

@@ -70,7 +70,7 @@ pub extern "C" fn figdawesa_write(words: &[i32], out: &mut [u8]) -> Ended
     in_numbers(sheet::write(words, out))
 }
 
-// Where a line's own bytes stand, without byte 10; the empty part at 0 where there is no such closed line.
+// Where a line's own bytes stand, without byte 10; the empty part at 0 for a line that is not there or is not closed.
 #[no_mangle]
 pub extern "C" fn figdawesa_line(sheet: &[u8], number: usize) -> Stretch
     ensures { λ r. ⌜ (r .start ≡ lineStart (now (sheet .entry)) number) × (r .length ≡ length (lineAt (now (sheet .entry)) number)) ⌝ }

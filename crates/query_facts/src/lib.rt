@@ -1,4 +1,4 @@
-// Facts in words, five a fact: the relation, then four values, unused ones 0. Why they are sent back, and accepted ones as plain numbers.
+// Facts in words, five a fact: its relation and its values, filled up with 0. Why they are sent back, and accepted ones as plain numbers.
 use sheet_format::Refusal;
 ghost use mathlib.Core.Path.{_≡_};
 ghost use mathlib.Core.Bool.{_||_};

@@ -73,7 +73,7 @@ constant z = isConstant (termOf z)
 
 -- ---- the causes of a line: g is what the lines before it leave, `before` the line before it
 
--- 3: kind not 1 to 5; out of place; impossible field count.
+-- 3: a kind that is none, or not in its place, or a field count that its kind cannot have.
 -- The question's head comes first; the list's head in the question's block; a view's head in the list's block or a view's; an atom after
 -- a head or an atom; a row after a view's atom or a row.
 abbrev pub inPlace : Seen → Kind → Bool
@@ -113,7 +113,7 @@ outOfRange atom l = not (all term (terms l))
 outOfRange row l = not (all constant (rest l))
 outOfRange other l = false
 
--- 6: one atom, view or row too many
+-- 6: more atoms, views or rows than there may be
 abbrev pub atomsOf : ℕ → ℕ
 atomsOf b = cond (eqb b 3) most-view-atoms most-atoms
 
@@ -134,7 +134,7 @@ wrongLength g atom l = false
 wrongLength g row l = not (eqb (length (rest l)) (g .columns))
 wrongLength g other l = false
 
--- 9: a row not above the one before it in its view, compared column by column from the first
+-- 9: a row that does not come after its view's last: the first column in which they differ decides
 abbrev pub above : List ℤ → List ℤ → Bool
 above [] ns = false
 above (m ∷ ms) [] = false
@@ -201,7 +201,7 @@ unfoldable pub scan : Seen → Line → ℕ → List Line → Refusal
 scan g before n [] = missing g
 scan g before n (l ∷ ls) = orAt (cause g before l) n (scan (next g l) l (n + 1) ls)
 
--- 8: a block without atoms, or a head variable in no atom of its block
+-- 8: a block without atoms, or with a variable that only its head has
 abbrev pub isHead : Kind → Bool
 isHead question = true
 isHead saved = true

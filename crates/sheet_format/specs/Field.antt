@@ -1,5 +1,5 @@
--- A field: eight bytes with a decimal number, right-justified, blanks (32) before it, "-" (45) directly before a negative one; no leading
--- zero, no "+", no "-0".
+-- A field: eight bytes that end in a decimal number without zeros in front, with its sign "-" (45) where it is below 0, and blanks (32) in
+-- all columns to the left. A "+" is no sign, and 0 has none.
 use mathlib.Core.Bool.{Bool, true, false, cond}
 use mathlib.Core.List.{List, [], _∷_, _++_}
 use Prim.Native.Nat.{ℕ, zero, suc, _+_, _-_, _*_, _/_, _%_}

@@ -41,7 +41,7 @@ unfoldable pub openFrom : List ℕ → List ℕ → List ℕ
 openFrom cur [] = cur
 openFrom cur (b ∷ s) = cond (eqb b 10) (openFrom [] s) (openFrom (cur ++ (b ∷ [])) s)
 
--- line k, counted from 1: its own bytes, and none where there is no such closed line
+-- line k, counted from 1: its own bytes; none for a line that is not there or is not closed
 abbrev pub lineAt : List ℕ → ℕ → List ℕ
 lineAt s zero = []
 lineAt s (suc k) = getD (closed s) k []

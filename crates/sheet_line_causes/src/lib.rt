@@ -315,7 +315,7 @@ fn row_cause(g: Seen, before: &[i32], words: &[i32], n: usize) -> usize
     0
 }
 
-// The first field decides the line, kind by kind.
+// The cause of a line by the kind that its first field names.
 fn line_cause(g: Seen, before: &[i32], words: &[i32], n: usize) -> usize
     requires { ⌜ (length (now before) ≡ 7) × Counted (now words) n ⌝ }
     ensures { λ r. ⌜ r ≡ causeBy g (wordLine (now (before .entry))) (kindOf (getD (now (words .entry)) 1 (pos 0))) (fields n (now (words .entry))) ⌝ }

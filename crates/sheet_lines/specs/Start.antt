@@ -10,7 +10,7 @@ startIn at [] k = 0
 startIn at (l ∷ ls) zero = at
 startIn at (l ∷ ls) (suc k) = startIn (at + length l + 1) ls k
 
--- of line k, counted from 1; 0 where there is no such closed line
+-- of line k, counted from 1; 0 for a line that is not there or is not closed
 abbrev pub lineStart : List ℕ → ℕ → ℕ
 lineStart s zero = 0
 lineStart s (suc k) = startIn 0 (closed s) k

@@ -30,7 +30,7 @@ pub fn find_line(s: &[u8], number: usize) -> Place
     Place { start: 0, end: 0 }
 }
 
-// A line's own bytes, without byte 10, as a part of the sheet's; empty where there is no such closed line.
+// A line's own bytes, without byte 10, as a part of the sheet's; empty for a line that is not there or is not closed.
 pub fn line(sheet: &[u8], number: usize) -> &[u8]
     ensures { λ r. ⌜ now r ≡ lineAt (now (sheet .entry)) number ⌝ }
 {

@@ -11,7 +11,7 @@
 //
 //     its facts are facts, ascend, and have values that stand in the sheet or are made up
 //     each view's answers are its listed rows
-//     the missing answer is the least that it gives the question and not the list
+//     the missing answer is the least of the question's that the list lacks
 //     with any one fact dropped it is no case
 //
 // A bar follows, then the missing answer and a bar, the count of facts and a bar, and the facts, with "/" after each. Of a case SHOWN says
