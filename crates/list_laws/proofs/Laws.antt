@@ -1,13 +1,11 @@
 -- Laws of writing.
 use mathlib.Core.Path.{_≡_, refl, sym, ap, _∙_, subst}
-use mathlib.Core.List.{List, [], _∷_, _++_, append-assoc}
+use mathlib.Core.List.{List, [], _∷_, _++_, append-assoc, append-nil}
 use Prim.Native.Nat.{ℕ, _+_, _-_, _<_, _≤_}
 use native.Mathlib.Omega.{arith}
 use native.Mathlib.Numerals.{add-one}
 use lib.ListN.{length, take, drop, getD, set, length-set, length-append, take-append-drop}
 use lib.Seq.{take-suc, take-suc-set, take-length, drop-set-lt, drop-drop}
-use Rattle.sheet_format.specs.Sheet.{over}
-use Rattle.sheet_format.proofs.Lists.{append-nil}
 use Rattle.list_laws.specs.Wrote.{Wrote}
 
 -- ---- writing in order
@@ -37,7 +35,7 @@ wrote-join a b c at to end vs us v u =
       back = u .back ∙ ap (λ n. drop n b) (sym k) ∙ sym (drop-drop (end - to) to b) ∙ ap (drop (end - to)) (v .back) ∙ drop-drop (end - to) to a ∙ ap (λ n. drop n a) k;
     }
 
-pub wrote-over : {A : Type 0} (a b : List A) (to : ℕ) (vs : List A) → Wrote a b 0 to vs → b ≡ over vs a
+pub wrote-over : {A : Type 0} (a b : List A) (to : ℕ) (vs : List A) → Wrote a b 0 to vs → b ≡ vs ++ drop (length vs) a
 wrote-over a b to vs w = sym (take-append-drop to b) ∙ ap (λ x. x ++ drop to b) (w .front) ∙ ap (λ x. vs ++ x) (w .back) ∙ ap (λ n. vs ++ drop n a) (let e = w .end in let k : to ≡ length vs = omega arith in k)
 
 -- ---- copying a list, one element after the other

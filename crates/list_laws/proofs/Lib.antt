@@ -1,2 +1,5 @@
+pub mod Lists
+pub mod Words
 pub mod Laws
-pub mod Endings
+pub mod Ranges
+pub mod Order

@@ -1,1 +1,3 @@
 pub mod Wrote
+pub mod Kept
+pub mod Order

@@ -1,1 +1,1 @@
-// What it is to write values over those of a list, and how a call with lent ones ends: definitions and laws only.
+// Laws of lists, signed words and order, each said once: definitions and proofs only.

@@ -1,6 +1,6 @@
 -- What the lines of an accepted sheet have, line by line: atoms and heads, and the atoms after a head. Assumes nothing.
-use mathlib.Core.Path.{_≡_, refl, sym, _∙_}
-use mathlib.Core.Bool.{Bool, true, false, cond, _&&_, _||_}
+use mathlib.Core.Path.{_≡_, refl, sym}
+use mathlib.Core.Bool.{Bool, true, false, cond}
 use mathlib.Core.List.{List, [], _∷_}
 use Prim.Native.Nat.{ℕ, zero, suc, _+_, _≤_, _<_}
 use native.Mathlib.Omega.{arith}
@@ -9,47 +9,16 @@ use lib.IntN.{ℤ, pos, negsuc}
 use lib.ListN.{length, getD}
 use borrow.Author.Tests.{eqb-true, eqb-false, leb-true, leb-false, not-false}
 use Rattle.sheet_format.specs.Relations.{columnsOf}
-use Rattle.sheet_format.specs.Line.{Line, all, null}
-use Rattle.sheet_format.specs.Cause.{Kind, question, saved, view, atom, row, other, kind, rest, second, terms, term, inPlace, possible, misplaced, wrongColumns, outOfRange, tooMany, atomsOf, cause, start, nextBy, next, refusal, scan, isHead, isAtom, atoms, unsafe, heads, refusalOf}
+use Rattle.sheet_format.specs.Line.{Line, all}
+use Rattle.sheet_format.specs.Cause.{Kind, question, saved, view, atom, row, other, kind, rest, second, terms, term, possible, wrongColumns, outOfRange, tooMany, atomsOf, cause, start, nextBy, next, refusal, scan, isHead, isAtom, atoms, unsafe, heads, refusalOf}
 use Rattle.sheet_format.specs.declared.Refusal.{Refusal}
 use Rattle.sheet_format.specs.declared.Seen.{Seen}
-use Rattle.sheet_format.proofs.Lists.{no-way, and-left, and-right}
-use Rattle.sheet_format.proofs.ScanLaws.{accepted-scan}
+use Rattle.sheet_format.proofs.Lists.{no-way, both}
+pub use Rattle.sheet_format.proofs.Lists.{neither}
+use Rattle.sheet_format.proofs.ScanLaws.{accepted-scan, clean-line}
+pub use Rattle.sheet_format.proofs.ScanLaws.{Clean}
 
--- ---- tests
-
-pub both : (s t : Bool) → s && t ≡ true → (s ≡ true) × (t ≡ true)
-both s t e = (and-left s t e, and-right s t e)
-
-pub neither : (s t : Bool) → s || t ≡ false → (s ≡ false) × (t ≡ false)
-neither true t e = no-way (sym e)
-neither false t e = (refl, e)
-
--- a test that was passed on the way to 0
-passed : (t : Bool) (m x : ℕ) → eqb m 0 ≡ false → eqb (cond t m x) 0 ≡ true → (t ≡ false) × (eqb x 0 ≡ true)
-passed true m x f e = no-way (sym f ∙ e)
-passed false m x f e = (refl, e)
-
--- ---- a line without a cause
-
-pub record Clean (g : Seen) (l : Line) : Type 0 where
-  pub formed : null l ≡ false
-  pub placed : inPlace g (kind l) ≡ true
-  pub sized : possible (kind l) (length l) ≡ true
-  pub columns : wrongColumns (kind l) l ≡ false
-  pub ranged : outOfRange (kind l) l ≡ false
-  pub room : tooMany g (kind l) ≡ false
-
-pub clean-line : (g : Seen) (b l : Line) → eqb (cause g b l) 0 ≡ true → Clean g l
-unfolding cause
-clean-line g b l e =
-    let p2 = passed (null l) 2 _ refl e in
-    let p3 = passed (misplaced g l) 3 _ refl (p2 .1) in
-    let p4 = passed (wrongColumns (kind l) l) 4 _ refl (p3 .1) in
-    let p5 = passed (outOfRange (kind l) l) 5 _ refl (p4 .1) in
-    let p6 = passed (tooMany g (kind l)) 6 _ refl (p5 .1) in
-    let q = both _ _ (not-false _ (p3 .0)) in
-    record { formed = p2 .0; placed = q .0; sized = q .1; columns = p4 .0; ranged = p5 .0; room = p6 .0 }
+-- ---- the lines that the scan lets pass
 
 -- the first of the lines that the scan lets pass, and the others
 pub scan-first : (l : Line) (ls : List Line) (g : Seen) (b : Line) (n : ℕ) → scan g b n (l ∷ ls) .number ≡ 0 → Clean g l × (scan (next g l) l (n + 1) ls .number ≡ 0)

@@ -4,11 +4,12 @@ use mathlib.Core.Bool.{Bool, true, false, cond}
 use mathlib.Core.List.{List, [], _∷_, map}
 use Prim.Native.Nat.{ℕ, zero, suc, _+_, _-_, _*_, _/_, _%_, _≤_, _<_}
 use native.Mathlib.Omega.{arith}
-use native.Mathlib.Numerals.{add-one}
 use lib.IntN.{ℤ, pos}
 use lib.ListN.{length, drop, getD, drop-of-length-le, length-drop, length-map, List·getD-map}
-use lib.Seq.{drop-cons, getD-drop}
+use lib.Seq.{getD-drop}
 use borrow.Author.Tests.{lt-ltb, le-ltb, eq-eqb, ne-eqb}
+use Rattle.list_laws.proofs.Lists.{drop-next}
+use Rattle.sheet_format.proofs.WordLines.{lines-length}
 use Rattle.sheet_format.specs.Line.{Line, null, natural, wordLines}
 use Rattle.sheet_format.specs.Cause.{kindOf, kind, rest, second, terms, isHead, isAtom, atoms}
 use Rattle.query_meaning.specs.Blocks.{View, asTerm, atomOf, blockOf, viewOf, blocks, allBlocks, nth, blockAt}
@@ -16,7 +17,7 @@ use Rattle.query_encoding.specs.Numbers.{number, termAt, atomAt, BlockNumbers, 
 use Rattle.sheet_format.proofs.Lists.{no-way}
 use Rattle.query_blocks.proofs.Accepted.{accepted-clean}
 use Rattle.query_blocks.proofs.Shape.{isNth, blockNth, block-of, blocks-head, blocks-other, nth-first, nth-past, no-nth, accepted-fine, accepted-shaped}
-use Rattle.query_blocks.proofs.Words.{lines-length, kind-word, second-word, rest-word, term-word}
+use Rattle.query_blocks.proofs.Words.{kind-word, second-word, rest-word, term-word}
 use Rattle.query_blocks.specs.Parts.{Accepted, HeadAt, numberAt, entryOf}
 
 -- ---- a number by its place
@@ -35,9 +36,6 @@ module _ (ws : List ℤ) (h x : ℕ) where
   entry-head le = rw (le-ltb x 30 le) refl
 
 -- ---- lines
-
-drop-line : (ls : List Line) (i : ℕ) → i < length ls → drop i ls ≡ getD ls i [] ∷ drop (i + 1) ls
-drop-line ls i h = drop-cons ls i [] h ∙ ap (λ n. getD ls i [] ∷ drop n ls) (sym (add-one i))
 
 module _ (ws : List ℤ) (i : ℕ) (lt : i < length ws / 7) (a : Accepted (wordLines ws)) where
   pub inside : i < length (wordLines ws)
@@ -66,7 +64,7 @@ this ls i = viewOf (getD ls i []) (drop (i + 1) ls)
 module _ (ls : List Line) (k i : ℕ) (lt : i < length ls) where
   pub left-other : (m : ℕ) → isHead (kind (getD ls i [])) ≡ false → Left ls k i m → Left ls k (i + 1) m
   left-other m h f =
-      let e : allBlocks (drop i ls) ≡ allBlocks (drop (i + 1) ls) = ap allBlocks (drop-line ls i lt) ∙ blocks-other (getD ls i []) (drop (i + 1) ls) h in
+      let e : allBlocks (drop i ls) ≡ allBlocks (drop (i + 1) ls) = ap allBlocks (drop-next ls i [] lt) ∙ blocks-other (getD ls i []) (drop (i + 1) ls) h in
       record {
         found = ap (λ vs. isNth vs m) (sym e) ∙ f .found;
         block = block-of (drop (i + 1) ls) m ∙ ap (λ vs. blockNth vs m) (sym e) ∙ sym (block-of (drop i ls) m) ∙ f .block;
@@ -74,7 +72,7 @@ module _ (ls : List Line) (k i : ℕ) (lt : i < length ls) where
 
   at-head : isHead (kind (getD ls i [])) ≡ true → allBlocks (drop i ls) ≡ this ls i ∷ allBlocks (drop (i + 1) ls)
   unfolding this
-  at-head h = ap allBlocks (drop-line ls i lt) ∙ blocks-head (getD ls i []) (drop (i + 1) ls) h
+  at-head h = ap allBlocks (drop-next ls i [] lt) ∙ blocks-head (getD ls i []) (drop (i + 1) ls) h
 
   pub left-past : (m : ℕ) → 1 ≤ m → (m ≡ 1 → ⊥) → isHead (kind (getD ls i [])) ≡ true → Left ls k i m → Left ls k (i + 1) (m - 1)
   left-past zero le ne h f = absurd (omega arith)
@@ -114,11 +112,11 @@ left-end ls k i m le f =
 module _ (ls : List Line) (i : ℕ) where
   pub no-atom : i < length ls → isAtom (kind (getD ls i [])) ≡ false → length (atoms (drop i ls)) ≡ 0
   unfolding atoms
-  no-atom lt e = rw (drop-line ls i lt, e) refl
+  no-atom lt e = rw (drop-next ls i [] lt, e) refl
 
   one-atom : i < length ls → isAtom (kind (getD ls i [])) ≡ true → length (atoms (drop i ls)) ≡ suc (length (atoms (drop (i + 1) ls)))
   unfolding atoms
-  one-atom lt e = rw (drop-line ls i lt, e) refl
+  one-atom lt e = rw (drop-next ls i [] lt, e) refl
 
   pub past-atoms : length ls ≤ i → length (atoms (drop i ls)) ≡ 0
   unfolding atoms

@@ -15,12 +15,12 @@ use Rattle.sheet_format.specs.Line.{Line, all, null, natural}
 use Rattle.sheet_format.specs.Cause.{kind, rest, second, terms, term, isTerm, orOut, termOf, scan, start, next, isHead, atoms, same, occurs, bound, unsafe, heads, refusalOf}
 use Rattle.sheet_format.specs.declared.Seen.{Seen}
 use Rattle.sheet_format.specs.declared.Term.the-variants.{Constant, Variable}
-use Rattle.sheet_format.proofs.Lists.{no-way}
-use Rattle.sheet_format.proofs.ScanLaws.{accepted-scan}
+use Rattle.sheet_format.proofs.Lists.{no-way, both, neither}
+use Rattle.sheet_format.proofs.ScanLaws.{accepted-scan, Clean}
 use Rattle.query_meaning.specs.Meaning.{con, var, Atom, Block, In}
 use Rattle.query_meaning.specs.Blocks.{View, asTerm, atomOf, blockOf, viewOf, blocks, allBlocks, nowhere, nth, blockAt}
 use Rattle.query_encoding.specs.Numbers.{Shaped, isBlock}
-use Rattle.query_blocks.proofs.Accepted.{both, neither, Clean, scan-first, heads-first, accepted-heads, AtomLine, AtomLines, HeadLine, head-line, no-atoms, front-atoms}
+use Rattle.query_blocks.proofs.Accepted.{scan-first, heads-first, accepted-heads, AtomLine, AtomLines, HeadLine, head-line, no-atoms, front-atoms}
 
 -- ---- elements
 

@@ -10,9 +10,10 @@ use native.Mathlib.Omega.{arith}
 use lib.Dec.{eqb, ltb, leb}
 use lib.IntN.{ℤ, pos, negsuc}
 use lib.ListN.{length, getD, take, drop, length-take, length-drop, length-map, drop-of-length-le, List·getD-eq-default, List·getD-map}
-use lib.Seq.{slice, drop-drop, drop-cons, take-take, take-all, getD-take, getD-drop, length-slice}
+use lib.Seq.{slice, drop-drop, take-take, take-all, getD-take, getD-drop, length-slice}
 use borrow.Author.Tests.{eqb-true, eq-eqb, ne-eqb, ltb-true, ltb-false, lt-ltb, le-ltb, leb-true, not-false}
-use Rattle.sheet_format.proofs.Lists.{no-way, and-left, and-right}
+use Rattle.list_laws.proofs.Lists.{slice-next, drop-next}
+use Rattle.sheet_format.proofs.Lists.{no-way, and-left, and-right, both, neither, all-at}
 use Rattle.sheet_format.specs.Cause.{above, refusal, none}
 use Rattle.sheet_format.specs.Line.{all, isZero, natural, null}
 use Rattle.sheet_format.specs.Relations.{columnsOf, relations}
@@ -20,7 +21,7 @@ use Rattle.query_meaning.specs.Meaning.{Fact, Log, In}
 use Rattle.query_meaning.specs.Facts.{factByFact, factIn, factsIn, factsRefusal, fives, isValue, logOf, relationOf, unused, used, value-end, wrongFact}
 use Rattle.query_encoding.specs.Numbers.{FactNumbers, ShapedLog, factAt}
 use Rattle.query_facts.specs.Parts.{before, inRange}
-use Rattle.query_facts.proofs.Words.{both, neither, not-either, zero-word, value-range, zero-range, part-slice, slice-word, all-same, all-at}
+use Rattle.query_facts.proofs.Words.{not-either, zero-word, value-range, zero-range, part-slice, all-same}
 
 -- ---- a relation's columns
 
@@ -67,9 +68,6 @@ next-words ws i h =
     let e : 5 * (i + 1) ≡ 5 * i + 5 = omega arith in
     fact-words ws (i + 1) h ∙ ap (λ n. slice n (n + 5) ws) e
 
-drop-fact : (fs : List (List ℤ)) (i : ℕ) → i < length fs → drop i fs ≡ getD fs i [] ∷ drop (i + 1) fs
-drop-fact fs i h = drop-cons fs i [] h ∙ ap (λ n. getD fs i [] ∷ drop n fs) (sym (add-one i))
-
 -- ---- a fact by its words
 
 module _ (ws : List ℤ) (at : ℕ) where
@@ -115,7 +113,7 @@ module _ (ws : List ℤ) (i : ℕ) (h : i < length ws / 5) where
 -- ---- the order of facts
 
 pub fact-some : (ws : List ℤ) (i : ℕ) → i < length ws / 5 → null (getD (factsIn ws) i []) ≡ false
-fact-some ws i h = ap null (fact-words ws i h ∙ slice-word (5 * i) (5 * i + 5) ws (omega arith) (omega arith))
+fact-some ws i h = ap null (fact-words ws i h ∙ slice-next (5 * i) (5 * i + 5) ws (pos 0) (omega arith) (omega arith))
 
 pub order-first : (fs : List (List ℤ)) (i : ℕ) → i ≡ 0 → true ≡ (null (before fs i) || above (before fs i) (getD fs i []))
 order-first fs i e = rw e
@@ -133,18 +131,18 @@ order-next ws (suc i) r n h e =
 module _ (fs : List (List ℤ)) (i : ℕ) (h : i < length fs) where
   pub fact-wrong : wrongFact (getD fs i []) ≡ true → refusal 11 0 ≡ factByFact (before fs i) (drop i fs)
   unfolding factByFact
-  fact-wrong e = rw (drop-fact fs i h, e)
+  fact-wrong e = rw (drop-next fs i [] h, e)
 
   pub fact-low : wrongFact (getD fs i []) ≡ false → null (before fs i) || above (before fs i) (getD fs i []) ≡ false
       → refusal 12 0 ≡ factByFact (before fs i) (drop i fs)
   unfolding factByFact
-  fact-low e g = rw (drop-fact fs i h, e, not-either (null (before fs i)) (above (before fs i) (getD fs i [])), g)
+  fact-low e g = rw (drop-next fs i [] h, e, not-either (null (before fs i)) (above (before fs i) (getD fs i [])), g)
 
   pub fact-goes : wrongFact (getD fs i []) ≡ false → null (before fs i) || above (before fs i) (getD fs i []) ≡ true
       → factByFact (before fs (i + 1)) (drop (i + 1) fs) ≡ factByFact (before fs i) (drop i fs)
   unfolding factByFact
   fact-goes e g =
-      rw (drop-fact fs i h, e, not-either (null (before fs i)) (above (before fs i) (getD fs i [])), g)
+      rw (drop-next fs i [] h, e, not-either (null (before fs i)) (above (before fs i) (getD fs i [])), g)
       (ap (λ n. factByFact (before fs n) (drop (i + 1) fs)) (add-one i))
 
 pub facts-end : (fs : List (List ℤ)) (i : ℕ) → length fs ≤ i → none ≡ factByFact (before fs i) (drop i fs)
@@ -253,7 +251,7 @@ value-at f e w c h = go (ltb c n) refl
         sym (getD-drop 1 f c (pos 0))
         ∙ ap (λ k. getD (drop 1 f) k (pos 0)) (sym p)
         ∙ sym (getD-drop n (drop 1 f) (c - n) (pos 0))
-        ∙ zero-word (getD (unused f) (c - n) (pos 0)) (all-at isZero (unused f) (c - n) zeros (omega arith))
+        ∙ zero-word (getD (unused f) (c - n) (pos 0)) (all-at isZero (pos 0) (unused f) zeros (c - n) (omega arith))
         ∙ sym (List·getD-eq-default (used f) (pos 0) o)
 
 -- a number is that of the word in its place

@@ -141,16 +141,6 @@ pub fn refusal(fs: &[i32]) -> Refusal
     by_facts(fs)
 }
 
-// A word as a plain number; a negative one as 0.
-fn number_of(word: i32) -> usize
-    ensures { λ r. ⌜ r ≡ natural word ⌝ }
-{
-    if word < 0 {
-        return 0;
-    }
-    word as usize
-}
-
 // Accepted facts as plain numbers, in the first fs.len() of the given ones. Nothing is written where those are too few.
 pub fn numbers(fs: &[i32], ns: &mut [usize])
     ensures { λ r. ⌜ (factsRefusal (now (fs .entry)) .number ≡ 0 → length (now (fs .entry)) ≤ length (now (ns .entry)) → FactNumbers (take (length (now (fs .entry))) (now (ns .exit))) (logOf (now (fs .entry)))) ⌝ }
@@ -161,7 +151,7 @@ pub fn numbers(fs: &[i32], ns: &mut [usize])
     }
     let mut i = 0;
     while i < fs.len() {
-        ns[i] = number_of(fs[i]);
+        ns[i] = sheet_terms::number(fs[i]);
         i += 1;
     }
 }

@@ -2,69 +2,30 @@
 use mathlib.Core.Path.{_≡_, refl, sym, ap, _∙_}
 use mathlib.Core.Bool.{Bool, true, false, cond, not, _&&_}
 use mathlib.Core.List.{List, [], _∷_}
-use Prim.Native.Nat.{ℕ, zero, suc, _+_, _*_, _/_, _≤_, _<_}
+use Prim.Native.Nat.{ℕ, zero, suc, _+_, _≤_, _<_}
 use native.Mathlib.Omega.{arith}
 use native.Mathlib.Numerals.{add-one}
 use lib.Dec.{eqb, ltb, leb}
 use lib.IntN.{ℤ, pos, negsuc}
 use lib.Signed.{ltZ}
 use lib.ListN.{length, take, drop, getD, set, length-take, length-drop, drop-of-length-le}
-use lib.Seq.{drop-drop, drop-cons, getD-take, getD-drop, take-suc-set, take-suc, take-all, take-take}
+use lib.Seq.{getD-take, getD-drop, take-suc-set, take-suc, take-all, take-take}
 use mir.Syntax.{w32}
 use mir.Val.{SFits, toZ, ofZ}
-use mir.ValLaws.{toZ-ofZ}
 use borrow.Author.Tests.{eq-eqb, ne-eqb, leb-true, ltb-false, le-ltb, lt-ltb, not-true}
-use Rattle.sheet_format.specs.Line.{Line, all, null, natural, count, wellFormedWords, wordLine, sevens, wordLines}
-use Rattle.sheet_format.specs.Cause.{Kind, kindOf, kind, rest, terms, isHead, isAtom, atoms, same, occurs, bound, unsafe, refusal, none, heads, cause, next, stepOf, orAt, missing, start, scan, refusalOf}
+use Rattle.sheet_format.proofs.ScanLaws.{lines-formed}
+use Rattle.sheet_format.proofs.KindLaws.{kind-first}
+use Rattle.sheet_format.proofs.Lists.{true-false, both}
+use Rattle.list_laws.proofs.Words.{word-of}
+use Rattle.list_laws.proofs.Lists.{drop-next}
+use Rattle.sheet_format.specs.Line.{Line, all, null, natural, count, wellFormedWords, wordLine}
+use Rattle.sheet_format.specs.Cause.{kindOf, kind, rest, terms, isHead, isAtom, atoms, same, occurs, bound, unsafe, refusal, none, heads, cause, next, stepOf, orAt, missing, start, scan, refusalOf}
 use Rattle.sheet_format.specs.declared.Refusal.{Refusal}
 use Rattle.sheet_format.specs.declared.Seen.{Seen}
 use Rattle.sheet_format.specs.declared.Step.the-variants.{Goes, Stops}
 use Rattle.sheet_causes.specs.Formed.{Formed}
 
--- ---- tests
-
-true-false {ℓ} : {A : Type ℓ} → true ≡ false → A
-true-false e = let z : _≡_ {A = ℕ} 0 1 = cc in absurd (omega arith)
-
-both : (s t : Bool) → s && t ≡ true → (s ≡ true) × (t ≡ true)
-both true t e = (refl, e)
-both false t e = true-false (sym e)
-
--- ---- signed words
-
--- the word read back from its bits is the word
-pub back : {z : ℤ} → SFits w32 z → toZ w32 (ofZ w32 z) ≡ z
-back {z} h = toZ-ofZ w32 z h
-
--- words with the same bits are the same
-pub of-bits : {a b : ℤ} → SFits w32 a → SFits w32 b → ofZ w32 a ≡ ofZ w32 b → a ≡ b
-of-bits {a} {b} h k e = sym (toZ-ofZ w32 a h) ∙ ap (toZ w32) e ∙ toZ-ofZ w32 b k
-
--- the word with the bits n
-pub word-of : {z : ℤ} (n : ℕ) → SFits w32 z → ofZ w32 z ≡ n → z ≡ toZ w32 n
-word-of {z} n h e = sym (toZ-ofZ w32 z h) ∙ ap (toZ w32) e
-
 -- ---- the lines of a number form
-
-sevens-length : (k : ℕ) (ws : List ℤ) → length (sevens k ws) ≡ k
-unfolding sevens
-sevens-length zero ws = refl
-sevens-length (suc k) ws = ap suc (sevens-length k (drop 7 ws))
-
-sevens-get : (k : ℕ) (ws : List ℤ) (i : ℕ) → i < k → getD (sevens k ws) i [] ≡ wordLine (take 7 (drop (7 * i) ws))
-unfolding sevens
-sevens-get zero ws i h = absurd (omega arith)
-sevens-get (suc k) ws zero h = refl
-sevens-get (suc k) ws (suc i) h =
-    sevens-get k (drop 7 ws) i (omega arith)
-    ∙ ap (λ l. wordLine (take 7 l)) (drop-drop (7 * i) 7 ws)
-    ∙ ap (λ n. wordLine (take 7 (drop n ws))) (let e : 7 + 7 * i ≡ 7 * suc i = omega arith in e)
-
-pub lines-length : (ws : List ℤ) → length (wordLines ws) ≡ length ws / 7
-lines-length ws = sevens-length (length ws / 7) ws
-
-pub line-get : (ws : List ℤ) (i : ℕ) → i < length ws / 7 → getD (wordLines ws) i [] ≡ wordLine (take 7 (drop (7 * i) ws))
-line-get ws i h = sevens-get (length ws / 7) ws i h
 
 -- one word more of a line
 pub word-more : (ws l : List ℤ) (at j : ℕ) → length l ≡ 7 → j < 7 → at + 7 ≤ length ws → take j l ≡ take j (drop at ws)
@@ -79,10 +40,6 @@ whole-line ws l at j e le h =
     ∙ sym (take-take 7 j l le)
     ∙ ap (take 7) h
     ∙ take-take 7 j (drop at ws) le
-
--- a line from i on
-pub drop-line : (ls : List Line) (i : ℕ) → i < length ls → drop i ls ≡ getD ls i [] ∷ drop (i + 1) ls
-drop-line ls i h = drop-cons ls i [] h ∙ ap (λ n. getD ls i [] ∷ drop n ls) (sym (add-one i))
 
 pub formed-at : {ls : List Line} → Formed ls → (i : ℕ) → i < length ls → null (getD ls i []) ≡ false
 formed-at {ls} f i h = go ls i (f .each) h
@@ -148,10 +105,6 @@ field-word ws e f j h =
     ∙ getD-drop 1 ws j (pos 0)
     ∙ ap (λ k. getD ws k (pos 0)) (let e : 1 + j ≡ j + 1 = omega arith in e)
 
-kind-first : (l : Line) → null l ≡ false → kind l ≡ kindOf (getD l 0 (pos 0))
-kind-first [] e = true-false e
-kind-first (k ∷ l) e = refl
-
 pub kind-word : (ws : List ℤ) → length ws ≡ 7 → null (wordLine ws) ≡ false → kind (wordLine ws) ≡ kindOf (getD ws 1 (pos 0))
 kind-word ws e f =
     let (n, g) = fields ws e f in
@@ -164,30 +117,6 @@ pub kind-is : (ws : List ℤ) → length ws ≡ 7 → null (wordLine ws) ≡ fal
     → kindOf (toZ w32 n) ≡ kind (wordLine ws)
 kind-is ws e f n h g = sym (kind-word ws e f ∙ ap kindOf (word-of n h g))
 
--- ---- the kinds by their numbers
-
-pub atom-other : (z : ℤ) → (ofZ w32 z ≡ 4 → ⊥) → false ≡ isAtom (kindOf z)
-unfolding kindOf
-atom-other (pos n) h = go (eqb n 1) (eqb n 2) (eqb n 3) (eqb n 5) ∙ ap (λ t. isAtom (cond (eqb n 1) Kind.question (cond (eqb n 2) Kind.saved (cond (eqb n 3) Kind.view (cond t Kind.atom (cond (eqb n 5) Kind.row Kind.other)))))) (sym (ne-eqb n 4 h))
-  where
-    go : (a b c d : Bool) → false ≡ isAtom (cond a Kind.question (cond b Kind.saved (cond c Kind.view (cond d Kind.row Kind.other))))
-    go true b c d = refl
-    go false true c d = refl
-    go false false true d = refl
-    go false false false true = refl
-    go false false false false = refl
-atom-other (negsuc n) h = refl
-
-pub head-other : (z : ℤ) → (ofZ w32 z ≡ 1 → ⊥) → (ofZ w32 z ≡ 2 → ⊥) → (ofZ w32 z ≡ 3 → ⊥) → false ≡ isHead (kindOf z)
-unfolding kindOf
-head-other (pos n) h1 h2 h3 = go (eqb n 4) (eqb n 5) ∙ simp (ne-eqb n 1 h1, ne-eqb n 2 h2, ne-eqb n 3 h3)
-  where
-    go : (a b : Bool) → false ≡ isHead (cond a Kind.atom (cond b Kind.row Kind.other))
-    go true b = refl
-    go false true = refl
-    go false false = refl
-head-other (negsuc n) h1 h2 h3 = refl
-
 -- ---- terms
 
 rest-drop : (l : Line) → rest l ≡ drop 1 l
@@ -198,9 +127,6 @@ pub terms-drop : (l : Line) → terms l ≡ drop 2 l
 terms-drop [] = refl
 terms-drop (k ∷ []) = refl
 terms-drop (k ∷ r ∷ l) = refl
-
-drop-field : (l : Line) (j : ℕ) → j < length l → drop j l ≡ getD l j (pos 0) ∷ drop (j + 1) l
-drop-field l j h = drop-cons l j (pos 0) h ∙ ap (λ n. getD l j (pos 0) ∷ drop n l) (sym (add-one j))
 
 pub same-self : (z : ℤ) → same z z ≡ true
 same-self (pos n) = simp (le-ltb n n (omega arith))
@@ -224,10 +150,10 @@ same-not (negsuc m) (negsuc n) h = go (ltb n m) (ltb m n) refl refl
     go false false a b = let p = ltb-false n m a in let q = ltb-false m n b in absurd (h (ap negsuc (omega arith)))
 
 pub occurs-here : (z : ℤ) (l : Line) (j : ℕ) → j < length l → getD l j (pos 0) ≡ z → occurs z (drop j l) ≡ true
-occurs-here z l j h e = rw (drop-field l j h, e, same-self z) refl
+occurs-here z l j h e = rw (drop-next l j (pos 0) h, e, same-self z) refl
 
 pub occurs-on : (z : ℤ) (l : Line) (j : ℕ) → j < length l → (getD l j (pos 0) ≡ z → ⊥) → occurs z (drop (j + 1) l) ≡ occurs z (drop j l)
-occurs-on z l j h e = rw (drop-field l j h, same-not z (getD l j (pos 0)) (λ q. e (sym q))) refl
+occurs-on z l j h e = rw (drop-next l j (pos 0) h, same-not z (getD l j (pos 0)) (λ q. e (sym q))) refl
 
 pub occurs-end : (z : ℤ) (l : Line) (j : ℕ) → length l ≤ j → occurs z (drop j l) ≡ false
 occurs-end z l j h = rw (drop-of-length-le l h) refl
@@ -239,17 +165,17 @@ has z ls = not (all (λ a. not (occurs z (terms a))) ls)
 
 pub has-stop : (z : ℤ) (ls : List Line) (j : ℕ) → j < length ls → isAtom (kind (getD ls j [])) ≡ false → has z (atoms (drop j ls)) ≡ false
 unfolding atoms
-has-stop z ls j h e = rw (drop-line ls j h, e) refl
+has-stop z ls j h e = rw (drop-next ls j [] h, e) refl
 
 pub has-here : (z : ℤ) (ls : List Line) (j : ℕ) → j < length ls → isAtom (kind (getD ls j [])) ≡ true → occurs z (terms (getD ls j [])) ≡ true
     → has z (atoms (drop j ls)) ≡ true
 unfolding atoms
-has-here z ls j h e f = rw (drop-line ls j h, e, f) refl
+has-here z ls j h e f = rw (drop-next ls j [] h, e, f) refl
 
 pub has-on : (z : ℤ) (ls : List Line) (j : ℕ) → j < length ls → isAtom (kind (getD ls j [])) ≡ true → occurs z (terms (getD ls j [])) ≡ false
     → has z (atoms (drop (j + 1) ls)) ≡ has z (atoms (drop j ls))
 unfolding atoms
-has-on z ls j h e f = rw (drop-line ls j h, e, f) refl
+has-on z ls j h e f = rw (drop-next ls j [] h, e, f) refl
 
 pub has-end : (z : ℤ) (ls : List Line) (j : ℕ) → length ls ≤ j → has z (atoms (drop j ls)) ≡ false
 unfolding atoms
@@ -264,10 +190,10 @@ pub bound-constant : (ls : List Line) (z : ℤ) → ltZ z (pos 0) ≡ false → 
 bound-constant ls z e = rw e refl
 
 pub all-off : (p : ℤ → Bool) (l : Line) (j : ℕ) → j < length l → p (getD l j (pos 0)) ≡ false → all p (drop j l) ≡ false
-all-off p l j h e = rw (drop-field l j h, e) refl
+all-off p l j h e = rw (drop-next l j (pos 0) h, e) refl
 
 pub all-on : (p : ℤ → Bool) (l : Line) (j : ℕ) → j < length l → p (getD l j (pos 0)) ≡ true → all p (drop (j + 1) l) ≡ all p (drop j l)
-all-on p l j h e = rw (drop-field l j h, e) refl
+all-on p l j h e = rw (drop-next l j (pos 0) h, e) refl
 
 pub all-end : (p : ℤ → Bool) (l : Line) (j : ℕ) → length l ≤ j → all p (drop j l) ≡ true
 all-end p l j h = rw (drop-of-length-le l h) refl
@@ -288,20 +214,20 @@ module _ (ls : List Line) (i : ℕ) where
   pub no-atom : isHead (kind (getD ls i [])) ≡ true → i + 1 < length ls → isAtom (kind (getD ls (i + 1) [])) ≡ false
       → true ≡ unsafe (getD ls i []) (atoms (drop (i + 1) ls))
   unfolding atoms
-  no-atom e h f = rw (e, drop-line ls (i + 1) h, f) refl
+  no-atom e h f = rw (e, drop-next ls (i + 1) [] h, f) refl
 
   pub by-terms : isHead (kind (getD ls i [])) ≡ true → i + 1 < length ls → isAtom (kind (getD ls (i + 1) [])) ≡ true
       → not (all (bound (atoms (drop (i + 1) ls))) (rest (getD ls i []))) ≡ unsafe (getD ls i []) (atoms (drop (i + 1) ls))
   unfolding atoms
-  by-terms e h f = rw (e, drop-line ls (i + 1) h, f) refl
+  by-terms e h f = rw (e, drop-next ls (i + 1) [] h, f) refl
 
   pub heads-here : i < length ls → unsafe (getD ls i []) (atoms (drop (i + 1) ls)) ≡ true → refusal 8 (i + 1) ≡ heads (i + 1) (drop i ls)
   unfolding heads
-  heads-here h e = rw (drop-line ls i h, e) refl
+  heads-here h e = rw (drop-next ls i [] h, e) refl
 
   pub heads-on : i < length ls → unsafe (getD ls i []) (atoms (drop (i + 1) ls)) ≡ false → heads (i + 1 + 1) (drop (i + 1) ls) ≡ heads (i + 1) (drop i ls)
   unfolding heads
-  heads-on h e = rw (drop-line ls i h, e) refl
+  heads-on h e = rw (drop-next ls i [] h, e) refl
 
   pub heads-end : length ls ≤ i → none ≡ heads (i + 1) (drop i ls)
   unfolding heads
@@ -326,13 +252,13 @@ step-stops c d n g r e = go (eqb c 0) e
 module _ (ls : List Line) (i : ℕ) (g : Seen) (b : Line) where
   pub scan-stops : (d : ℕ) → i < length ls → stepOf g b (getD ls i []) ≡ Stops d → refusal d (i + 1) ≡ scan g b (i + 1) (drop i ls)
   unfolding scan stepOf
-  scan-stops d h e = rw (drop-line ls i h) (step-stops (cause g b (getD ls i [])) d (i + 1) (next g (getD ls i [])) _ e)
+  scan-stops d h e = rw (drop-next ls i [] h) (step-stops (cause g b (getD ls i [])) d (i + 1) (next g (getD ls i [])) _ e)
 
   pub scan-goes : (g′ : Seen) → i < length ls → stepOf g b (getD ls i []) ≡ Goes g′ → scan g′ (getD ls i []) (i + 1 + 1) (drop (i + 1) ls) ≡ scan g b (i + 1) (drop i ls)
   unfolding scan stepOf
   scan-goes g′ h e =
       let s = step-goes (cause g b (getD ls i [])) (i + 1) (next g (getD ls i [])) g′ (scan (next g (getD ls i [])) (getD ls i []) (i + 1 + 1) (drop (i + 1) ls)) e in
-      rw (drop-line ls i h) (ap (λ k. scan k (getD ls i []) (i + 1 + 1) (drop (i + 1) ls)) (sym (s .0)) ∙ s .1)
+      rw (drop-next ls i [] h) (ap (λ k. scan k (getD ls i []) (i + 1 + 1) (drop (i + 1) ls)) (sym (s .0)) ∙ s .1)
 
   pub scan-end : length ls ≤ i → missing g ≡ scan g b (i + 1) (drop i ls)
   unfolding scan
@@ -346,28 +272,9 @@ missing-none g h = rw (le-ltb (g .block) 2 h) refl
 
 -- ---- the lines' refusal and then the heads'
 
-cause-formed : (g : Seen) (b l : Line) → eqb (cause g b l) 0 ≡ true → null l ≡ false
-unfolding cause
-cause-formed g b [] e = true-false (sym e)
-cause-formed g b (k ∷ l) e = refl
-
--- where the lines are not refused, none is malformed
-scan-each : (ls : List Line) (g : Seen) (b : Line) (n : ℕ) → eqb (scan g b n ls .number) 0 ≡ true → all (λ l. not (null l)) ls ≡ true
-unfolding scan
-scan-each [] g b n h = refl
-scan-each (l ∷ ls) g b n h = go (scan-each ls (next g l) l (n + 1)) (eqb (cause g b l) 0) refl h
-  where
-    r : Refusal
-    r = scan (next g l) l (n + 1) ls
-
-    go : (eqb (r .number) 0 ≡ true → all (λ l. not (null l)) ls ≡ true) → (t : Bool) → eqb (cause g b l) 0 ≡ t
-        → eqb (cond t r (refusal (cause g b l) n) .number) 0 ≡ true → all (λ l. not (null l)) (l ∷ ls) ≡ true
-    go ih true e h = let f = cause-formed g b l e in rw f (ih h)
-    go ih false e h = true-false (sym h ∙ e)
-
 module _ (ls : List Line) where
   pub scan-formed : scan start [] 1 ls .number ≡ 0 → Formed ls
-  scan-formed h = record { each = scan-each ls start [] 1 (eq-eqb _ 0 h) }
+  scan-formed h = record { each = lines-formed ls start [] 1 (eq-eqb _ 0 h) }
 
   pub refused-heads : scan start [] 1 ls .number ≡ 0 → heads 1 ls ≡ refusalOf ls
   unfolding refusalOf

@@ -12,9 +12,9 @@ use lib.Signed.{ltZ}
 use lib.ListN.{length, getD, take, drop, set, replicate, take-append-drop}
 use lib.Seq.{drop-cons, set-split, drop-at, length-take-le, take-take, take-set-le, append-snoc}
 use mir.Syntax.{w32}
-use mir.Val.{SFits, toZ, ofZ}
-use mir.ValLaws.{toZ-ofZ, toZ-pos}
+use mir.Val.{SFits}
 use borrow.Author.Tests.{ltb-true, ltb-false, lt-ltb, le-ltb, le-leb, lt-leb}
+use Rattle.sheet_format.proofs.Lists.{no-way}
 use Rattle.sheet_format.specs.Field.{digit, byte, run, minus, fieldOf, fieldAt, lead, decimal, fieldBytes}
 use Rattle.sheet_format.specs.declared.Digits.{Digits}
 use Rattle.sheet_format.specs.declared.Digits.the-variants.{Blank, Minus, Run, Broken}
@@ -143,15 +143,6 @@ inside s at le = rw (le-leb (at + 8) (length s) le)
 
 -- ---- signed numbers
 
-pub back : {z : ℤ} → SFits w32 z → toZ w32 (ofZ w32 z) ≡ z
-back {z} h = toZ-ofZ w32 z h
-
-pub to-pos : (n : ℕ) → n < 2147483648 → toZ w32 n ≡ pos n
-to-pos n h = toZ-pos w32 n h
-
-no-way {ℓ} : {A : Type ℓ} → false ≡ true → A
-no-way e = let z : _≡_ {A = ℕ} 0 1 = cc in absurd (omega arith)
-
 pub negated : (v : ℕ) → pos 0 -ℤ pos v ≡ minus v
 negated zero = refl
 negated (suc n) = rw (lt-ltb 0 (suc n) (omega arith)) (ap negsuc (let e : suc n - 1 ≡ n = omega arith in e))
@@ -181,10 +172,6 @@ one-up (negsuc (suc m)) h e =
       up = ap (λ x. pos 0 -ℤ x) g ∙ ap pos (let d : 0 + suc m ≡ suc m = omega arith in d);
       whole = omega arith;
     }
-
-pub natural : (z : ℤ) → SFits w32 z → ltZ z (pos 0) ≡ false → (n : ℕ) × (n < 2147483648) × (z ≡ pos n)
-natural (pos n) h e = (n, h .sfits, refl)
-natural (negsuc n) h e = no-way (sym e)
 
 pub bytes-minus : (z : ℤ) → ltZ z (pos 0) ≡ true → decimal 8 true (natAbs z) ≡ fieldBytes z
 bytes-minus (pos n) e = let f = ltb-true n 0 e in absurd (omega arith)

@@ -4,3 +4,7 @@ pub mod FieldLaws
 pub mod LineLaws
 pub mod ScanLaws
 pub mod RoundTrip
+pub mod Endings
+pub mod KindLaws
+pub mod WordLines
+pub mod Slices

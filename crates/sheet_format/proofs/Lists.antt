@@ -1,16 +1,22 @@
 -- Laws of the list functions that the definitions use, and of tests.
 use mathlib.Core.Path.{_≡_, refl, sym, ap, _∙_}
-use mathlib.Core.Bool.{Bool, true, false, _&&_}
-use mathlib.Core.List.{List, [], _∷_, _++_, map, append-assoc}
+use mathlib.Core.Bool.{Bool, true, false, cond, _&&_, _||_}
+use mathlib.Core.List.{List, [], _∷_, _++_, append-assoc}
+pub use mathlib.Core.List.{append-nil}
 use Prim.Native.Nat.{ℕ, zero, suc, _<_}
 use native.Mathlib.Omega.{arith}
+use lib.Dec.{eqb}
 use lib.ListN.{length, getD, replicate}
+pub use Rattle.list_laws.proofs.Lists.{map-append}
 use Rattle.sheet_format.specs.Line.{all, gather}
 
 -- ---- tests
 
 pub no-way {ℓ} : {A : Type ℓ} → false ≡ true → A
 no-way e = let z : _≡_ {A = ℕ} 0 1 = cc in absurd (omega arith)
+
+pub true-false {ℓ} : {A : Type ℓ} → true ≡ false → A
+true-false e = no-way (sym e)
 
 pub and-left : (a b : Bool) → (a && b) ≡ true → a ≡ true
 and-left true b e = refl
@@ -19,6 +25,18 @@ and-left false b e = e
 pub and-right : (a b : Bool) → (a && b) ≡ true → b ≡ true
 and-right true b e = e
 and-right false b e = no-way e
+
+pub both : (a b : Bool) → (a && b) ≡ true → (a ≡ true) × (b ≡ true)
+both a b e = (and-left a b e, and-right a b e)
+
+pub neither : (a b : Bool) → (a || b) ≡ false → (a ≡ false) × (b ≡ false)
+neither true b e = no-way (sym e)
+neither false b e = (refl, e)
+
+-- a test that was passed on the way to 0
+pub passed : (t : Bool) (m x : ℕ) → eqb m 0 ≡ false → eqb (cond t m x) 0 ≡ true → (t ≡ false) × (eqb x 0 ≡ true)
+passed true m x f e = no-way (sym f ∙ e)
+passed false m x f e = (refl, e)
 
 pub and-both : (a b : Bool) → a ≡ true → b ≡ true → (a && b) ≡ true
 and-both a b e f = ap (λ x. x && b) e ∙ f
@@ -48,11 +66,3 @@ all-replicate p (suc n) a h = and-both (p a) (all p (replicate n a)) h (all-repl
 pub gather-append : {A B : Type 0} (f : A → List B) (l r : List A) → gather f (l ++ r) ≡ gather f l ++ gather f r
 gather-append f [] r = refl
 gather-append f (x ∷ l) r = ap (λ t. f x ++ t) (gather-append f l r) ∙ sym (append-assoc (f x) (gather f l) (gather f r))
-
-pub map-append : {A B : Type 0} (f : A → B) (l r : List A) → map f (l ++ r) ≡ map f l ++ map f r
-map-append f [] r = refl
-map-append f (x ∷ l) r = ap (λ t. f x ∷ t) (map-append f l r)
-
-pub append-nil : {A : Type 0} (l : List A) → l ++ [] ≡ l
-append-nil [] = refl
-append-nil (x ∷ l) = ap (λ t. x ∷ t) (append-nil l)

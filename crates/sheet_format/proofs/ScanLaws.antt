@@ -9,40 +9,31 @@ use lib.ListN.{length}
 use borrow.Author.Tests.{eqb-true, eqb-false, leb-true, leb-false, ltb-true, ltb-false, not-false}
 use Rattle.sheet_format.specs.Limits.{most-lines}
 use Rattle.sheet_format.specs.Line.{Line, all, null}
-use Rattle.sheet_format.specs.Cause.{Kind, question, saved, view, atom, row, other, kind, inPlace, misplaced, wrongColumns, outOfRange, tooMany, atomsOf, cause, start, nextBy, next, refusal, missing, scan, heads, unsafe, atoms, refusalOf}
+use Rattle.sheet_format.specs.Cause.{Kind, question, saved, view, atom, row, other, kind, inPlace, possible, misplaced, wrongColumns, outOfRange, tooMany, atomsOf, cause, start, nextBy, next, refusal, missing, scan, heads, unsafe, atoms, refusalOf}
 use Rattle.sheet_format.specs.declared.Refusal.{Refusal}
 use Rattle.sheet_format.specs.declared.Seen.{Seen}
-
--- ---- tests
-
-true-false {ℓ} : {A : Type ℓ} → true ≡ false → A
-true-false e = let z : _≡_ {A = ℕ} 0 1 = cc in absurd (omega arith)
-
--- a test that was passed on the way to 0
-passed : (t : Bool) (m x : ℕ) → eqb m 0 ≡ false → eqb (cond t m x) 0 ≡ true → (t ≡ false) × (eqb x 0 ≡ true)
-passed true m x f e = true-false (sym e ∙ f)
-passed false m x f e = (refl, e)
-
-both : (s t : Bool) → s && t ≡ true → (s ≡ true) × (t ≡ true)
-both true t e = (refl, e)
-both false t e = true-false (sym e)
+use Rattle.sheet_format.proofs.Lists.{true-false, both, passed}
 
 -- ---- a line without a cause
 
-record Passed (g : Seen) (l : Line) : Type 0 where
-  formed : null l ≡ false
-  placed : inPlace g (kind l) ≡ true
-  room : tooMany g (kind l) ≡ false
+pub record Clean (g : Seen) (l : Line) : Type 0 where
+  pub formed : null l ≡ false
+  pub placed : inPlace g (kind l) ≡ true
+  pub sized : possible (kind l) (length l) ≡ true
+  pub columns : wrongColumns (kind l) l ≡ false
+  pub ranged : outOfRange (kind l) l ≡ false
+  pub room : tooMany g (kind l) ≡ false
 
-line-passed : (g : Seen) (b l : Line) → eqb (cause g b l) 0 ≡ true → Passed g l
+pub clean-line : (g : Seen) (b l : Line) → eqb (cause g b l) 0 ≡ true → Clean g l
 unfolding cause
-line-passed g b l e =
+clean-line g b l e =
     let p2 = passed (null l) 2 _ refl e in
     let p3 = passed (misplaced g l) 3 _ refl (p2 .1) in
     let p4 = passed (wrongColumns (kind l) l) 4 _ refl (p3 .1) in
     let p5 = passed (outOfRange (kind l) l) 5 _ refl (p4 .1) in
     let p6 = passed (tooMany g (kind l)) 6 _ refl (p5 .1) in
-    record { formed = p2 .0; placed = both _ _ (not-false _ (p3 .0)) .0; room = p6 .0 }
+    let q = both _ _ (not-false _ (p3 .0)) in
+    record { formed = p2 .0; placed = q .0; sized = q .1; columns = p4 .0; ranged = p5 .0; room = p6 .0 }
 
 -- ---- a refusal by its line
 
@@ -106,7 +97,7 @@ at-line g b l n p le h = go (eqb (cause g b l) 0) h
 
 -- a malformed line among them is refused at its line or before
 scan-malformed-from : (p : List Line) (g : Seen) (b : Line) (n : ℕ) → 1 ≤ n → 0 < scan g b n (p ++ ([] ∷ [])) .line
-scan-malformed-from [] g b n le = at-line g b [] n [] le (λ e. true-false (line-passed g b [] e .formed))
+scan-malformed-from [] g b n le = at-line g b [] n [] le (λ e. true-false (clean-line g b [] e .formed))
 scan-malformed-from (l ∷ p) g b n le = at-line g b l n (p ++ ([] ∷ [])) le (λ e. scan-malformed-from p (next g l) l (n + 1) (omega arith))
 
 pub scan-malformed : (p : List Line) → 0 < scan start [] 1 (p ++ ([] ∷ [])) .line
@@ -147,7 +138,7 @@ unfolding next
 scan-long-from [] g b n k le w h = absurd (omega arith)
 scan-long-from (l ∷ p) g b n k le w h =
     at-line g b l n p le
-    (λ e. let q = line-passed g b l e in
+    (λ e. let q = clean-line g b l e in
     scan-long-from p (next g l) l (n + 1) (k + 1) (omega arith) (within-next g (kind l) _ k w (q .placed) (q .room)) (omega arith))
 
 -- more than 86 lines are refused at a line
@@ -163,22 +154,22 @@ accepted-scan p h = go (eqb (scan start [] 1 p .number) 0) refl
     go true e = refl
     go false e = absurd (eqb-false _ _ e (sym (ap (λ r. r .number) (by-scan p e)) ∙ h))
 
-scan-formed : (p : List Line) (g : Seen) (b : Line) (n : ℕ) → eqb (scan g b n p .number) 0 ≡ true → all (λ l. not (null l)) p ≡ true
+pub lines-formed : (p : List Line) (g : Seen) (b : Line) (n : ℕ) → eqb (scan g b n p .number) 0 ≡ true → all (λ l. not (null l)) p ≡ true
 unfolding scan
-scan-formed [] g b n h = refl
-scan-formed (l ∷ p) g b n h = go (scan-formed p (next g l) l (n + 1)) (eqb (cause g b l) 0) refl h
+lines-formed [] g b n h = refl
+lines-formed (l ∷ p) g b n h = go (lines-formed p (next g l) l (n + 1)) (eqb (cause g b l) 0) refl h
   where
     r : Refusal
     r = scan (next g l) l (n + 1) p
 
     go : (eqb (r .number) 0 ≡ true → all (λ l. not (null l)) p ≡ true) → (t : Bool) → eqb (cause g b l) 0 ≡ t
         → eqb (cond t r (refusal (cause g b l) n) .number) 0 ≡ true → all (λ l. not (null l)) (l ∷ p) ≡ true
-    go ih true e h = let f = line-passed g b l e .formed in rw f (ih h)
+    go ih true e h = let f = clean-line g b l e .formed in rw f (ih h)
     go ih false e h = true-false (sym h ∙ e)
 
 -- no line is malformed
 pub accepted-lines : (p : List Line) → refusalOf p .number ≡ 0 → all (λ l. not (null l)) p ≡ true
-accepted-lines p h = scan-formed p start [] 1 (accepted-scan p h)
+accepted-lines p h = lines-formed p start [] 1 (accepted-scan p h)
 
 -- there are at most 86 lines
 pub accepted-length : (p : List Line) → refusalOf p .number ≡ 0 → length p ≤ most-lines

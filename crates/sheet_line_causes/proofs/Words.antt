@@ -1,23 +1,21 @@
 -- A signed word by its two cases: its tests, and its kind. Assumes nothing.
 use mathlib.Core.Path.{_≡_, refl, sym, ap, _∙_}
 use mathlib.Core.Bool.{Bool, true, false, not}
-use mathlib.Core.List.{List}
 use Prim.Native.Nat.{ℕ, zero, suc, _<_, _≤_, _-_}
 use native.Mathlib.Omega.{arith}
 use lib.Dec.{eqb, leb}
 use lib.IntN.{ℤ, pos, negsuc}
-use lib.ListN.{getD}
-use lib.Signed.{ltZ, leZ, mag}
+use lib.Signed.{ltZ, leZ}
 use mir.Syntax.{w32}
-use mir.Val.{SFits, toZ, ofZ}
-use mir.ValLaws.{toZ-ofZ}
+use mir.Val.{SFits, ofZ}
 use borrow.Author.Tests.{ltb-true, ltb-false, leb-true, leb-false, lt-ltb, le-ltb, le-leb, lt-leb, ne-eqb, not-true, not-false}
+use Rattle.list_laws.proofs.Words.{word-of}
+use Rattle.sheet_format.proofs.Lists.{no-way}
 use Rattle.sheet_format.specs.Field.{fits}
 use Rattle.sheet_format.specs.Line.{isZero, natural}
 use Rattle.sheet_format.specs.Cause.{kindOf}
 use Rattle.sheet_format.specs.Cause.Kind.{question, saved, view, atom, row, other}
 use Rattle.sheet_line_causes.specs.Parts.{fieldCount}
-use Rattle.sheet_terms.proofs.Laws.{no-way}
 
 -- what a call told of a test t, and the branch on its negation
 pub failed : {r t : Bool} → r ≡ t → not r ≡ true → t ≡ false
@@ -39,14 +37,6 @@ zero-bits (pos n) h = refl
 zero-bits (negsuc n) h =
     let k : n < 2147483648 = h .sfits in
     ne-eqb (4294967296 - suc n) 0 (λ e. omega arith)
-
--- a word of a line is what its bits are read back as
-pub word-back : (ws : List ℤ) (i : ℕ) → mag (getD ws i (pos 0)) < 2147483648 → toZ w32 (ofZ w32 (getD ws i (pos 0))) ≡ getD ws i (pos 0)
-word-back ws i h = toZ-ofZ w32 (getD ws i (pos 0)) (record { sfits = h })
-
--- the word with the bits n
-pub word-of : {z : ℤ} (n : ℕ) → SFits w32 z → ofZ w32 z ≡ n → z ≡ toZ w32 n
-word-of {z} n h e = sym (toZ-ofZ w32 z h) ∙ ap (toZ w32) e
 
 -- the kinds by the word's bits
 pub is-question : {z : ℤ} → SFits w32 z → ofZ w32 z ≡ 1 → kindOf z ≡ question

@@ -6,6 +6,7 @@ use native.Mathlib.Omega.{arith}
 use borrow.Author.Tests.{lt-ltb, le-ltb}
 use lib.IntN.{ℤ}
 use lib.ListN.{length, take}
+use Rattle.sheet_format.proofs.Endings.{refused-way, short-way, done-way}
 use Rattle.sheet_format.specs.Limits.{most-sheet-bytes, most-words}
 use Rattle.sheet_format.specs.Line.{byteLines, wordLines, wordsOf}
 use Rattle.sheet_format.specs.Cause.{refusal, refusalOf}
@@ -17,7 +18,6 @@ use Rattle.sheet_format.proofs.LineLaws.{words-back}
 use Rattle.sheet_format.proofs.ScanLaws.{accepted-length}
 use Rattle.list_laws.specs.Wrote.{Wrote}
 use Rattle.list_laws.proofs.Laws.{wrote-over}
-use Rattle.list_laws.proofs.Endings.{refused-way, short-way, done-way}
 use Rattle.sheet_reader.specs.Parsed.{Parsed}
 
 abbrev pub Read : List ℕ → List ℤ → List ℤ → Ending → Type 0

@@ -7,23 +7,12 @@ use native.Mathlib.Omega.{arith}
 use lib.IntN.{ℤ, pos, negsuc, _-ℤ_}
 use lib.ListN.{getD, List·getD-eq-default}
 use lib.Signed.{ltZ}
-use mir.Syntax.{w32}
-use mir.Val.{SFits, toZ, ofZ}
-use mir.ValLaws.{toZ-ofZ, toZ-pos}
 use borrow.Author.Tests.{ltb-true, ltb-false, lt-ltb, le-ltb}
+use Rattle.sheet_format.specs.Line.{natural}
+use Rattle.sheet_format.proofs.Lists.{no-way}
 use Rattle.sheet_format.specs.Cause.{termOf, orOut}
 use Rattle.sheet_format.specs.Relations.{columnsOf, relations}
 use Rattle.sheet_format.specs.declared.Term.the-variants.{Constant, Variable, OutOfRange}
-
-pub no-way {ℓ} : {A : Type ℓ} → false ≡ true → A
-no-way e = let z : _≡_ {A = ℕ} 0 1 = cc in absurd (omega arith)
-
--- the word read back from its bits is the word
-pub back : {z : ℤ} → SFits w32 z → toZ w32 (ofZ w32 z) ≡ z
-back {z} h = toZ-ofZ w32 z h
-
-pub to-pos : (n : ℕ) → n < 2147483648 → toZ w32 n ≡ pos n
-to-pos n h = toZ-pos w32 n h
 
 -- ---- terms
 
@@ -78,3 +67,9 @@ columns-at n =
 pub columns-past : (n : ℕ) → 10 ≤ n → 0 ≡ columnsOf (pos (suc n))
 unfolding columnsOf
 columns-past n h = sym (List·getD-eq-default relations 0 h)
+
+-- ---- numbers
+
+pub natural-low : (z : ℤ) → ltZ z (pos 0) ≡ true → 0 ≡ natural z
+natural-low (pos n) e = let h = ltb-true n 0 e in absurd (omega arith)
+natural-low (negsuc n) e = refl

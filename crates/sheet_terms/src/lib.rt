@@ -5,6 +5,7 @@ use sheet_format::Term;
 use sheet_format::VARIABLES;
 ghost use mathlib.Core.Path.{_≡_};
 ghost use Rattle.sheet_format.specs.Cause.{termOf};
+ghost use Rattle.sheet_format.specs.Line.{natural};
 ghost use Rattle.sheet_format.specs.Relations.{columnsOf};
 
 const LAST_VARIABLE: i32 = -VARIABLES;
@@ -37,4 +38,14 @@ pub fn columns(relation: i32) -> usize
         return 0;
     }
     COLUMNS[number - 1]
+}
+
+// A word as a plain number; a negative one as 0.
+pub fn number(word: i32) -> usize
+    ensures { λ r. ⌜ r ≡ natural word ⌝ }
+{
+    if word < 0 {
+        return 0;
+    }
+    word as usize
 }

@@ -6,6 +6,7 @@ use native.Mathlib.Omega.{arith}
 use borrow.Author.Tests.{lt-ltb, le-ltb, eq-eqb, ne-eqb}
 use lib.IntN.{ℤ}
 use lib.ListN.{length}
+use Rattle.sheet_format.proofs.Endings.{refused-way, short-way, done-way}
 use Rattle.sheet_format.specs.Limits.{most-words, most-bytes, line-words}
 use Rattle.sheet_format.specs.Line.{bytesOf, wordLines}
 use Rattle.sheet_format.specs.Cause.{refusal, refusalOf}
@@ -15,7 +16,6 @@ use Rattle.sheet_format.specs.declared.Ending.{Ending}
 use Rattle.sheet_format.specs.declared.Ending.the-variants.{Done, Refused}
 use Rattle.list_laws.specs.Wrote.{Wrote}
 use Rattle.list_laws.proofs.Laws.{wrote-over}
-use Rattle.list_laws.proofs.Endings.{refused-way, short-way, done-way}
 
 abbrev pub Written : List ℤ → List ℕ → List ℕ → Ending → Type 0
 Written ws out after r = (r ≡ writeEnding ws (length out)) × (after ≡ writeBytes ws out)

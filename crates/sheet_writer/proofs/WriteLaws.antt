@@ -1,5 +1,5 @@
 -- Lines written as bytes.
-use mathlib.Core.Path.{_≡_, refl, sym, ap, _∙_, subst}
+use mathlib.Core.Path.{_≡_, sym, ap, _∙_, subst}
 use mathlib.Core.Bool.{false, not}
 use mathlib.Core.List.{List, [], _∷_, _++_}
 use Prim.Native.Nat.{ℕ, zero, suc, _+_, _*_, _/_, _<_, _≤_}
@@ -8,8 +8,8 @@ use native.Mathlib.Numerals.{add-one}
 use borrow.Author.Tests.{not-true}
 use lib.IntN.{ℤ, pos}
 use lib.ListN.{length, take, drop, getD, set, length-drop}
-use lib.Seq.{take-suc, take-length, getD-take, getD-drop, length-take-le, drop-drop}
-use Rattle.sheet_format.specs.Limits.{line-words}
+use lib.Seq.{take-suc, take-length, getD-take, getD-drop, length-take-le}
+use Rattle.sheet_format.proofs.WordLines.{sevens-get}
 use Rattle.sheet_format.specs.Field.{fieldBytes}
 use Rattle.sheet_format.specs.Line.{Line, all, gather, null, count, wordLine, sevens, wordLines, lineBytes, bytesOf}
 use Rattle.sheet_format.specs.Cause.{refusalOf}
@@ -88,11 +88,7 @@ line-closed l a b at to j e lt w = subst (λ x. Wrote a (set b to 10) at (to + 1
 -- ---- all lines
 
 sevens-at : (k i : ℕ) (ws : List ℤ) → i < k → getD (sevens k ws) i [] ≡ wordLine (sevenAt ws i)
-unfolding sevens
-sevens-at zero i ws lt = absurd (omega arith)
-sevens-at (suc k) zero ws lt = refl
-sevens-at (suc k) (suc i) ws lt =
-    sevens-at k i (drop line-words ws) (omega arith) ∙ ap (λ x. wordLine (take 7 x)) (drop-drop (i * 7) 7 ws ∙ ap (λ n. drop n ws) (let e : 7 + i * 7 ≡ suc i * 7 = omega arith in e))
+sevens-at k i ws lt = sevens-get k ws i lt ∙ ap (λ n. wordLine (take 7 (drop n ws))) (let e : 7 * i ≡ i * 7 = omega arith in e)
 
 goods-take : (n : ℕ) (ls : List Line) → Goods ls → Goods (take n ls)
 goods-take zero ls g = tt

@@ -10,13 +10,14 @@ use lib.ListN.{length, getD}
 use lib.Seq.{ext-getD}
 use borrow.Author.Count.{below-more}
 use borrow.Author.Tests.{eqb-true, leb-false, ltb-true, ltb-false, ne-eqb, not-true, not-false}
+use Rattle.sheet_format.proofs.Lists.{neither}
 use Rattle.sheet_format.specs.Line.{Line}
 use Rattle.sheet_format.specs.Cause.{Kind, question, saved, view, atom, row, other, kind, rest, tooMany, start, nextBy, next, scan}
 use Rattle.sheet_format.specs.declared.Seen.{Seen}
 use Rattle.sheet_format.proofs.ScanLaws.{accepted-scan}
 use Rattle.query_meaning.specs.Blocks.{View, viewOf, blocks, allBlocks, blockAt}
 use Rattle.query_encoding.specs.Numbers.{BlockNumbers, BlockFound, isBlock}
-use Rattle.query_blocks.proofs.Accepted.{neither, scan-first}
+use Rattle.query_blocks.proofs.Accepted.{scan-first}
 use Rattle.case_verdicts.specs.Sheets.{isView}
 use Rattle.case_verdicts.proofs.Order.{block-count}
 use Rattle.tableau_plan.specs.Plan.{blockNumbers, blockSize}

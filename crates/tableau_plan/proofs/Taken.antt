@@ -10,6 +10,7 @@ use lib.ListN.{length, getD, drop, set, length-drop, length-map, drop-of-length-
 use lib.Seq.{drop-cons, getD-set-same, getD-set-other}
 use borrow.Author.Count.{below-more}
 use borrow.Author.Tests.{leb-true}
+use Rattle.list_laws.proofs.Lists.{drop-next}
 use Rattle.sheet_format.specs.Line.{Line, natural, gather, wordLines}
 use Rattle.sheet_format.specs.Cause.{Kind, question, saved, view, atom, row, other, kindAt, kind, rest, possible}
 use Rattle.sheet_format.proofs.Lists.{no-way}
@@ -38,9 +39,6 @@ padded-four (a ∷ b ∷ c ∷ d ∷ e ∷ r) h = absurd (omega arith)
 
 -- ---- the walk
 
-drop-line : (ls : List Line) (i : ℕ) → i < length ls → drop i ls ≡ getD ls i [] ∷ drop (i + 1) ls
-drop-line ls i h = drop-cons ls i [] h ∙ ap (λ n. getD ls i [] ∷ drop n ls) (sym (add-one i))
-
 pub done-start : (p : List ℕ) (ls : List Line) → RowsDone p ls 0 0 0
 done-start p ls = record { within = omega arith; left = refl; each = λ k h. absurd (omega arith) }
 
@@ -61,14 +59,14 @@ module _ (p : List ℕ) (ls : List Line) (i v r : ℕ) (lt : i < length ls) (h :
   pub done-view : kind (getD ls i []) ≡ view → RowsDone p ls (i + 1) (v + 1) r
   done-view e = record {
     within = h .within;
-    left = h .left ∙ ap (rowsFrom v) (drop-line ls i lt) ∙ rows-view v (getD ls i []) (drop (i + 1) ls) e ∙ ap (λ u. rowsFrom u (drop (i + 1) ls)) (sym (add-one v));
+    left = h .left ∙ ap (rowsFrom v) (drop-next ls i [] lt) ∙ rows-view v (getD ls i []) (drop (i + 1) ls) e ∙ ap (λ u. rowsFrom u (drop (i + 1) ls)) (sym (add-one v));
     each = h .each;
   }
 
   pub done-other : isView (kind (getD ls i [])) ≡ false → isRow (kind (getD ls i [])) ≡ false → RowsDone p ls (i + 1) v r
   done-other e f = record {
     within = h .within;
-    left = h .left ∙ ap (rowsFrom v) (drop-line ls i lt) ∙ rows-other v (getD ls i []) (drop (i + 1) ls) e f;
+    left = h .left ∙ ap (rowsFrom v) (drop-next ls i [] lt) ∙ rows-other v (getD ls i []) (drop (i + 1) ls) e f;
     each = h .each;
   }
 
@@ -77,7 +75,7 @@ module _ (p : List ℕ) (ls : List Line) (i v r : ℕ) (lt : i < length ls) (h :
   this = record { view = v - 1; row = map natural (rest (getD ls i [])) }
 
   ahead : kind (getD ls i []) ≡ row → drop r (rowsFrom 0 ls) ≡ this ∷ rowsFrom v (drop (i + 1) ls)
-  ahead e = h .left ∙ ap (rowsFrom v) (drop-line ls i lt) ∙ rows-row v (getD ls i []) (drop (i + 1) ls) e
+  ahead e = h .left ∙ ap (rowsFrom v) (drop-next ls i [] lt) ∙ rows-row v (getD ls i []) (drop (i + 1) ls) e
 
   pub one-left : kind (getD ls i []) ≡ row → r < length (rowsFrom 0 ls)
   one-left e =

@@ -54,22 +54,12 @@ struct Walk {
     rows: usize,
 }
 
-// A word as a plain number; a negative one as 0.
-fn number_of(word: i32) -> usize
-    ensures { λ r. ⌜ r ≡ natural word ⌝ }
-{
-    if word < 0 {
-        return 0;
-    }
-    word as usize
-}
-
 // The word at a place as a plain number, 0 past the end.
 fn number_at(ws: &[i32], i: usize) -> usize
     ensures { λ r. ⌜ r ≡ natural (getD (now (ws .entry)) i (pos 0)) ⌝ }
 {
     if i < ws.len() {
-        return number_of(ws[i]);
+        return sheet_terms::number(ws[i]);
     }
     0
 }

@@ -5,13 +5,12 @@ use Prim.Native.Nat.{_+_, _-_, _*_, _≤_, _<_}
 use native.Mathlib.Omega.{arith}
 use borrow.Author.Needs.{needs}
 use borrow.Author.Tests.{not-true, not-false}
-use lib.IntN.{pos}
 use lib.ListN.{length, getD, drop}
+use Rattle.list_laws.proofs.Words.{word-back}
+use Rattle.sheet_format.proofs.WordLines.{lines-length}
 use Rattle.sheet_format.specs.Line.{wordLines}
 use Rattle.sheet_format.specs.Cause.{kind, isAtom, atoms}
 use Rattle.query_blocks.specs.Parts.{Accepted}
-use Rattle.sheet_terms.proofs.Laws.{back}
-use Rattle.query_blocks.proofs.Words.{lines-length}
 use Rattle.query_blocks.proofs.Parts.{kind-of, count-start, count-on, no-atom, past-atoms}
 use Rattle.query_blocks.proofs.atom_count.Statement.{statement}
 use Rattle.query_blocks.proofs.atom_count.Tie as tie
@@ -59,7 +58,7 @@ tested : (c : tie.After-is-atom Inv-loop μ-loop) → Accepted (wordLines (c .be
 tested c a =
     let w = c .before .before .before .before .before .args .ws .now in
     let i = c .before .before .before .before .before .args .from + c .before .before .before .before .loop .j in
-    ap isAtom (kind-of w i (omega arith) a) ∙ sym (rw (back {z = getD w (7 * i + 1) (pos 0)} (record { sfits = c .before .is-atom-arg .given })) at (c .is-atom .ensures))
+    ap isAtom (kind-of w i (omega arith) a) ∙ sym (rw (word-back w (7 * i + 1) (c .before .is-atom-arg .given)) at (c .is-atom .ensures))
 
 is-atom-requires : tie.Need-is-atom-requires Inv-loop μ-loop
 is-atom-requires c κs = search needs

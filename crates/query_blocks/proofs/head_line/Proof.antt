@@ -5,13 +5,12 @@ use mathlib.Core.Logic.{⊎-elim}
 use Prim.Native.Nat.{ℕ, _+_, _-_, _*_, _/_, _≤_, _<_}
 use native.Mathlib.Omega.{arith}
 use borrow.Author.Needs.{needs}
-use lib.IntN.{pos}
 use lib.ListN.{length, getD}
+use Rattle.list_laws.proofs.Words.{word-back}
+use Rattle.sheet_format.proofs.WordLines.{lines-length}
 use Rattle.sheet_format.specs.Line.{wordLines}
 use Rattle.sheet_format.specs.Cause.{kind, isHead}
 use Rattle.query_blocks.specs.Parts.{Accepted, HeadAt}
-use Rattle.sheet_terms.proofs.Laws.{back}
-use Rattle.query_blocks.proofs.Words.{lines-length}
 use Rattle.query_blocks.proofs.Parts.{kind-of, Left, left-start, left-other, left-past, left-here, left-end}
 use Rattle.query_blocks.proofs.head_line.Statement.{statement}
 use Rattle.query_blocks.proofs.head_line.Tie as tie
@@ -45,7 +44,7 @@ tested : (c : tie.After-is-head Inv-loop μ-loop) → Accepted (wordLines (c .be
 tested c a =
     let w = c .before .before .before .before .args .ws .now in
     let i = c .before .before .before .loop .i in
-    ap isHead (kind-of w i (omega arith) a) ∙ sym (rw (back {z = getD w (7 * i + 1) (pos 0)} (record { sfits = c .before .is-head-arg .given })) at (c .is-head .ensures))
+    ap isHead (kind-of w i (omega arith) a) ∙ sym (rw (word-back w (7 * i + 1) (c .before .is-head-arg .given)) at (c .is-head .ensures))
 
 more : (m : ℕ) → 1 ≤ m → (m ≡ 1 → ⊥) → 1 ≤ m - 1
 more m le ne = omega (arith, ne)

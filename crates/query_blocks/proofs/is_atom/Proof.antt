@@ -1,7 +1,8 @@
 -- `blocks::is_atom` meets its contract: the kind is 4. Assumes nothing.
 use mathlib.Core.Path.{sym, ap}
+use Rattle.sheet_format.proofs.KindLaws.{atom-other}
+use Rattle.list_laws.proofs.Words.{word-of}
 use Rattle.sheet_format.specs.Cause.{isAtom, kindOf}
-use Rattle.query_blocks.proofs.Words.{word-of, atom-other}
 use Rattle.query_blocks.proofs.is_atom.Statement.{statement}
 use Rattle.query_blocks.proofs.is_atom.Tie as tie
 

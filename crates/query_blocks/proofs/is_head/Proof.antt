@@ -1,7 +1,8 @@
 -- `blocks::is_head` meets its contract: the kind is 1, 2 or 3. Assumes nothing.
 use mathlib.Core.Path.{sym, ap}
+use Rattle.sheet_format.proofs.KindLaws.{head-other}
+use Rattle.list_laws.proofs.Words.{word-of}
 use Rattle.sheet_format.specs.Cause.{isHead, kindOf}
-use Rattle.query_blocks.proofs.Words.{word-of, head-other}
 use Rattle.query_blocks.proofs.is_head.Statement.{statement}
 use Rattle.query_blocks.proofs.is_head.Tie as tie
 

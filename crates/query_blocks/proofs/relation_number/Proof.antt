@@ -1,8 +1,7 @@
 -- `blocks::relation_number` meets its contract by the word's sign. Assumes nothing.
 use mathlib.Core.Path.{refl}
 use native.Mathlib.Omega.{arith}
-use Rattle.sheet_terms.proofs.Laws.{back}
-use Rattle.query_blocks.proofs.Words.{negative, positive}
+use Rattle.list_laws.proofs.Words.{negative, positive, back}
 use Rattle.query_blocks.proofs.relation_number.Statement.{statement}
 use Rattle.query_blocks.proofs.relation_number.Tie as tie
 

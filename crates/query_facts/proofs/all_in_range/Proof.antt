@@ -1,6 +1,6 @@
 -- `facts::all_in_range` meets its contract. The loop's invariant: the words from the start are in range as those from here on are.
 use mathlib.Core.Path.{_≡_, refl, sym, _∙_}
-use mathlib.Core.Bool.{_&&_}
+use mathlib.Core.Bool.{false, cond}
 use Prim.Native.Nat.{_≤_, _-_, _+_}
 use native.Mathlib.Omega.{arith}
 use borrow.Author.Needs.{needs}
@@ -9,10 +9,10 @@ use lib.ListN.{getD}
 use lib.Seq.{slice}
 use mir.Syntax.{w32}
 use mir.Val.{toZ, ofZ}
+use Rattle.sheet_format.proofs.Slices.{all-step, all-end}
+use Rattle.list_laws.proofs.Words.{word-back, back}
 use Rattle.sheet_format.specs.Line.{all}
-use Rattle.sheet_terms.proofs.Laws.{back}
 use Rattle.query_facts.specs.Parts.{inRange}
-use Rattle.query_facts.proofs.Words.{word-back, all-step, all-end}
 use Rattle.query_facts.proofs.all_in_range.Statement.{statement}
 use Rattle.query_facts.proofs.all_in_range.Tie as tie
 
@@ -33,12 +33,12 @@ told c = rw (back (c .fits .end))
 -- the word at i, and those after it
 here : (c : tie.After-word Inv-loop μ-loop) → let l = c .before .before in let a = l .before .args in
     let p = inRange (toZ w32 (ofZ w32 (a .end))) in
-    all p (slice (a .from) (a .to) (a .fs .now)) ≡ p (toZ w32 (ofZ w32 (getD (a .fs .now) (l .loop .i) (pos 0)))) && all p (slice (l .loop .i + 1) (a .to) (a .fs .now))
+    all p (slice (a .from) (a .to) (a .fs .now)) ≡ cond (p (toZ w32 (ofZ w32 (getD (a .fs .now) (l .loop .i) (pos 0))))) (all p (slice (l .loop .i + 1) (a .to) (a .fs .now))) false
 here c =
     let l = c .before .before in
     let a = l .before .args in
     rw (word-back (a .fs .now) (l .loop .i) (c .word .given))
-    (l .loop .inv .1 ∙ all-step (inRange (toZ w32 (ofZ w32 (a .end)))) (l .loop .i) (a .to) (a .fs .now) (c .before .loop-test .taken) (l .before .pre .1))
+    (l .loop .inv .1 ∙ all-step (inRange (toZ w32 (ofZ w32 (a .end)))) (pos 0) (l .loop .i) (a .to) (a .fs .now) (c .before .loop-test .taken) (l .before .pre .1))
 
 mul-word : tie.Need-mul-word Inv-loop μ-loop
 mul-word c = search needs
@@ -65,7 +65,7 @@ returns-3 : tie.Need-returns-3 Inv-loop μ-loop
 returns-3 c =
     let l = c .before in
     let a = l .before .args in
-    sym (told (l .before) ∙ l .loop .inv .1 ∙ all-end (inRange (toZ w32 (ofZ w32 (a .end)))) (l .loop .i) (a .to) (a .fs .now) (c .loop-test .left))
+    sym (told (l .before) ∙ l .loop .inv .1 ∙ all-end (inRange (toZ w32 (ofZ w32 (a .end)))) (pos 0) (l .loop .i) (a .to) (a .fs .now) (c .loop-test .left))
 
 pub all-in-range-spec : {M : Type 1} → statement M
 all-in-range-spec =

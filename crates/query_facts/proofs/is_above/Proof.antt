@@ -12,9 +12,10 @@ use lib.Seq.{slice}
 use lib.Signed.{ltZ}
 use mir.Syntax.{w32}
 use mir.Val.{toZ, ofZ}
+use Rattle.sheet_format.proofs.Slices.{above-step, above-end}
+use Rattle.list_laws.proofs.Words.{word-back}
 use Rattle.sheet_format.specs.Cause.{above}
 use Rattle.query_meaning.specs.Facts.{factsIn}
-use Rattle.query_facts.proofs.Words.{word-back, above-step, above-end}
 use Rattle.query_facts.proofs.Laws.{fact-words, next-words}
 use Rattle.query_facts.proofs.is_above.Statement.{statement}
 use Rattle.query_facts.proofs.is_above.Tie as tie
@@ -64,9 +65,11 @@ here : (c : tie.After-y Inv-loop μ-loop) → let l = c .before .before .before 
 here c =
     let l = c .before .before .before in
     let a = l .before .args in
-    rw (word-back (a .fs .now) (5 * a .i + l .loop .j) (c .before .x .given), word-back (a .fs .now) (5 * a .i + 5 + l .loop .j) (c .y .given))
+    let e : 5 * a .i + (l .loop .j + 1) ≡ 5 * a .i + l .loop .j + 1 = omega arith in
+    let f : 5 * a .i + 5 + (l .loop .j + 1) ≡ 5 * a .i + 5 + l .loop .j + 1 = omega arith in
+    rw (e, f, word-back (a .fs .now) (5 * a .i + l .loop .j) (c .before .x .given), word-back (a .fs .now) (5 * a .i + 5 + l .loop .j) (c .y .given))
     (l .loop .inv .1
-    ∙ above-step (5 * a .i) (5 * a .i + 5) (5 * a .i + 5) (5 * a .i + 5 + 5) (l .loop .j) (a .fs .now) (omega arith) (omega arith) (omega arith) (omega arith))
+    ∙ above-step (5 * a .i + l .loop .j) (5 * a .i + 5) (5 * a .i + 5 + l .loop .j) (5 * a .i + 5 + 5) (a .fs .now) (a .fs .now) (omega arith) (omega arith) (omega arith) (omega arith))
 
 returns : tie.Need-returns Inv-loop μ-loop
 returns c = sym (here (c .before) ∙ rw (c .if1 .taken))
@@ -87,7 +90,7 @@ returns-3 : tie.Need-returns-3 Inv-loop μ-loop
 returns-3 c =
     let l = c .before in
     let a = l .before .args in
-    sym (l .loop .inv .1 ∙ above-end (5 * a .i) (5 * a .i + 5) (5 * a .i + 5) (5 * a .i + 5 + 5) (l .loop .j) (a .fs .now) (omega arith))
+    sym (l .loop .inv .1 ∙ above-end (5 * a .i + l .loop .j) (5 * a .i + 5) (5 * a .i + 5 + l .loop .j) (5 * a .i + 5 + 5) (a .fs .now) (a .fs .now) (omega arith))
 
 pub is-above-spec : {M : Type 1} → statement M
 is-above-spec =

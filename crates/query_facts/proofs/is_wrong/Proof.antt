@@ -6,8 +6,8 @@ use borrow.Author.Needs.{needs}
 use borrow.Author.Tests.{eq-eqb, ne-eqb, not-true, not-false}
 use lib.IntN.{pos}
 use lib.ListN.{getD}
+use Rattle.list_laws.proofs.Words.{word-back}
 use Rattle.sheet_format.specs.Relations.{columnsOf}
-use Rattle.query_facts.proofs.Words.{word-back}
 use Rattle.query_facts.proofs.Laws.{columns-most, wrong-told}
 use Rattle.query_facts.proofs.is_wrong.Statement.{statement}
 use Rattle.query_facts.proofs.is_wrong.Tie as tie

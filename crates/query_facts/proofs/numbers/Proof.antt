@@ -6,8 +6,9 @@ use native.Mathlib.Omega.{arith}
 use borrow.Author.Needs.{needs}
 use lib.IntN.{pos}
 use lib.ListN.{length, getD, take, length-set}
+use Rattle.list_laws.proofs.Words.{word-back}
 use Rattle.sheet_format.specs.Line.{natural}
-use Rattle.query_facts.proofs.Words.{word-back, number-more}
+use Rattle.query_facts.proofs.Words.{number-more}
 use Rattle.query_facts.proofs.Laws.{numbers-read}
 use Rattle.query_facts.proofs.numbers.Statement.{statement}
 use Rattle.query_facts.proofs.numbers.Tie as tie
@@ -27,14 +28,14 @@ loop-holds c = (refl, omega arith, refl)
 room : (c : tie.In-loop Inv-loop μ-loop) → c .before .loop .i < length (c .before .loop .ns)
 room c = omega arith
 
-mul-number-of : tie.Need-mul-number-of Inv-loop μ-loop
-mul-number-of c = search needs
+mul-number : tie.Need-mul-number Inv-loop μ-loop
+mul-number c = search needs
 
-shared-slice-copy-out-number-of : tie.Need-shared-slice-copy-out-number-of Inv-loop μ-loop
-shared-slice-copy-out-number-of c = search needs
+shared-slice-copy-out-number : tie.Need-shared-slice-copy-out-number Inv-loop μ-loop
+shared-slice-copy-out-number c = search needs
 
-number-of-requires : tie.Need-number-of-requires Inv-loop μ-loop
-number-of-requires c κs = search needs
+number-requires : tie.Need-number-requires Inv-loop μ-loop
+number-requires c κs = search needs
 
 mul-ns : tie.Need-mul-ns Inv-loop μ-loop
 mul-ns c = search needs
@@ -52,7 +53,7 @@ loop-again : tie.Need-loop-again Inv-loop μ-loop
 loop-again c =
     let l = c .before .before .before .loop in
     let fs = c .before .before .before .before .before .before .args .fs .now in
-    let e : c .number-of .result ≡ natural (getD fs (l .i) (pos 0)) = rw (word-back fs (l .i) (c .before .number-of-arg .given)) at (c .number-of .ensures) in
+    let e : c .number .result ≡ natural (getD fs (l .i) (pos 0)) = rw (word-back fs (l .i) (c .before .number-arg .given)) at (c .number .ensures) in
     rw e (length-set (l .ns) (l .i) (natural (getD fs (l .i) (pos 0))) ∙ l .inv .0, omega arith, number-more fs (l .ns) (l .i) (omega arith) (room (c .before .before)) (l .inv .2))
 
 same-length : tie.Need-same-length Inv-loop μ-loop
@@ -72,9 +73,9 @@ numbers-spec =
     μ-loop
     returns
     loop-holds
-    mul-number-of
-    shared-slice-copy-out-number-of
-    number-of-requires
+    mul-number
+    shared-slice-copy-out-number
+    number-requires
     mul-ns
     slice-write-ns
     add-i

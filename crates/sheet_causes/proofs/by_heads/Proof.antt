@@ -4,9 +4,10 @@ use Prim.Native.Nat.{_-_, _+_}
 use native.Mathlib.Omega.{arith}
 use borrow.Author.Needs.{needs}
 use lib.ListN.{drop}
+use Rattle.sheet_format.proofs.WordLines.{lines-length}
 use Rattle.sheet_format.specs.Line.{wordLines}
 use Rattle.sheet_format.specs.Cause.{heads}
-use Rattle.sheet_causes.proofs.Laws.{lines-length, heads-here, heads-on, heads-end}
+use Rattle.sheet_causes.proofs.Laws.{heads-here, heads-on, heads-end}
 use Rattle.sheet_causes.proofs.by_heads.Statement.{statement}
 use Rattle.sheet_causes.proofs.by_heads.Tie as tie
 

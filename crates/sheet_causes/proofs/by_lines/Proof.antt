@@ -5,9 +5,10 @@ use native.Mathlib.Omega.{arith}
 use borrow.Author.Needs.{needs}
 use mathlib.Core.List.{[]}
 use lib.ListN.{length, getD, drop}
+use Rattle.sheet_format.proofs.WordLines.{lines-length}
 use Rattle.sheet_format.specs.Line.{wordLine, wordLines}
 use Rattle.sheet_format.specs.Cause.{scan, start, stepOf}
-use Rattle.sheet_causes.proofs.Laws.{lines-length, scan-stops, scan-goes, scan-end, missing-few, missing-none}
+use Rattle.sheet_causes.proofs.Laws.{scan-stops, scan-goes, scan-end, missing-few, missing-none}
 use Rattle.sheet_causes.proofs.by_lines.Statement.{statement}
 use Rattle.sheet_causes.proofs.by_lines.Tie as tie
 

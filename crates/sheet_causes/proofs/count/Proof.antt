@@ -2,7 +2,8 @@
 use mathlib.Core.Path.{sym}
 use Prim.Native.Nat.{ℕ}
 use native.Mathlib.Omega.{arith}
-use Rattle.sheet_causes.proofs.Laws.{back, Fields, fields}
+use Rattle.list_laws.proofs.Words.{back}
+use Rattle.sheet_causes.proofs.Laws.{Fields, fields}
 use borrow.Author.Needs.{needs}
 use Rattle.sheet_causes.proofs.count.Statement.{statement}
 use Rattle.sheet_causes.proofs.count.Tie as tie

@@ -8,9 +8,11 @@ use mir.Val.{toZ}
 use lib.ListN.{length, drop}
 use mathlib.Core.Bool.{false}
 use borrow.Author.Tests.{not-true, not-false}
+use Rattle.sheet_format.proofs.WordLines.{lines-length}
+use Rattle.list_laws.proofs.Words.{back}
 use Rattle.sheet_format.specs.Line.{null, wordLine, wordLines}
 use Rattle.sheet_format.specs.Cause.{kind, isAtom, occurs, terms, atoms}
-use Rattle.sheet_causes.proofs.Laws.{back, lines-length, formed-at, has, has-stop, has-here, has-on, has-end}
+use Rattle.sheet_causes.proofs.Laws.{formed-at, has, has-stop, has-here, has-on, has-end}
 use Rattle.sheet_causes.proofs.in_atoms.Statement.{statement}
 use Rattle.sheet_causes.proofs.in_atoms.Tie as tie
 

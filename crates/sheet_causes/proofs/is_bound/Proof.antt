@@ -1,9 +1,10 @@
 -- `causes::is_bound` meets its contract.
 use mathlib.Core.Path.{_∙_}
 use lib.ListN.{drop}
+use Rattle.list_laws.proofs.Words.{back}
 use Rattle.sheet_format.specs.Line.{wordLines}
 use Rattle.sheet_format.specs.Cause.{atoms}
-use Rattle.sheet_causes.proofs.Laws.{back, bound-variable, bound-constant}
+use Rattle.sheet_causes.proofs.Laws.{bound-variable, bound-constant}
 use borrow.Author.Needs.{needs}
 use Rattle.sheet_causes.proofs.is_bound.Statement.{statement}
 use Rattle.sheet_causes.proofs.is_bound.Tie as tie

@@ -6,9 +6,10 @@ use mathlib.Core.Bool.{true, false, not}
 use mathlib.Core.List.{[]}
 use lib.ListN.{getD}
 use borrow.Author.Tests.{not-true, not-false}
+use Rattle.sheet_format.proofs.WordLines.{lines-length}
 use Rattle.sheet_format.specs.Line.{null, wordLine, wordLines}
 use Rattle.sheet_format.specs.Cause.{kind, isHead, isAtom}
-use Rattle.sheet_causes.proofs.Laws.{lines-length, formed-at, no-head, no-line, no-atom, by-terms}
+use Rattle.sheet_causes.proofs.Laws.{formed-at, no-head, no-line, no-atom, by-terms}
 use borrow.Author.Needs.{needs}
 use Rattle.sheet_causes.proofs.is_unsafe.Statement.{statement}
 use Rattle.sheet_causes.proofs.is_unsafe.Tie as tie

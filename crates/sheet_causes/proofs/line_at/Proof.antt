@@ -5,8 +5,10 @@ use native.Mathlib.Omega.{arith}
 use borrow.Author.Needs.{needs}
 use lib.IntN.{pos}
 use lib.ListN.{length, getD, take, drop, length-set}
+use Rattle.sheet_format.proofs.WordLines.{line-get}
+use Rattle.list_laws.proofs.Words.{word-back}
 use Rattle.sheet_format.specs.Line.{wordLine}
-use Rattle.sheet_causes.proofs.Laws.{back, word-more, whole-line, line-get}
+use Rattle.sheet_causes.proofs.Laws.{word-more, whole-line}
 use Rattle.sheet_causes.proofs.line_at.Statement.{statement}
 use Rattle.sheet_causes.proofs.line_at.Tie as tie
 
@@ -47,7 +49,7 @@ loop-again : tie.Need-loop-again Inv-loop μ-loop
 loop-again c =
     let l = c .before .before .loop in
     let a = c .before .before .before .args in
-    rw (back {z = getD (a .ws .now) (7 * a .i + l .j) (pos 0)} (record { sfits = c .l .given }))
+    rw (word-back (a .ws .now) (7 * a .i + l .j) (c .l .given))
     (length-set (l .l) (l .j) (getD (a .ws .now) (7 * a .i + l .j) (pos 0)) ∙ l .inv .0, omega arith, word-more (a .ws .now) (l .l) (7 * a .i) (l .j) (l .inv .0) (omega arith) (omega arith) (l .inv .2))
 
 returns : tie.Need-returns Inv-loop μ-loop

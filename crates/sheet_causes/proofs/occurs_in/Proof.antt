@@ -7,9 +7,10 @@ use lib.IntN.{pos}
 use mir.Syntax.{w32}
 use mir.Val.{toZ, ofZ}
 use lib.ListN.{getD, drop}
+use Rattle.list_laws.proofs.Words.{back, of-bits}
 use Rattle.sheet_format.specs.Line.{wordLine}
 use Rattle.sheet_format.specs.Cause.{occurs, terms}
-use Rattle.sheet_causes.proofs.Laws.{back, of-bits, field-word, terms-drop, occurs-here, occurs-on, occurs-end}
+use Rattle.sheet_causes.proofs.Laws.{field-word, terms-drop, occurs-here, occurs-on, occurs-end}
 use Rattle.sheet_causes.proofs.occurs_in.Statement.{statement}
 use Rattle.sheet_causes.proofs.occurs_in.Tie as tie
 

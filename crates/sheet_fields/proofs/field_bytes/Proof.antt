@@ -2,8 +2,9 @@ use mathlib.Core.Bool.{true, false}
 use mathlib.Core.Path.{ap, _∙_}
 use lib.IntN.{natAbs}
 use borrow.Author.Needs.{needs}
+use Rattle.list_laws.proofs.Words.{back}
 use Rattle.sheet_format.specs.Field.{decimal}
-use Rattle.sheet_fields.proofs.Laws.{back, bytes-minus, bytes-plain}
+use Rattle.sheet_fields.proofs.Laws.{bytes-minus, bytes-plain}
 use Rattle.sheet_fields.proofs.field_bytes.Statement.{statement}
 use Rattle.sheet_fields.proofs.field_bytes.Tie as tie
 

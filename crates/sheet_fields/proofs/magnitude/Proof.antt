@@ -1,7 +1,8 @@
 use mathlib.Core.Path.{ap}
 use native.Mathlib.Omega.{arith}
 use lib.IntN.{natAbs}
-use Rattle.sheet_fields.proofs.Laws.{back, to-pos, OneUp, one-up, natural}
+use Rattle.list_laws.proofs.Words.{back, to-pos, natural}
+use Rattle.sheet_fields.proofs.Laws.{OneUp, one-up}
 use Rattle.sheet_fields.proofs.magnitude.Statement.{statement}
 use Rattle.sheet_fields.proofs.magnitude.Tie as tie
 

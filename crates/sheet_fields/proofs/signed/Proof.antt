@@ -1,8 +1,9 @@
 use mathlib.Core.Path.{sym, ap, _∙_}
 use native.Mathlib.Omega.{arith}
 use borrow.Author.Needs.{needs}
+use Rattle.list_laws.proofs.Words.{back, to-pos}
 use Rattle.sheet_format.specs.Field.{signed}
-use Rattle.sheet_fields.proofs.Laws.{back, to-pos, negated, minus-fits}
+use Rattle.sheet_fields.proofs.Laws.{negated, minus-fits}
 use Rattle.sheet_fields.proofs.signed.Statement.{statement}
 use Rattle.sheet_fields.proofs.signed.Tie as tie
 

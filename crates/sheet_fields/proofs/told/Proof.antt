@@ -1,9 +1,9 @@
 use mathlib.Core.Path.{subst, sym, ap, _∙_}
 use borrow.Author.Needs.{needs}
+use Rattle.list_laws.proofs.Words.{back}
 use Rattle.sheet_format.specs.Field.{told}
 use Rattle.sheet_format.specs.declared.Field.the-variants.{Number}
 use Rattle.sheet_fields.specs.Below.{Below}
-use Rattle.sheet_fields.proofs.Laws.{back}
 use Rattle.sheet_fields.proofs.told.Statement.{statement}
 use Rattle.sheet_fields.proofs.told.Tie as tie
 

@@ -5,12 +5,12 @@ use Prim.Native.Nat.{_≤_, _-_, _+_}
 use native.Mathlib.Omega.{arith}
 use borrow.Author.Needs.{needs}
 use lib.Seq.{slice}
+use Rattle.sheet_format.proofs.Slices.{all-step, all-end}
+use Rattle.list_laws.proofs.Words.{word-back}
 use Rattle.sheet_format.specs.Line.{all}
 use Rattle.sheet_line_causes.specs.Parts.{passes}
 use borrow.Author.Tests.{not-true, not-false}
-use Rattle.sheet_line_causes.proofs.Words.{word-back}
 use lib.IntN.{pos}
-use Rattle.sheet_line_causes.proofs.Slices.{all-step, all-end}
 use Rattle.sheet_line_causes.proofs.all_pass.Statement.{statement}
 use Rattle.sheet_line_causes.proofs.all_pass.Tie as tie
 

@@ -6,11 +6,12 @@ use lib.Seq.{slice}
 use mathlib.Core.Bool.{true, false}
 use mathlib.Core.List.{[]}
 use borrow.Author.Tests.{eq-eqb, ne-eqb, le-leb, lt-leb}
+use Rattle.list_laws.proofs.Words.{word-back}
 use Rattle.sheet_format.specs.Cause.{term}
 use Rattle.sheet_format.specs.Cause.Kind.{atom}
 use Rattle.sheet_format.specs.Line.{all}
 use Rattle.sheet_line_causes.specs.Parts.{causeBy, fields}
-use Rattle.sheet_line_causes.proofs.Words.{failed, held, word-back}
+use Rattle.sheet_line_causes.proofs.Words.{failed, held}
 use Rattle.sheet_line_causes.proofs.Lines.{atom-cause, atom-short, atomRest}
 use borrow.Author.Needs.{needs}
 use Rattle.sheet_line_causes.proofs.atom_cause.Statement.{statement}

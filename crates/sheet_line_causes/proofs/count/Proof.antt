@@ -7,9 +7,10 @@ use borrow.Author.Tests.{not-true, not-false}
 use lib.IntN.{pos}
 use lib.Seq.{slice}
 use mathlib.Core.Bool.{cond, _&&_}
+use Rattle.list_laws.proofs.Words.{word-back}
 use Rattle.sheet_format.specs.Line.{all, isZero, wordLine}
 use Rattle.sheet_line_causes.specs.Parts.{fieldCount}
-use Rattle.sheet_line_causes.proofs.Words.{word-back, count-most}
+use Rattle.sheet_line_causes.proofs.Words.{count-most}
 use Rattle.sheet_line_causes.proofs.Lines.{line-told}
 use borrow.Author.Needs.{needs}
 use Rattle.sheet_line_causes.proofs.count.Statement.{statement}

@@ -3,7 +3,7 @@ use mathlib.Core.Path.{_≡_}
 use Prim.Native.Nat.{ℕ, _≤_}
 use native.Mathlib.Omega.{arith}
 use lib.IntN.{pos}
-use Rattle.sheet_terms.proofs.Laws.{back}
+use Rattle.list_laws.proofs.Words.{back}
 use Rattle.sheet_line_causes.proofs.Words.{no-count-low, no-count-high, counts, count-at}
 use Rattle.sheet_line_causes.proofs.field_count.Statement.{statement}
 use Rattle.sheet_line_causes.proofs.field_count.Tie as tie

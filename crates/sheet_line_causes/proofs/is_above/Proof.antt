@@ -10,9 +10,9 @@ use lib.Seq.{slice}
 use lib.Signed.{ltZ}
 use mir.Syntax.{w32}
 use mir.Val.{toZ, ofZ}
+use Rattle.sheet_format.proofs.Slices.{above-end, above-short, above-step}
+use Rattle.list_laws.proofs.Words.{word-back}
 use Rattle.sheet_format.specs.Cause.{above}
-use Rattle.sheet_line_causes.proofs.Words.{word-back}
-use Rattle.sheet_line_causes.proofs.Slices.{above-end, above-short, above-step}
 use Rattle.sheet_line_causes.proofs.is_above.Statement.{statement}
 use Rattle.sheet_line_causes.proofs.is_above.Tie as tie
 
@@ -29,7 +29,7 @@ returns : tie.Need-returns Inv-loop μ-loop
 returns c =
     let l = c .before .before in
     let a = l .before .args in
-    sym (l .loop .inv .1 ∙ above-short (l .loop .i) (a .m) (a .n) (a .before .now) (a .words .now) (c .if1 .taken))
+    sym (l .loop .inv .1 ∙ above-short (l .loop .i) (a .m) (l .loop .i) (a .n) (a .before .now) (a .words .now) (c .if1 .taken))
 
 here : (c : tie.After-y Inv-loop μ-loop) → let l = c .before .before .before .before in let a = l .before .args in
     let x = toZ w32 (ofZ w32 (getD (a .before .now) (l .loop .i) (pos 0))) in
@@ -41,7 +41,7 @@ here c =
     let a = l .before .args in
     rw (word-back (a .before .now) (l .loop .i) (c .before .x .given), word-back (a .words .now) (l .loop .i) (c .y .given))
     (l .loop .inv .1
-    ∙ above-step (l .loop .i) (a .m) (a .n) (a .before .now) (a .words .now) (c .before .before .before .loop-test .taken) (l .before .pre .0) (c .before .before .if1 .left) (l .before .pre .1))
+    ∙ above-step (l .loop .i) (a .m) (l .loop .i) (a .n) (a .before .now) (a .words .now) (c .before .before .before .loop-test .taken) (l .before .pre .0) (c .before .before .if1 .left) (l .before .pre .1))
 
 mul-x : tie.Need-mul-x Inv-loop μ-loop
 mul-x c = search needs
@@ -74,7 +74,7 @@ returns-4 : tie.Need-returns-4 Inv-loop μ-loop
 returns-4 c =
     let l = c .before in
     let a = l .before .args in
-    sym (l .loop .inv .1 ∙ above-end (l .loop .i) (a .m) (a .n) (a .before .now) (a .words .now) (c .loop-test .left))
+    sym (l .loop .inv .1 ∙ above-end (l .loop .i) (a .m) (l .loop .i) (a .n) (a .before .now) (a .words .now) (c .loop-test .left))
 
 pub is-above-spec : {M : Type 1} → statement M
 is-above-spec =

@@ -1,6 +1,6 @@
 -- `lines::is_constant` meets its contract: by the term that the word stands for. Assumes nothing.
 use mathlib.Core.Path.{sym, ap, _∙_}
-use Rattle.sheet_terms.proofs.Laws.{back}
+use Rattle.list_laws.proofs.Words.{back}
 use Rattle.sheet_format.specs.Cause.{isConstant}
 use borrow.Author.Needs.{needs}
 use Rattle.sheet_line_causes.proofs.is_constant.Statement.{statement}

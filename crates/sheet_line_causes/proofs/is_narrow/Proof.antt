@@ -1,5 +1,5 @@
 -- `lines::is_narrow` meets its contract: a word goes by its tests to one of the definition's cases. Assumes nothing.
-use Rattle.sheet_terms.proofs.Laws.{back}
+use Rattle.list_laws.proofs.Words.{back}
 use Rattle.sheet_line_causes.proofs.Words.{wide-low, narrow}
 use Rattle.sheet_line_causes.proofs.is_narrow.Statement.{statement}
 use Rattle.sheet_line_causes.proofs.is_narrow.Tie as tie

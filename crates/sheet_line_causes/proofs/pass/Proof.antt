@@ -1,6 +1,6 @@
 -- `lines::pass` meets its contract: by the test that is asked for. Assumes nothing.
 use mathlib.Core.Path.{sym, ap, _∙_}
-use Rattle.sheet_terms.proofs.Laws.{back}
+use Rattle.list_laws.proofs.Words.{back}
 use Rattle.sheet_line_causes.specs.Parts.{passes}
 use borrow.Author.Needs.{needs}
 use Rattle.sheet_line_causes.proofs.pass.Statement.{statement}

@@ -2,11 +2,10 @@ use mathlib.Core.Path.{_≡_, subst}
 use Prim.Native.Nat.{_≤_, _-_}
 use native.Mathlib.Omega.{arith}
 use borrow.Author.Needs.{needs}
-use lib.ListN.{getD, take}
+use lib.ListN.{take}
+use Rattle.list_laws.proofs.Words.{word-back}
 use Rattle.list_laws.specs.Wrote.{Wrote}
 use Rattle.list_laws.proofs.Laws.{wrote-none, copied-next}
-use mir.Syntax.{w32}
-use mir.ValLaws.{toZ-ofZ}
 use lib.IntN.{pos}
 use Rattle.sheet_reader.proofs.copy.Statement.{statement}
 use Rattle.sheet_reader.proofs.copy.Tie as tie
@@ -43,7 +42,7 @@ loop-again c =
     let l = c .before .before .loop in
     let a = c .before .before .before .args in
     let h = l .inv .1 .same in
-    (omega arith, rw (toZ-ofZ w32 (getD (a .ws .now) (l .i) (pos 0)) (record { sfits = c .out .given })) (copied-next (a .out .now) (l .out) (a .ws .now) (pos 0) 0 (l .i) (l .i) (omega arith) (omega arith) (l .inv .1)))
+    (omega arith, rw (word-back (a .ws .now) (l .i) (c .out .given)) (copied-next (a .out .now) (l .out) (a .ws .now) (pos 0) 0 (l .i) (l .i) (omega arith) (omega arith) (l .inv .1)))
 
 same-length : tie.Need-same-length Inv-loop μ-loop
 same-length c = c .before .loop .inv .1 .same

@@ -2,11 +2,10 @@ use mathlib.Core.Path.{_≡_}
 use Prim.Native.Nat.{_≤_, _-_, _+_, _*_}
 use native.Mathlib.Omega.{arith}
 use borrow.Author.Needs.{needs}
-use lib.ListN.{length, getD, take}
+use lib.ListN.{length, take}
+use Rattle.list_laws.proofs.Words.{word-back}
 use Rattle.list_laws.specs.Wrote.{Wrote}
 use Rattle.list_laws.proofs.Laws.{copied-none, copied-more, copied-all}
-use mir.Syntax.{w32}
-use mir.ValLaws.{toZ-ofZ}
 use lib.IntN.{pos}
 use Rattle.sheet_reader.proofs.put_line.Statement.{statement}
 use Rattle.sheet_reader.proofs.put_line.Tie as tie
@@ -49,7 +48,7 @@ loop-again c =
     let l = c .before .before .loop in
     let a = c .before .before .before .args in
     let h = l .inv .2 .same in
-    (omega arith, l .inv .1, rw (toZ-ofZ w32 (getD (a .t3) (l .j) (pos 0)) (record { sfits = c .ws .given })) (copied-more (a .ws .now) (l .ws) (a .t3) (pos 0) (a .n * 7) (l .j) (omega arith) (omega arith) (l .inv .2)))
+    (omega arith, l .inv .1, rw (word-back (a .t3) (l .j) (c .ws .given)) (copied-more (a .ws .now) (l .ws) (a .t3) (pos 0) (a .n * 7) (l .j) (omega arith) (omega arith) (l .inv .2)))
 
 same-length : tie.Need-same-length Inv-loop μ-loop
 same-length c = c .before .loop .inv .2 .same

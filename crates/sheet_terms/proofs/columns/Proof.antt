@@ -3,7 +3,8 @@ use mathlib.Core.Path.{_≡_}
 use Prim.Native.Nat.{ℕ, suc}
 use native.Mathlib.Omega.{arith}
 use lib.IntN.{pos}
-use Rattle.sheet_terms.proofs.Laws.{back, no-columns, relation, columns-at, columns-past}
+use Rattle.list_laws.proofs.Words.{back}
+use Rattle.sheet_terms.proofs.Laws.{no-columns, relation, columns-at, columns-past}
 use Rattle.sheet_terms.proofs.columns.Statement.{statement}
 use Rattle.sheet_terms.proofs.columns.Tie as tie
 

@@ -3,8 +3,9 @@ use mathlib.Core.Path.{_≡_, sym, ap, _∙_}
 use Prim.Native.Nat.{ℕ, suc, _<_}
 use native.Mathlib.Omega.{arith}
 use lib.IntN.{pos, negsuc, _-ℤ_}
+use Rattle.list_laws.proofs.Words.{back, to-pos}
 use Rattle.sheet_format.specs.Cause.{termOf}
-use Rattle.sheet_terms.proofs.Laws.{back, to-pos, variable, term-variable, term-low, constant, term-constant, term-high}
+use Rattle.sheet_terms.proofs.Laws.{variable, term-variable, term-low, constant, term-constant, term-high}
 use Rattle.sheet_terms.proofs.term_of.Statement.{statement}
 use Rattle.sheet_terms.proofs.term_of.Tie as tie
 

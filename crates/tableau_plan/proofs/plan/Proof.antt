@@ -3,8 +3,8 @@ use mathlib.Core.Path.{refl}
 use native.Mathlib.Omega.{arith}
 use lib.ListN.{length}
 use Prim.Native.Nat.{_/_}
+use Rattle.sheet_format.proofs.WordLines.{lines-length}
 use Rattle.sheet_format.specs.Line.{wordLines}
-use Rattle.query_blocks.proofs.Words.{lines-length}
 use Rattle.tableau_plan.proofs.Whole.{plan-of}
 use borrow.Author.Needs.{needs}
 use Rattle.tableau_plan.proofs.plan.Statement.{statement}

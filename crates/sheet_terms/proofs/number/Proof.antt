@@ -1,15 +1,15 @@
--- `facts::number_of` meets its contract.
+-- `sheet_terms::number` meets its contract.
 use mathlib.Core.Path.{_≡_}
 use Prim.Native.Nat.{ℕ}
 use native.Mathlib.Omega.{arith}
 use lib.IntN.{pos}
-use Rattle.sheet_terms.proofs.Laws.{back}
-use Rattle.query_facts.proofs.Words.{natural-low, natural-high}
-use Rattle.query_facts.proofs.number_of.Statement.{statement}
-use Rattle.query_facts.proofs.number_of.Tie as tie
+use Rattle.list_laws.proofs.Words.{back, positive}
+use Rattle.sheet_terms.proofs.Laws.{natural-low}
+use Rattle.sheet_terms.proofs.number.Statement.{statement}
+use Rattle.sheet_terms.proofs.number.Tie as tie
 
 high : (c : tie.Else1) → (n : ℕ) × (c .before .args .word ≡ pos n)
-high c = natural-high (c .before .args .word) (rw (back (c .before .fits .word)) at (c .if1 .left))
+high c = positive (c .before .args .word) (rw (back (c .before .fits .word)) at (c .if1 .left))
 
 returns : tie.Need-returns
 returns c = natural-low (c .before .args .word) (rw (back (c .before .fits .word)) at (c .if1 .taken))
@@ -26,5 +26,5 @@ returns-2 c =
     let (n, e) = high c in
     rw (back (c .before .fits .word), e)
 
-pub number-of-spec : {M : Type 1} → statement M
-number-of-spec = tie.close (tie.spec returns cast-result returns-2)
+pub number-spec : {M : Type 1} → statement M
+number-spec = tie.close (tie.spec returns cast-result returns-2)
