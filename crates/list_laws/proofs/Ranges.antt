@@ -8,7 +8,11 @@ use lib.ListN.{length, getD, set, length-set}
 use lib.Seq.{getD-set-same, getD-set-other}
 use Rattle.list_laws.specs.Kept.{Kept, Filled}
 
-module _ {A : Type 0} (d : A) where
+-- a function that counts from a place
+pub shifted : {A : Type 0} → ℕ → (ℕ → A) → ℕ → A
+shifted at f y = f (y - at)
+
+module _ {A : Type 0} {d : A} where
   -- ---- what is kept
 
   pub kept-none : (p : List A) (a b : ℕ) → Kept d p p a b
@@ -52,21 +56,20 @@ module _ {A : Type 0} (d : A) where
           let g : to ≡ y = omega arith in
           subst (λ x. getD (set q to v) x d ≡ f x) g (getD-set-same q to v d (let s = h .kept .same in omega arith) ∙ e)
 
-  -- ---- the same, where f counts from the place
+  -- ---- the same, with the values counted from the place
 
-  abbrev pub from : ℕ → (ℕ → A) → ℕ → A
-  from at f y = f (y - at)
+  pub placed-none : (p : List A) (at : ℕ) (f : ℕ → A) → Filled d p p at (at + 0) (shifted at f)
+  placed-none p at f = subst (λ k. Filled d p p at k (shifted at f)) (let e : at ≡ at + 0 = omega arith in e) (filled-none p at (shifted at f))
 
-  pub placed-none : (p : List A) (at : ℕ) (f : ℕ → A) → Filled d p p at (at + 0) (from at f)
-  placed-none p at f = subst (λ k. Filled d p p at k (from at f)) (let e : at ≡ at + 0 = omega arith in e) (filled-none p at (from at f))
-
-  pub placed-more : (p q : List A) (at x : ℕ) (v : A) (f : ℕ → A) → at + x < length p → v ≡ f x → Filled d p q at (at + x) (from at f)
-      → Filled d p (set q (at + x) v) at (at + (x + 1)) (from at f)
+  pub placed-more : (p q : List A) (at x : ℕ) (v : A) (f : ℕ → A) → at + x < length p → v ≡ f x → Filled d p q at (at + x) (shifted at f)
+      → Filled d p (set q (at + x) v) at (at + (x + 1)) (shifted at f)
+  unfolding shifted
   placed-more p q at x v f room e h =
-      subst (λ k. Filled d p (set q (at + x) v) at k (from at f)) (let s : at + x + 1 ≡ at + (x + 1) = omega arith in s)
-      (filled-more p q at (at + x) v (from at f) room (omega arith) (e ∙ ap f (let s : x ≡ at + x - at = omega arith in s)) h)
+      subst (λ k. Filled d p (set q (at + x) v) at k (shifted at f)) (let s : at + x + 1 ≡ at + (x + 1) = omega arith in s)
+      (filled-more p q at (at + x) v (shifted at f) room (omega arith) (e ∙ ap f (let s : x ≡ at + x - at = omega arith in s)) h)
 
-  pub placed-all : (p q : List A) (at x n : ℕ) (f : ℕ → A) → x ≡ n → Filled d p q at (at + x) (from at f) → Kept d p q at (at + n) × ((y : ℕ) → y < n → getD q (at + y) d ≡ f y)
+  pub placed-all : (p q : List A) (at x n : ℕ) (f : ℕ → A) → x ≡ n → Filled d p q at (at + x) (shifted at f) → Kept d p q at (at + n) × ((y : ℕ) → y < n → getD q (at + y) d ≡ f y)
+  unfolding shifted
   placed-all p q at x n f e h = (
     subst (λ k. Kept d p q at (at + k)) e (h .kept),
     λ y lt. h .each (at + y) (omega arith) (omega arith) ∙ ap f (let s : at + y - at ≡ y = omega arith in s),

@@ -10,6 +10,7 @@ use lib.ListN.{length, getD}
 use lib.Seq.{ext-getD}
 use borrow.Author.Count.{below-more}
 use borrow.Author.Tests.{eqb-true, leb-false, ltb-true, ltb-false, ne-eqb, not-true, not-false}
+use Rattle.list_laws.proofs.Lists.{part-get, part-length}
 use Rattle.sheet_format.proofs.Lists.{neither}
 use Rattle.sheet_format.specs.Line.{Line}
 use Rattle.sheet_format.specs.Cause.{Kind, question, saved, view, atom, row, other, kind, rest, tooMany, start, nextBy, next, scan}
@@ -22,7 +23,7 @@ use Rattle.case_verdicts.specs.Sheets.{isView}
 use Rattle.case_verdicts.proofs.Order.{block-count}
 use Rattle.tableau_plan.specs.Plan.{blockNumbers, blockSize}
 use Rattle.tableau_plan.specs.Parts.{Accepted, BlockStored, Blocks}
-use Rattle.tableau_plan.proofs.Laws.{part-get, part-length, part-same}
+use Rattle.tableau_plan.proofs.Laws.{part-same}
 
 -- ---- at most eight views
 
@@ -77,7 +78,7 @@ begun-more p q ls b some n blk lt s w is f h =
     let i : isBlock ls (b + 1) ≡ true = sym (f .found) ∙ is in
     let m : BlockNumbers blk n (blockAt ls (suc b)) = subst (λ k. BlockNumbers blk n (blockAt ls k)) (add-one b) (f .numbers is) in
     let l = part-length q (830 + b * 34) 34 (omega arith) in
-    let e : blockNumbers q b ≡ blk = ext-getD 0 (blockNumbers q b) blk (l ∙ sym (m .size)) (λ x k. part-get q (830 + b * 34) 34 x (omega arith) ∙ w .numbers x (omega arith)) in
+    let e : blockNumbers q b ≡ blk = ext-getD 0 (blockNumbers q b) blk (l ∙ sym (m .size)) (λ x k. part-get q (830 + b * 34) 34 x 0 (omega arith) ∙ w .numbers x (omega arith)) in
     record {
       within = is-block ls (b + 1) i;
       each = below-more _ b

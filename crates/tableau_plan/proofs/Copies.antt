@@ -9,12 +9,12 @@ use lib.Dec.{ltb}
 use lib.ListN.{length, getD, drop, length-drop, length-map, length-append, drop-of-length-le, List·getD-append}
 use lib.Seq.{drop-cons, drop-drop, drop-at, getD-drop}
 use borrow.Author.Tests.{ltb-true, ltb-false, eq-eqb, ne-eqb}
+use Rattle.list_laws.proofs.Lists.{part-get}
 use Rattle.query_meaning.specs.Meaning.{Atom, Block}
 use Rattle.query_encoding.specs.Numbers.{number, termAt, atomAt, BlockNumbers}
 use Rattle.case_verdicts.specs.Tableau.{copy}
 use Rattle.tableau_plan.specs.Plan.{blockNumbers, blockSize, slotValue}
 use Rattle.tableau_plan.specs.Parts.{Kept, slotOf, placedNumber, sourceOf, noBlock, Placed, unplaced, atomsFrom, Sources, PlacedNumbers, TableauDone}
-use Rattle.tableau_plan.proofs.Laws.{part-get}
 use Rattle.tableau_plan.proofs.Blocks.{numbers-same}
 use Rattle.tableau_plan.proofs.Rows.{at-in}
 use Rattle.tableau_plan.proofs.Tableau.{slot-value, term-fine}
@@ -112,7 +112,7 @@ module _ (p : List ℕ) (n : ℕ) (bs : List Block) (k m : ℕ) (d : Sources p n
               ap (λ y. getD q y 0) (let e : (m + j) * 5 + 0 ≡ m * 5 + j * 5 = omega arith in e)
               ∙ xs (j * 5) (omega arith)
               ∙ placed-relation k j _
-              ∙ sym (part-get p (830 + sourceOf p k * 34) 34 (j * 5) (omega arith))
+              ∙ sym (part-get p (830 + sourceOf p k * 34) 34 (j * 5) 0 (omega arith))
               ∙ d .numbers k lt .relation j l;
           terms = λ s c f.
               let u = termAt (atomAt (block .atoms) j .terms) c in
@@ -120,7 +120,7 @@ module _ (p : List ℕ) (n : ℕ) (bs : List Block) (k m : ℕ) (d : Sources p n
               ap (λ y. getD q y 0) (let e : (m + j) * 5 + 1 + c ≡ m * 5 + (j * 5 + 1 + c) = omega arith in e)
               ∙ xs (j * 5 + 1 + c) (omega arith)
               ∙ placed-term k j c _ f
-              ∙ ap (slotOf k) (sym (part-get p (830 + sourceOf p k * 34) 34 (j * 5 + 1 + c) (omega arith)) ∙ d .numbers k lt .columns j l c f) in
+              ∙ ap (slotOf k) (sym (part-get p (830 + sourceOf p k * 34) 34 (j * 5 + 1 + c) 0 (omega arith)) ∙ d .numbers k lt .columns j l c f) in
               ap (slotValue s) e
               ∙ slot-value s k u few (term-fine (atomAt (block .atoms) j .terms) (d .fine k lt (atomAt (block .atoms) j) (at-in _ (block .atoms) j (omega arith))) c);
         }

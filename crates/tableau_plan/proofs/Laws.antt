@@ -1,70 +1,21 @@
--- Stores that go up one by one, and what they keep. Assumes nothing.
+-- Parts of a plan, and single stores. Assumes nothing.
 use mathlib.Core.Path.{_≡_, refl, sym, ap, _∙_}
 use mathlib.Core.List.{List}
 use Prim.Native.Nat.{ℕ, zero, suc, _+_, _-_, _*_, _<_, _≤_}
 use native.Mathlib.Omega.{arith}
-use borrow.Author.Count.{below-more}
-use lib.ListN.{length, getD, take, drop, set, length-set, length-take, length-drop}
-use lib.Seq.{getD-set-same, getD-set-other, getD-take, getD-drop, ext-getD}
+use lib.ListN.{length, getD, take, drop, set, length-set}
+use lib.Seq.{getD-set-same, getD-set-other, ext-getD}
+use Rattle.list_laws.proofs.Lists.{part-get, part-length}
 use Rattle.tableau_plan.specs.Parts.{Kept, BlockStored, sourceOf, Closed}
 
--- ---- what is kept
-
-pub kept-none : (p : List ℕ) (a b : ℕ) → Kept p p a b
-kept-none p a b = record { same = refl; below = λ y h. refl; above = λ y h. refl }
-
-pub kept-set : (p q : List ℕ) (a b i v : ℕ) → a ≤ i → i < b → Kept p q a b → Kept p (set q i v) a b
-kept-set p q a b i v ge lt k = record {
-  same = length-set q i v ∙ k .same;
-  below = λ y h. getD-set-other q i y v 0 (λ e. absurd (omega arith)) ∙ k .below y h;
-  above = λ y h. getD-set-other q i y v 0 (λ e. absurd (omega arith)) ∙ k .above y h;
-}
-
-pub kept-wide : (p q : List ℕ) (a b c d : ℕ) → c ≤ a → b ≤ d → Kept p q a b → Kept p q c d
-kept-wide p q a b c d ge le k = record {
-  same = k .same;
-  below = λ y h. k .below y (omega arith);
-  above = λ y h. k .above y (omega arith);
-}
-
-pub kept-more : (p q r : List ℕ) (a b : ℕ) → Kept p q a b → Kept q r a b → Kept p r a b
-kept-more p q r a b k l = record {
-  same = l .same ∙ k .same;
-  below = λ y h. l .below y h ∙ k .below y h;
-  above = λ y h. l .above y h ∙ k .above y h;
-}
-
--- ---- n numbers from a place on, of which x have been stored
-
-pub record Filled (p q : List ℕ) (at n x : ℕ) (f : ℕ → ℕ) : Type 0 where
-  pub kept : Kept p q at (at + n)
-  pub each : (y : ℕ) → y < x → getD q (at + y) 0 ≡ f y
-
-pub filled-none : (p : List ℕ) (at n : ℕ) (f : ℕ → ℕ) → Filled p p at n 0 f
-filled-none p at n f = record { kept = kept-none p at (at + n); each = λ y h. absurd (omega arith) }
-
-pub filled-more : (p q : List ℕ) (at n x v : ℕ) (f : ℕ → ℕ) → at + n ≤ length p → x < n → v ≡ f x → Filled p q at n x f → Filled p (set q (at + x) v) at n (x + 1) f
-filled-more p q at n x v f room lt e h =
-    let s = h .kept .same in
-    record {
-      kept = kept-set p q at (at + n) (at + x) v (omega arith) (omega arith) (h .kept);
-      each = below-more _ x (λ y k. getD-set-other q (at + x) (at + y) v 0 (λ g. absurd (omega arith)) ∙ h .each y k) (getD-set-same q (at + x) v 0 (omega arith) ∙ e);
-    }
-
 -- ---- parts
-
-pub part-get : (p : List ℕ) (o n x : ℕ) → x < n → getD (take n (drop o p)) x 0 ≡ getD p (o + x) 0
-part-get p o n x h = getD-take n (drop o p) x 0 h ∙ getD-drop o p x 0
-
-pub part-length : (p : List ℕ) (o n : ℕ) → o + n ≤ length p → length (take n (drop o p)) ≡ n
-part-length p o n h = simp (length-take, length-drop) (omega arith)
 
 pub part-same : (p q : List ℕ) (o n : ℕ) → o + n ≤ length p → length q ≡ length p → ((y : ℕ) → o ≤ y → y < o + n → getD q y 0 ≡ getD p y 0) → take n (drop o q) ≡ take n (drop o p)
 part-same p q o n h s e =
     let a = part-length p o n h in
     let b = part-length q o n (omega arith) in
     ext-getD 0 (take n (drop o q)) (take n (drop o p)) (b ∙ sym a)
-    (λ i k. part-get q o n i (omega arith) ∙ e (o + i) (omega arith) (omega arith) ∙ sym (part-get p o n i (omega arith)))
+    (λ i k. part-get q o n i 0 (omega arith) ∙ e (o + i) (omega arith) (omega arith) ∙ sym (part-get p o n i 0 (omega arith)))
 
 -- ---- the block of a copy
 

@@ -10,6 +10,7 @@ use lib.ListN.{length, getD, drop, set, length-drop, length-map, drop-of-length-
 use lib.Seq.{drop-cons, getD-set-same, getD-set-other}
 use borrow.Author.Count.{below-more}
 use borrow.Author.Tests.{leb-true}
+use Rattle.list_laws.proofs.Ranges.{kept-set, kept-wide}
 use Rattle.list_laws.proofs.Lists.{drop-next}
 use Rattle.sheet_format.specs.Line.{Line, natural, gather, wordLines}
 use Rattle.sheet_format.specs.Cause.{Kind, question, saved, view, atom, row, other, kindAt, kind, rest, possible}
@@ -24,7 +25,6 @@ use Rattle.case_verdicts.specs.Tableau.{listed}
 use Rattle.case_verdicts.proofs.Sizes.{accepted-jobs}
 use Rattle.tableau_plan.specs.Plan.{rowAt, rowValues}
 use Rattle.tableau_plan.specs.Parts.{Accepted, Kept, Listed, unlisted, rowsFrom, RowNumbers, RowsDone}
-use Rattle.tableau_plan.proofs.Laws.{kept-set, kept-wide}
 use Rattle.tableau_plan.proofs.Rows.{kind-natural, not-view, not-row, rows-view, rows-row, rows-other, flatFrom, rows-walked, jobOf, views-all, view-jobs}
 
 -- ---- a row of at most four values

@@ -5,6 +5,7 @@ use mathlib.Core.List.{List, [], _∷_, _++_, map}
 use Prim.Native.Nat.{ℕ, zero, suc, _+_, _-_, _*_, _%_, _<_, _≤_}
 use lib.Dec.{eqb, ltb}
 use lib.ListN.{length, getD, drop}
+use Rattle.list_laws.specs.Kept as ranges
 use Rattle.sheet_format.specs.Line.{Line, natural}
 use Rattle.sheet_format.specs.Cause.{kind, rest, refusalOf}
 use Rattle.query_meaning.specs.Meaning.{value, Atom, Block, In}
@@ -19,10 +20,8 @@ abbrev pub Accepted : List Line → Type 0
 Accepted ls = refusalOf ls .number ≡ 0
 
 -- q is p but for the places from `from` to before `end`
-pub record Kept (p q : List ℕ) (from end : ℕ) : Type 0 where
-  pub same : length q ≡ length p
-  pub below : (y : ℕ) → y < from → getD q y 0 ≡ getD p y 0
-  pub above : (y : ℕ) → end ≤ y → getD q y 0 ≡ getD p y 0
+abbrev pub Kept : List ℕ → List ℕ → ℕ → ℕ → Type 0
+Kept p q from end = ranges.Kept 0 p q from end
 
 -- ---- the blocks
 

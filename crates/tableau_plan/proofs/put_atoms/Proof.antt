@@ -4,19 +4,20 @@ use Prim.Native.Nat.{_≤_, _-_, _+_}
 use native.Mathlib.Omega.{arith}
 use borrow.Author.Needs.{needs}
 use lib.ListN.{getD}
+use Rattle.list_laws.proofs.Ranges.{shifted, placed-none, placed-more, placed-all}
+use Rattle.list_laws.specs.Kept.{Filled}
 use Rattle.tableau_plan.specs.Parts.{placedNumber}
-use Rattle.tableau_plan.proofs.Laws.{Filled, filled-none, filled-more}
 use Rattle.tableau_plan.proofs.put_atoms.Statement.{statement}
 use Rattle.tableau_plan.proofs.put_atoms.Tie as tie
 
 abbrev Inv-loop : tie.InvT-loop
-Inv-loop p₀ copy from at n x₀ p x = (x ≤ n) × Filled p₀ p at n x (λ y. placedNumber copy y (getD p₀ (from + y) 0))
+Inv-loop p₀ copy from at n x₀ p x = (x ≤ n) × Filled 0 p₀ p at (at + x) (shifted at (λ y. placedNumber copy y (getD p₀ (from + y) 0)))
 
 abbrev μ-loop : tie.MeasureT-loop
 μ-loop p₀ copy from at n x₀ p x = n - x
 
 loop-holds : tie.Need-loop-holds Inv-loop μ-loop
-loop-holds c = (omega arith, filled-none (c .before .args .p .now) (c .before .args .at) (c .before .args .n) _)
+loop-holds c = (omega arith, placed-none (c .before .args .p .now) (c .before .args .at) _)
 
 add-placed : tie.Need-add-placed Inv-loop μ-loop
 add-placed c = search needs
@@ -50,13 +51,16 @@ loop-again c =
     let l = c .before .before .before .loop in
     let a = c .before .before .before .before .before .args in
     let k = l .inv .1 .kept .above (a .from + l .x) (omega arith) in
-    (omega arith, filled-more (a .p .now) (l .p) (a .at) (a .n) (l .x) (c .placed .result) (λ y. placedNumber (a .copy) y (getD (a .p .now) (a .from + y) 0)) (omega arith) (omega arith) (c .placed .ensures ∙ ap (placedNumber (a .copy) (l .x)) k) (l .inv .1))
+    (omega arith, placed-more (a .p .now) (l .p) (a .at) (l .x) (c .placed .result) (λ y. placedNumber (a .copy) y (getD (a .p .now) (a .from + y) 0)) (omega arith) (c .placed .ensures ∙ ap (placedNumber (a .copy) (l .x)) k) (l .inv .1))
 
 same-length : tie.Need-same-length Inv-loop μ-loop
 same-length c = c .before .loop .inv .1 .kept .same
 
 returns : tie.Need-returns Inv-loop μ-loop
-returns c = let l = c .before .loop in (l .inv .1 .kept, λ x h. l .inv .1 .each x (omega arith))
+returns c =
+    let l = c .before .loop in
+    let a = c .before .before .before .args in
+    placed-all (a .p .now) (l .p) (a .at) (l .x) (a .n) (λ y. placedNumber (a .copy) y (getD (a .p .now) (a .from + y) 0)) (omega arith) (l .inv .1)
 
 pub put-atoms-spec : {M : Type 1} → statement M
 put-atoms-spec =

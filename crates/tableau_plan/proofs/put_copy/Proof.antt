@@ -3,7 +3,7 @@ use Prim.Native.Nat.{_+_, _*_}
 use native.Mathlib.Omega.{arith}
 use lib.ListN.{getD}
 use borrow.Author.Needs.{needs}
-use Rattle.tableau_plan.proofs.Laws.{kept-none, kept-wide}
+use Rattle.list_laws.proofs.Ranges.{kept-none, kept-wide}
 use Rattle.tableau_plan.proofs.Copies.{copy-stored, copy-few}
 use Rattle.tableau_plan.proofs.put_copy.Statement.{statement}
 use Rattle.tableau_plan.proofs.put_copy.Tie as tie

@@ -1,21 +1,22 @@
 -- `plan::put_numbers` meets its contract. The loop's invariant: the first x numbers have been stored. Assumes nothing.
 use mathlib.Core.Path.{refl}
-use Prim.Native.Nat.{_≤_, _-_}
+use Prim.Native.Nat.{_≤_, _-_, _+_}
 use native.Mathlib.Omega.{arith}
 use borrow.Author.Needs.{needs}
 use lib.ListN.{getD}
-use Rattle.tableau_plan.proofs.Laws.{Filled, filled-none, filled-more}
+use Rattle.list_laws.proofs.Ranges.{shifted, placed-none, placed-more, placed-all}
+use Rattle.list_laws.specs.Kept.{Filled}
 use Rattle.tableau_plan.proofs.put_numbers.Statement.{statement}
 use Rattle.tableau_plan.proofs.put_numbers.Tie as tie
 
 abbrev Inv-loop : tie.InvT-loop
-Inv-loop p₀ at numbers x₀ p x = (x ≤ 34) × Filled p₀ p at 34 x (λ y. getD numbers y 0)
+Inv-loop p₀ at numbers x₀ p x = (x ≤ 34) × Filled 0 p₀ p at (at + x) (shifted at (λ y. getD numbers y 0))
 
 abbrev μ-loop : tie.MeasureT-loop
 μ-loop p₀ at numbers x₀ p x = 34 - x
 
 loop-holds : tie.Need-loop-holds Inv-loop μ-loop
-loop-holds c = (omega arith, filled-none (c .args .p .now) (c .args .at) 34 _)
+loop-holds c = (omega arith, placed-none (c .args .p .now) (c .args .at) _)
 
 mul-p : tie.Need-mul-p Inv-loop μ-loop
 mul-p c = search needs
@@ -42,13 +43,16 @@ loop-again : tie.Need-loop-again Inv-loop μ-loop
 loop-again c =
     let l = c .before .before .loop in
     let a = c .before .before .before .args in
-    (omega arith, filled-more (a .p .now) (l .p) (a .at) 34 (l .x) (getD (a .numbers .now) (l .x) 0) (λ y. getD (a .numbers .now) y 0) (omega arith) (omega arith) refl (l .inv .1))
+    (omega arith, placed-more (a .p .now) (l .p) (a .at) (l .x) (getD (a .numbers .now) (l .x) 0) (λ y. getD (a .numbers .now) y 0) (omega arith) refl (l .inv .1))
 
 same-length : tie.Need-same-length Inv-loop μ-loop
 same-length c = c .before .loop .inv .1 .kept .same
 
 returns : tie.Need-returns Inv-loop μ-loop
-returns c = let l = c .before .loop in (l .inv .1 .kept, λ x h. l .inv .1 .each x (omega arith))
+returns c =
+    let l = c .before .loop in
+    let a = c .before .before .args in
+    placed-all (a .p .now) (l .p) (a .at) (l .x) 34 (λ y. getD (a .numbers .now) y 0) (omega arith) (l .inv .1)
 
 pub put-numbers-spec : {M : Type 1} → statement M
 put-numbers-spec =

@@ -4,9 +4,9 @@ use Prim.Native.Nat.{_≤_, _-_, _/_}
 use native.Mathlib.Omega.{arith}
 use borrow.Author.Needs.{needs}
 use lib.ListN.{length}
+use Rattle.list_laws.proofs.Ranges.{kept-none, kept-more}
 use Rattle.sheet_format.specs.Line.{wordLines}
 use Rattle.tableau_plan.specs.Parts.{Accepted, Kept, RowsDone}
-use Rattle.tableau_plan.proofs.Laws.{kept-none, kept-more}
 use Rattle.tableau_plan.proofs.Taken.{done-start}
 use Rattle.tableau_plan.proofs.put_rows.Statement.{statement}
 use Rattle.tableau_plan.proofs.put_rows.Tie as tie

@@ -4,9 +4,9 @@ use Prim.Native.Nat.{_≤_, _-_, _+_}
 use native.Mathlib.Omega.{arith}
 use borrow.Author.Needs.{needs}
 use mathlib.Core.List.{List}
+use Rattle.list_laws.proofs.Ranges.{kept-none, kept-more}
 use Rattle.query_meaning.specs.Meaning.{Block}
 use Rattle.tableau_plan.specs.Parts.{Kept, Sources, TableauDone}
-use Rattle.tableau_plan.proofs.Laws.{kept-none, kept-more}
 use Rattle.tableau_plan.proofs.Copies.{sources-kept, copies-start}
 use Rattle.tableau_plan.proofs.put_tableau.Statement.{statement}
 use Rattle.tableau_plan.proofs.put_tableau.Tie as tie

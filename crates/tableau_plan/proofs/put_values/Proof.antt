@@ -3,20 +3,21 @@ use Prim.Native.Nat.{_≤_, _-_, _+_, _*_}
 use native.Mathlib.Omega.{arith}
 use borrow.Author.Needs.{needs}
 use lib.ListN.{getD}
-use Rattle.tableau_plan.proofs.Laws.{Filled, filled-none, filled-more}
 use lib.IntN.{pos}
+use Rattle.list_laws.proofs.Ranges.{shifted, placed-none, placed-more, placed-all}
+use Rattle.list_laws.specs.Kept.{Filled}
 use Rattle.sheet_format.specs.Line.{natural}
 use Rattle.tableau_plan.proofs.put_values.Statement.{statement}
 use Rattle.tableau_plan.proofs.put_values.Tie as tie
 
 abbrev Inv-loop : tie.InvT-loop
-Inv-loop ws i p₀ at c₀ p c = (c ≤ 4) × Filled p₀ p at 4 c (λ y. natural (getD ws (7 * i + 2 + y) (pos 0)))
+Inv-loop ws i p₀ at c₀ p c = (c ≤ 4) × Filled 0 p₀ p at (at + c) (shifted at (λ y. natural (getD ws (7 * i + 2 + y) (pos 0))))
 
 abbrev μ-loop : tie.MeasureT-loop
 μ-loop ws i p₀ at c₀ p c = 4 - c
 
 loop-holds : tie.Need-loop-holds Inv-loop μ-loop
-loop-holds c = (omega arith, filled-none (c .before .args .p .now) (c .before .args .at) 4 _)
+loop-holds c = (omega arith, placed-none (c .before .args .p .now) (c .before .args .at) _)
 
 mul-number-at : tie.Need-mul-number-at Inv-loop μ-loop
 mul-number-at c = search needs
@@ -49,13 +50,16 @@ loop-again : tie.Need-loop-again Inv-loop μ-loop
 loop-again c =
     let l = c .before .before .loop in
     let a = c .before .before .before .before .args in
-    (omega arith, filled-more (a .p .now) (l .p) (a .at) 4 (l .c) (c .number-at .result) (λ y. natural (getD (a .ws .now) (7 * a .i + 2 + y) (pos 0))) (omega arith) (omega arith) (c .number-at .ensures) (l .inv .1))
+    (omega arith, placed-more (a .p .now) (l .p) (a .at) (l .c) (c .number-at .result) (λ y. natural (getD (a .ws .now) (7 * a .i + 2 + y) (pos 0))) (omega arith) (c .number-at .ensures) (l .inv .1))
 
 same-length : tie.Need-same-length Inv-loop μ-loop
 same-length c = c .before .loop .inv .1 .kept .same
 
 returns : tie.Need-returns Inv-loop μ-loop
-returns c = let l = c .before .loop in (l .inv .1 .kept, λ x h. l .inv .1 .each x (omega arith))
+returns c =
+    let l = c .before .loop in
+    let a = c .before .before .before .args in
+    placed-all (a .p .now) (l .p) (a .at) (l .c) 4 (λ y. natural (getD (a .ws .now) (7 * a .i + 2 + y) (pos 0))) (omega arith) (l .inv .1)
 
 pub put-values-spec : {M : Type 1} → statement M
 put-values-spec =

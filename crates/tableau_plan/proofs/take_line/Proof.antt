@@ -2,9 +2,9 @@
 use mathlib.Core.Path.{sym, _∙_}
 use native.Mathlib.Omega.{arith}
 use borrow.Author.Needs.{needs}
+use Rattle.list_laws.proofs.Ranges.{kept-none}
 use Rattle.sheet_format.proofs.WordLines.{lines-length}
 use Rattle.sheet_format.specs.Line.{wordLines}
-use Rattle.tableau_plan.proofs.Laws.{kept-none}
 use Rattle.tableau_plan.proofs.Taken.{done-view, done-other, one-left, few-listed, kind-view, kind-row, kind-no-view, kind-no-row, row-kept, row-taken}
 use Rattle.tableau_plan.proofs.take_line.Statement.{statement}
 use Rattle.tableau_plan.proofs.take_line.Tie as tie
