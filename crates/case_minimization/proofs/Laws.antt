@@ -8,8 +8,9 @@ use native.Mathlib.Decide.{decLt}
 use borrow.Author.Count.{below-more}
 use borrow.Author.Tests.{lt-ltb, le-ltb}
 use lib.Dec.{ltb}
-use lib.ListN.{length, getD, take, drop, set, length-set, length-append, length-drop, List·getD-append}
-use lib.Seq.{getD-set-same, getD-set-other, ext-getD, getD-take, getD-drop, getD-append-add, length-take-le}
+use lib.ListN.{length, getD, take, drop, length-append, length-drop, List·getD-append}
+use lib.Seq.{ext-getD, getD-take, getD-drop, getD-append-add, length-take-le}
+use Rattle.list_laws.specs.Kept.{Filled}
 use Rattle.query_join.specs.Joins.{AtomMet, Given}
 use Rattle.tableau_plan.specs.Plan.{rowCount, blockNumbers, blockSize}
 use Rattle.tableau_parts.specs.Views.{NoStray, Missing, MissingBy}
@@ -145,82 +146,25 @@ same-front a b n la lb h =
     getD-take n a y 0 k ∙ h y k ∙ sym (getD-take n b y 0 k))
 
 -- the numbers from fact i to before place y have been moved down by five
-pub record Moved (xs ys : List ℕ) (i y : ℕ) : Type 0 where
-  pub size : length ys ≡ length xs
-  pub from : i * 5 ≤ y
-  pub below : (z : ℕ) → z < i * 5 → getD ys z 0 ≡ getD xs z 0
-  pub moved : (z : ℕ) → i * 5 ≤ z → z < y → getD ys z 0 ≡ getD xs (z + 5) 0
-  pub above : (z : ℕ) → y ≤ z → getD ys z 0 ≡ getD xs z 0
-
-pub moved-none : (xs : List ℕ) (i : ℕ) → Moved xs xs i (i * 5)
-moved-none xs i = record { size = refl; from = omega arith; below = λ z h. refl; moved = λ z h k. absurd (omega arith); above = λ z h. refl }
-
-pub moved-more : (xs ys : List ℕ) (i y : ℕ) → y < length xs → Moved xs ys i y → Moved xs (set ys y (getD ys (y + 5) 0)) i (y + 1)
-moved-more xs ys i y lt m = record {
-  size = length-set ys y v ∙ m .size;
-  from = let f = m .from in omega arith;
-  below = λ z h. getD-set-other ys y z v 0 (λ e. let f = m .from in absurd (omega arith)) ∙ m .below z h;
-  moved = λ z h k. go z h k (decLt z y);
-  above = λ z h. getD-set-other ys y z v 0 (λ e. absurd (omega arith)) ∙ m .above z (omega arith);
-}
-  where
-    v : ℕ
-    v = getD ys (y + 5) 0
-
-    go : (z : ℕ) → i * 5 ≤ z → z < y + 1 → Dec (z < y) → getD (set ys y v) z 0 ≡ getD xs (z + 5) 0
-    go z h k (yes b) = getD-set-other ys y z v 0 (λ e. absurd (omega arith)) ∙ m .moved z h b
-    go z h k (no b) =
-        let e : z ≡ y = omega arith in
-        subst (λ x. getD (set ys y v) x 0 ≡ getD xs (x + 5) 0) (sym e) (getD-set-same ys y v 0 (let s = m .size in omega arith) ∙ m .above (y + 5) (omega arith))
-
-pub moved-all : (xs ys : List ℕ) (n i y : ℕ) → i < n → n * 5 ≤ length xs → (n - 1) * 5 ≤ y → Moved xs ys i y → take ((n - 1) * 5) ys ≡ without (take (n * 5) xs) i
+pub moved-all : (xs ys : List ℕ) (n i y : ℕ) → i < n → n * 5 ≤ length xs → (n - 1) * 5 ≤ y → Filled 0 xs ys (i * 5) y (λ z. getD xs (z + 5) 0) → take ((n - 1) * 5) ys ≡ without (take (n * 5) xs) i
 moved-all xs ys n i y lt h k m =
     let t = length-take-le (n * 5) xs h in
-    let b = length-take-le ((n - 1) * 5) ys (let s = m .size in omega arith) in
+    let b = length-take-le ((n - 1) * 5) ys (let s = m .kept .same in omega arith) in
     ext-getD 0 (take ((n - 1) * 5) ys) (without (take (n * 5) xs) i) (b ∙ sym (length-without (take (n * 5) xs) n i t lt))
     (λ z g. go t z (omega arith) (decLt z (i * 5)))
   where
     go : length (take (n * 5) xs) ≡ n * 5 → (z : ℕ) → z < (n - 1) * 5 → Dec (z < i * 5) → getD (take ((n - 1) * 5) ys) z 0 ≡ getD (without (take (n * 5) xs) i) z 0
-    go t z g (yes q) = getD-take ((n - 1) * 5) ys z 0 g ∙ m .below z q ∙ sym (without-below (take (n * 5) xs) n i z t lt q ∙ getD-take (n * 5) xs z 0 (omega arith))
-    go t z g (no q) = getD-take ((n - 1) * 5) ys z 0 g ∙ m .moved z (omega arith) (omega arith) ∙ sym (without-above (take (n * 5) xs) n i z t lt (omega arith) ∙ getD-take (n * 5) xs (z + 5) 0 (omega arith))
+    go t z g (yes q) = getD-take ((n - 1) * 5) ys z 0 g ∙ m .kept .below z q ∙ sym (without-below (take (n * 5) xs) n i z t lt q ∙ getD-take (n * 5) xs z 0 (omega arith))
+    go t z g (no q) = getD-take ((n - 1) * 5) ys z 0 g ∙ m .each z (omega arith) (omega arith) ∙ sym (without-above (take (n * 5) xs) n i z t lt (omega arith) ∙ getD-take (n * 5) xs (z + 5) 0 (omega arith))
 
 -- ---- a fact put back
 
--- the numbers from place a to before place y are those of xs, and the others those of ys
-pub record Patched (xs ys zs : List ℕ) (a y : ℕ) : Type 0 where
-  pub size : length zs ≡ length ys
-  pub from : a ≤ y
-  pub inside : (z : ℕ) → a ≤ z → z < y → getD zs z 0 ≡ getD xs z 0
-  pub below : (z : ℕ) → z < a → getD zs z 0 ≡ getD ys z 0
-  pub above : (z : ℕ) → y ≤ z → getD zs z 0 ≡ getD ys z 0
-
-pub patched-none : (xs ys : List ℕ) (a : ℕ) → Patched xs ys ys a a
-patched-none xs ys a = record { size = refl; from = omega arith; inside = λ z h k. absurd (omega arith); below = λ z h. refl; above = λ z h. refl }
-
-pub patched-more : (xs ys zs : List ℕ) (a y : ℕ) → y < length ys → Patched xs ys zs a y → Patched xs ys (set zs y (getD xs y 0)) a (y + 1)
-patched-more xs ys zs a y lt m = record {
-  size = length-set zs y v ∙ m .size;
-  from = let f = m .from in omega arith;
-  inside = λ z h k. go z h (decLt z y) k;
-  below = λ z h. getD-set-other zs y z v 0 (λ e. let f = m .from in absurd (omega arith)) ∙ m .below z h;
-  above = λ z h. getD-set-other zs y z v 0 (λ e. absurd (omega arith)) ∙ m .above z (omega arith);
-}
-  where
-    v : ℕ
-    v = getD xs y 0
-
-    go : (z : ℕ) → a ≤ z → Dec (z < y) → z < y + 1 → getD (set zs y v) z 0 ≡ getD xs z 0
-    go z h (yes b) k = getD-set-other zs y z v 0 (λ e. absurd (omega arith)) ∙ m .inside z h b
-    go z h (no b) k =
-        let e : z ≡ y = omega arith in
-        subst (λ x. getD (set zs y v) x 0 ≡ getD xs x 0) (sym e) (getD-set-same zs y v 0 (let s = m .size in omega arith))
-
 -- where ys lacks fact i, it lacks the next one with fact i put back
-pub patched-all : (xs ys zs : List ℕ) (n i y : ℕ) → i + 1 < n → n * 5 ≤ length xs → n * 5 ≤ length ys → y ≡ i * 5 + 5 → Patched xs ys zs (i * 5) y
+pub patched-all : (xs ys zs : List ℕ) (n i y : ℕ) → i + 1 < n → n * 5 ≤ length xs → n * 5 ≤ length ys → y ≡ i * 5 + 5 → Filled 0 ys zs (i * 5) y (λ z. getD xs z 0)
     → take ((n - 1) * 5) ys ≡ without (take (n * 5) xs) i → take ((n - 1) * 5) zs ≡ without (take (n * 5) xs) (i + 1)
 patched-all xs ys zs n i y lt lx ly at m e =
     let t = length-take-le (n * 5) xs lx in
-    let b = length-take-le ((n - 1) * 5) zs (let s = m .size in omega arith) in
+    let b = length-take-le ((n - 1) * 5) zs (let s = m .kept .same in omega arith) in
     ext-getD 0 (take ((n - 1) * 5) zs) (without (take (n * 5) xs) (i + 1)) (b ∙ sym (length-without (take (n * 5) xs) n (i + 1) t lt))
     (λ z g. getD-take ((n - 1) * 5) zs z 0 (omega arith) ∙ go t z (omega arith) (decLt z (i * 5)) (decLt z y))
   where
@@ -228,9 +172,9 @@ patched-all xs ys zs n i y lt lx ly at m e =
     old z g = sym (getD-take ((n - 1) * 5) ys z 0 g) ∙ ap (λ l. getD l z 0) e
 
     go : length (take (n * 5) xs) ≡ n * 5 → (z : ℕ) → z < (n - 1) * 5 → Dec (z < i * 5) → Dec (z < y) → getD zs z 0 ≡ getD (without (take (n * 5) xs) (i + 1)) z 0
-    go t z g (yes q) w = m .below z q ∙ old z g ∙ without-below (take (n * 5) xs) n i z t (omega arith) q ∙ sym (without-below (take (n * 5) xs) n (i + 1) z t lt (omega arith))
-    go t z g (no q) (yes w) = m .inside z (omega arith) w ∙ sym (without-below (take (n * 5) xs) n (i + 1) z t lt (omega arith) ∙ getD-take (n * 5) xs z 0 (omega arith))
-    go t z g (no q) (no w) = m .above z (omega arith) ∙ old z g ∙ without-above (take (n * 5) xs) n i z t (omega arith) (omega arith) ∙ sym (without-above (take (n * 5) xs) n (i + 1) z t lt (omega arith))
+    go t z g (yes q) w = m .kept .below z q ∙ old z g ∙ without-below (take (n * 5) xs) n i z t (omega arith) q ∙ sym (without-below (take (n * 5) xs) n (i + 1) z t lt (omega arith))
+    go t z g (no q) (yes w) = m .each z (omega arith) w ∙ sym (without-below (take (n * 5) xs) n (i + 1) z t lt (omega arith) ∙ getD-take (n * 5) xs z 0 (omega arith))
+    go t z g (no q) (no w) = m .kept .above z (omega arith) ∙ old z g ∙ without-above (take (n * 5) xs) n i z t (omega arith) (omega arith) ∙ sym (without-above (take (n * 5) xs) n (i + 1) z t lt (omega arith))
 
 -- ---- facts tried
 

@@ -3,7 +3,7 @@ ghost use mathlib.Core.Path.{_≡_};
 ghost use mathlib.Core.Bool.{true, false};
 ghost use Prim.Native.Nat.{_≤_, _<_, min};
 ghost use Rattle.query_join.specs.Joins.{Safe, NextBy};
-ghost use Rattle.query_answers.specs.Answers.{Agree};
+ghost use Rattle.list_laws.specs.Order.{Agree};
 ghost use Rattle.tableau_parts.specs.Views.{GivenAt, MissingBy};
 ghost use Rattle.tableau_parts.specs.Walks.{Ready, room, CoveredAt, Onward};
 

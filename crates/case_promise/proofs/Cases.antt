@@ -7,11 +7,12 @@ use Prim.Native.Nat.{ℕ, _+_, _<_, min}
 use native.Mathlib.Omega.{arith}
 use lib.IntN.{pos}
 use lib.ListN.{length}
+use Rattle.list_laws.specs.Order.{_⊏_}
 use Rattle.sheet_format.specs.Relations.{columnsOf}
 use Rattle.query_meaning.specs.Meaning.{Fact, Log, Block, In, Answer}
 use Rattle.query_meaning.specs.Blocks.{View, nth}
 use Rattle.query_meaning.specs.Evaluate.{_≺_}
-use Rattle.query_join.specs.Joins.{Given, _⊏_}
+use Rattle.query_join.specs.Joins.{Given}
 use Rattle.query_encoding.specs.Numbers.{BlockNumbers, FactNumbers, Shaped, ShapedLog, padded}
 use Rattle.query_encoding.proofs.Bridge.{answer-given, given-answer, head-length}
 use Rattle.query_encoding.proofs.Order.{pad-more, pad-same}

@@ -8,10 +8,10 @@ use native.Mathlib.Omega.{arith}
 use lib.IntN.{pos}
 use lib.ListN.{length, getD, take, drop}
 use lib.Seq.{getD-take, length-take-le}
+use Rattle.list_laws.specs.Order.{_⊏_}
 use Rattle.sheet_format.specs.Relations.{relations, columnsOf}
 use Rattle.query_meaning.specs.Meaning.{Fact, Log, In, fact}
 use Rattle.query_meaning.specs.Facts.{factsRefusal, logOf, value-end}
-use Rattle.query_join.specs.Joins.{_⊏_}
 use Rattle.query_encoding.specs.Numbers as numbers
 use Rattle.query_encoding.specs.Numbers.{FactNumbers, ShapedLog, padded}
 use Rattle.query_encoding.proofs.Lists.{at-in, in-at}

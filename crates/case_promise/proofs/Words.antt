@@ -12,6 +12,9 @@ use lib.IntN.{ℤ, pos}
 use lib.ListN.{length, getD, take, drop, length-append, length-take, length-drop, length-map, List·getD-append, List·getD-eq-default, List·getD-map}
 use lib.Seq.{slice, length-slice, length-take-le, take-all, getD-take, getD-drop, getD-append-add, ext-getD}
 use borrow.Author.Tests.{lt-ltb, le-ltb, ltb-true, ltb-false, ne-eqb, eq-eqb}
+use Rattle.case_order.proofs.Laws.{number-at}
+use Rattle.list_laws.proofs.Order.{less-irrefl, less-trans}
+use Rattle.list_laws.specs.Order.{_⊏_}
 use Rattle.sheet_format.proofs.Lists.{all-index}
 use Rattle.sheet_format.specs.Cause.{above, none}
 use Rattle.sheet_format.specs.Line.{all, isZero, natural, null}
@@ -19,11 +22,9 @@ use Rattle.sheet_format.specs.Relations.{columnsOf}
 use Rattle.sheet_format.specs.declared.Refusal.{Refusal}
 use Rattle.query_meaning.specs.Meaning.{Fact, Log, In, fact}
 use Rattle.query_meaning.specs.Facts.{factByFact, factsIn, factsRefusal, isValue, logOf, value-end, wrongFact}
-use Rattle.query_join.specs.Joins.{_⊏_}
 use Rattle.query_encoding.specs.Numbers as numbers
 use Rattle.query_encoding.specs.Numbers.{FactNumbers, ShapedLog}
 use Rattle.query_encoding.proofs.Lists.{at-in, in-at}
-use Rattle.query_encoding.proofs.Order.{less-irrefl, less-trans}
 use Rattle.query_facts.proofs.Words.{not-either}
 use Rattle.query_facts.proofs.Laws.{count-right, fact-words, facts-length, logOf-length, numbers-read}
 use Rattle.case_verdicts.specs.Handed.{Distinct}
@@ -39,15 +40,7 @@ pub record FineFact (ns : List ℕ) (i : ℕ) : Type 0 where
 -- ---- the five numbers by their places
 
 column-number : (ns : List ℕ) (i c : ℕ) → c < 4 → getD (factAt ns i) (suc c) 0 ≡ getD ns (i * 5 + 1 + c) 0
-column-number ns i zero h = ap (λ k. getD ns k 0) (let e : i * 5 + 1 ≡ i * 5 + 1 + 0 = omega arith in e)
-column-number ns i (suc zero) h = ap (λ k. getD ns k 0) (let e : i * 5 + 2 ≡ i * 5 + 1 + 1 = omega arith in e)
-column-number ns i (suc (suc zero)) h = ap (λ k. getD ns k 0) (let e : i * 5 + 3 ≡ i * 5 + 1 + 2 = omega arith in e)
-column-number ns i (suc (suc (suc zero))) h = ap (λ k. getD ns k 0) (let e : i * 5 + 4 ≡ i * 5 + 1 + 3 = omega arith in e)
-column-number ns i (suc (suc (suc (suc c)))) h = absurd (omega arith)
-
-place-number : (ns : List ℕ) (i k : ℕ) → k < 5 → getD (factAt ns i) k 0 ≡ getD ns (i * 5 + k) 0
-place-number ns i zero h = ap (λ k. getD ns k 0) (sym (add-zero (i * 5)))
-place-number ns i (suc c) h = column-number ns i c (omega arith) ∙ ap (λ k. getD ns k 0) (let e : i * 5 + 1 + c ≡ i * 5 + suc c = omega arith in e)
+column-number ns i c h = number-at ns i (suc c) (omega arith) ∙ ap (λ k. getD ns k 0) (let e : i * 5 + suc c ≡ i * 5 + 1 + c = omega arith in e)
 
 pub same-five : (ns ms : List ℕ) (i j : ℕ) → getD ns (i * 5) 0 ≡ getD ms (j * 5) 0 → ((c : ℕ) → c < 4 → getD ns (i * 5 + 1 + c) 0 ≡ getD ms (j * 5 + 1 + c) 0) → factAt ns i ≡ factAt ms j
 same-five ns ms i j r v = ext-getD 0 (factAt ns i) (factAt ms j) refl go
@@ -239,7 +232,7 @@ words-at ms i h = fact-words (map pos ms) i h ∙ ext-getD (pos 0) (slice (5 * i
         ∙ getD-take (5 * i + 5) (map pos ms) (5 * i + k) (pos 0) (omega arith)
         ∙ word-number ms (5 * i + k)
         ∙ ap (λ n. pos (getD ms n 0)) e
-        ∙ ap pos (sym (place-number ms i k o))
+        ∙ ap pos (sym (number-at ms i k o))
         ∙ sym (word-number (factAt ms i) k)
 
 -- a fine fact's words are right

@@ -2,7 +2,7 @@
 use mathlib.Core.Path.{_≡_, refl, sym, ap, _∙_, subst}
 use mathlib.Core.Bool.{cond}
 use mathlib.Core.List.{List, [], _∷_}
-use mathlib.Core.Logic.{_⊎_, inl, inr, ⊎-elim}
+use mathlib.Core.Logic.{_⊎_, ⊎-elim}
 use Prim.Native.Nat.{ℕ, zero, suc, _+_, _-_, _*_, _/_, _<_, _≤_}
 use native.Mathlib.Omega.{arith}
 use native.Mathlib.Decide.{decLt}
@@ -11,10 +11,11 @@ use borrow.Author.Tests.{lt-ltb, le-ltb}
 use lib.Dec.{ltb}
 use lib.ListN.{length, getD, set, take, length-set, List·getD-eq-default}
 use lib.Seq.{getD-set-same, getD-set-other, getD-take, length-take-le}
+use Rattle.list_laws.specs.Order.{Agree}
 use Rattle.query_join.specs.Joins.{valueOf, Becomes, AtomMet, headRow, Given}
-use Rattle.query_answers.specs.Answers.{Agree, column}
+use Rattle.query_answers.specs.Answers.{column}
 use Rattle.query_answers.proofs.Laws.{value-variable, value-constant}
-use Rattle.query_answers.proofs.Rows.{given-column}
+use Rattle.query_answers.proofs.Rows.{given-column, head-at}
 use Rattle.query_containment.specs.Frozen.{Small, Plain, OwnValue, OwnValues, under, atomUnder, Fronted, FactPut, AtomsPut, Covered}
 
 -- ---- small numbers
@@ -155,13 +156,6 @@ module _ (q l facts row : List ℕ) (n ln k m : ℕ) (vals F : List ℕ) (plain 
           sym (thaw-term (g .val) (f .val) (getD l (30 + p) 0) (plain .list .all (30 + p)))
           ∙ ap (thaw (g .val)) (given-column l ln F (headRow (under vals) q) f p lt ∙ head-at q (under vals) p lt)
           ∙ thaw-question (30 + p)
-        where
-          head-at : (q : List ℕ) (v : ℕ → ℕ) (p : ℕ) → p < 4 → getD (headRow v q) p 0 ≡ column q v p
-          head-at q v zero lt = refl
-          head-at q v (suc zero) lt = refl
-          head-at q v (suc (suc zero)) lt = refl
-          head-at q v (suc (suc (suc zero))) lt = refl
-          head-at q v (suc (suc (suc (suc p)))) lt = absurd (omega arith)
 
 pub covers : (q l facts row : List ℕ) (n ln k m : ℕ) (vals F : List ℕ) → Plain q l facts row → k ≤ 4 → OwnValues q row k vals → Laid q vals n facts F m
     → Given l ln F (headRow (under vals) q) → Covered q n l ln facts row k

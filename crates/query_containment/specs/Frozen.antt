@@ -4,8 +4,8 @@ use mathlib.Core.List.{List, [], _∷_}
 use mathlib.Core.Logic.{_⊎_}
 use Prim.Native.Nat.{ℕ, _+_, _*_, _<_}
 use lib.ListN.{length, getD}
+use Rattle.list_laws.specs.Order.{Agree}
 use Rattle.query_join.specs.Joins.{valueOf, Becomes, Given}
-use Rattle.query_answers.specs.Answers.{Agree}
 
 -- each number is below the values that stand for variables
 pub record Small (s : List ℕ) : Type 0 where

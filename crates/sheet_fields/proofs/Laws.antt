@@ -14,6 +14,7 @@ use lib.Seq.{drop-cons, set-split, drop-at, length-take-le, take-take, take-set-
 use mir.Syntax.{w32}
 use mir.Val.{SFits}
 use borrow.Author.Tests.{ltb-true, ltb-false, lt-ltb, le-ltb, le-leb, lt-leb}
+use Rattle.sheet_format.proofs.FieldLaws.{blanks, lead-blank}
 use Rattle.sheet_format.proofs.Lists.{no-way}
 use Rattle.sheet_format.specs.Field.{digit, byte, run, minus, fieldOf, fieldAt, lead, decimal, fieldBytes}
 use Rattle.sheet_format.specs.declared.Digits.{Digits}
@@ -95,20 +96,9 @@ written b x (suc k) neg v le e = absurd (omega arith)
 
 -- ---- before the digits
 
-abbrev blanks : ℕ → List ℕ
-blanks k = replicate k 32
-
 take-blanks : (j : ℕ) → take j (blanks (suc j)) ≡ blanks j
 take-blanks zero = refl
 take-blanks (suc j) = ap (λ t. 32 ∷ t) (take-blanks j)
-
-blanks-last : (j : ℕ) → blanks (suc j) ≡ blanks j ++ (32 ∷ [])
-blanks-last zero = refl
-blanks-last (suc j) = ap (λ t. 32 ∷ t) (blanks-last j)
-
-lead-blank : (k : ℕ) → blanks k ≡ lead k false
-lead-blank zero = refl
-lead-blank (suc j) = blanks-last j
 
 blank-before : (b : List ℕ) (j : ℕ) → take (suc j) b ≡ blanks (suc j) → take j b ≡ blanks j
 blank-before b j e = sym (take-take j (suc j) b (omega arith)) ∙ ap (take j) e ∙ take-blanks j

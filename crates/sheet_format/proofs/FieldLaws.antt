@@ -18,7 +18,7 @@ use Rattle.sheet_format.specs.declared.Field.the-variants.{Number, Malfo
 
 -- ---- columns
 
-abbrev blanks : ℕ → List ℕ
+abbrev pub blanks : ℕ → List ℕ
 blanks k = replicate k 32
 
 one-more : (x : List ℕ) (b : ℕ) → length (x ++ (b ∷ [])) ≡ suc (length x)
@@ -45,7 +45,7 @@ blanks-last : (k : ℕ) → blanks k ++ (32 ∷ []) ≡ blanks (suc k)
 blanks-last zero = refl
 blanks-last (suc k) = ap (λ t. 32 ∷ t) (blanks-last k)
 
-lead-blank : (k : ℕ) → blanks k ≡ lead k false
+pub lead-blank : (k : ℕ) → blanks k ≡ lead k false
 lead-blank zero = refl
 lead-blank (suc k) = sym (blanks-last k)
 

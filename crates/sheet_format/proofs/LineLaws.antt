@@ -126,7 +126,7 @@ well-formed s e =
     }
 
 -- a line's fields are none where it is malformed
-line-by : (s : List ℕ) (t : Bool) → wellFormed s ≡ t → lineOf s ≡ cond t (map number (fieldsIn s)) []
+pub line-by : (s : List ℕ) (t : Bool) → wellFormed s ≡ t → lineOf s ≡ cond t (map number (fieldsIn s)) []
 unfolding lineOf
 line-by s t e = ap (λ b. cond b (map number (fieldsIn s)) []) e
 

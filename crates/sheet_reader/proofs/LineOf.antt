@@ -1,6 +1,6 @@
 -- A line's words, field by field.
 use mathlib.Core.Path.{_≡_, refl, sym, ap, _∙_}
-use mathlib.Core.Bool.{Bool, true, false, cond, _&&_}
+use mathlib.Core.Bool.{Bool, true, false, _&&_}
 use mathlib.Core.List.{List, [], _∷_, _++_, map, append-assoc}
 use Prim.Native.Nat.{ℕ, zero, suc, _+_, _-_, _*_, _/_, _%_, _<_, _≤_}
 use native.Mathlib.Omega.{arith}
@@ -10,6 +10,7 @@ use lib.Dec.{eqb, leb}
 use lib.IntN.{ℤ, pos}
 use lib.ListN.{length, take, drop, getD, set, replicate, length-drop, length-map}
 use lib.Seq.{set-at, take-nil, drop-drop, take-take, length-take-le}
+use Rattle.sheet_format.proofs.LineLaws.{line-by}
 use Rattle.sheet_format.specs.Limits.{field-bytes, most-fields}
 use Rattle.sheet_format.specs.Field.{fieldOf, fieldAt}
 use Rattle.sheet_format.specs.Line.{all, eights, isNumber, number, fieldsIn, wellFormed, lineOf, lineWords}
@@ -72,10 +73,6 @@ pub all-more : (t : List ℕ) (j : ℕ) (z : ℤ) → all isNumber (firsts t j) 
 all-more t j z h e = ap (all isNumber) (firsts-more t j) ∙ all-append isNumber (firsts t j) (fieldIn t j ∷ []) h (and-both (isNumber (fieldIn t j)) true (ap isNumber e) refl)
 
 -- ---- the whole line
-
-line-by : (s : List ℕ) (b : Bool) → wellFormed s ≡ b → lineOf s ≡ cond b (map number (fieldsIn s)) []
-unfolding lineOf
-line-by s b e = ap (λ x. cond x (map number (fieldsIn s)) []) e
 
 -- a malformed line has no field count and no fields
 pub line-none : (s : List ℕ) → wellFormed s ≡ false → replicate 7 (pos 0) ≡ lineWords (lineOf s)

@@ -9,6 +9,7 @@ use lib.Dec.{ltb}
 use lib.ListN.{length, getD, drop, length-drop, length-map, length-append, drop-of-length-le, List·getD-append}
 use lib.Seq.{drop-cons, drop-drop, drop-at, getD-drop}
 use borrow.Author.Tests.{ltb-true, ltb-false, eq-eqb, ne-eqb}
+use Rattle.query_encoding.proofs.Lists.{at-in}
 use Rattle.list_laws.proofs.Lists.{part-get}
 use Rattle.query_meaning.specs.Meaning.{Atom, Block}
 use Rattle.query_encoding.specs.Numbers.{number, termAt, atomAt, BlockNumbers}
@@ -16,7 +17,6 @@ use Rattle.case_verdicts.specs.Tableau.{copy}
 use Rattle.tableau_plan.specs.Plan.{blockNumbers, blockSize, slotValue}
 use Rattle.tableau_plan.specs.Parts.{Kept, slotOf, placedNumber, sourceOf, noBlock, Placed, unplaced, atomsFrom, Sources, PlacedNumbers, TableauDone}
 use Rattle.tableau_plan.proofs.Blocks.{numbers-same}
-use Rattle.tableau_plan.proofs.Rows.{at-in}
 use Rattle.tableau_plan.proofs.Tableau.{slot-value, term-fine}
 
 -- ---- blocks and rows that stay

@@ -9,6 +9,7 @@ use lib.Dec.{eqb, leb}
 use lib.IntN.{ℤ, pos, negsuc}
 use lib.ListN.{length, getD, drop}
 use borrow.Author.Tests.{eqb-true, leb-true, ne-eqb}
+use Rattle.query_encoding.proofs.Lists.{in-at}
 use Rattle.sheet_format.specs.Line.{Line, natural, gather}
 use Rattle.sheet_format.specs.Cause.{Kind, question, saved, view, atom, row, other, kindAt, kindOf, kind, rest, inPlace, start, nextBy, next, scan, atoms}
 use Rattle.sheet_format.specs.declared.Seen.{Seen}
@@ -210,18 +211,8 @@ in-flat v (w ∷ ws) (suc j) h r m =
     let e : suc v + j ≡ v + suc j = omega arith in
     in-right (listedAt (v + suc j) r) (map (λ r. record { view = v; row = r }) (w .rows)) (flatFrom (suc v) ws) (subst (λ u. In (listedAt u r) (flatFrom (suc v) ws)) e (in-flat (suc v) ws j (omega arith) r m))
 
--- an element has a place
-in-place : {A : Type 0} (d x : A) (l : List A) → In x l → (i : ℕ) × (i < length l) × (getD l i d ≡ x)
-in-place d x (y ∷ l) (inl e) = (0, omega arith, sym e)
-in-place d x (y ∷ l) (inr m) = let (i, h, e) = in-place d x l m in (suc i, omega arith, e)
-
-pub at-in : {A : Type 0} (d : A) (l : List A) (i : ℕ) → i < length l → In (getD l i d) l
-at-in d [] i h = absurd (omega arith)
-at-in d (y ∷ l) zero h = inl refl
-at-in d (y ∷ l) (suc i) h = inr (at-in d l i (omega arith))
-
 pub flat-place : (ws : List View) (j : ℕ) → j < length ws → (r : List ℕ) → In r (nth ws j .rows) → (i : ℕ) × (i < length (flatFrom 0 ws)) × (getD (flatFrom 0 ws) i unlisted ≡ record { view = j; row = r })
 unfolding listedAt
 flat-place ws j h r m =
     let e : 0 + j ≡ j = omega arith in
-    in-place unlisted (listedAt j r) (flatFrom 0 ws) (subst (λ u. In (listedAt u r) (flatFrom 0 ws)) e (in-flat 0 ws j h r m))
+    in-at unlisted (listedAt j r) (flatFrom 0 ws) (subst (λ u. In (listedAt u r) (flatFrom 0 ws)) e (in-flat 0 ws j h r m))

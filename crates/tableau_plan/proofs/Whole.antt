@@ -6,6 +6,7 @@ use Prim.Native.Nat.{ℕ, zero, suc, _+_, _-_, _*_, _<_, _≤_}
 use native.Mathlib.Omega.{arith}
 use lib.ListN.{length, getD, length-map, length-append}
 use lib.Seq.{getD-append-add}
+use Rattle.query_encoding.proofs.Lists.{at-in}
 use Rattle.sheet_format.specs.Line.{Line, gather}
 use Rattle.query_meaning.specs.Meaning.{con, Atom, Block, In}
 use Rattle.query_meaning.specs.Blocks.{View, blocks, nth, blockAt}
@@ -22,7 +23,7 @@ use Rattle.case_verdicts.proofs.Accepted.{accepted-sheet}
 use Rattle.tableau_plan.specs.Plan.{rowAt, rowValues, blockNumbers, blockSize, tableauSize, askedSize, rowCount, viewCount, tableauFacts, RowOf, Plan}
 use Rattle.tableau_plan.specs.Parts.{Accepted, Kept, Blocks, Listed, unlisted, rowsFrom, RowNumbers, RowsDone, sourceOf, noBlock, Placed, unplaced, atomsFrom, Sources, PlacedNumbers, TableauDone, Closed}
 use Rattle.tableau_plan.proofs.Blocks.{accepted-views, numbers-same}
-use Rattle.tableau_plan.proofs.Rows.{flatFrom, rows-walked, jobOf, views-all, view-jobs, OfView, flat-of, flat-place, at-in}
+use Rattle.tableau_plan.proofs.Rows.{flatFrom, rows-walked, jobOf, views-all, view-jobs, OfView, flat-of, flat-place}
 use Rattle.tableau_plan.proofs.Taken.{row-same, all-taken}
 use Rattle.tableau_plan.proofs.Tableau.{placed-facts, facts-placed, bare-placed}
 use Rattle.tableau_plan.proofs.Copies.{placed-same, copies-all}

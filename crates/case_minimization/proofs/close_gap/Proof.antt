@@ -1,13 +1,16 @@
 -- `shrink::close_gap` meets its contract. The loop's invariant: the numbers from fact i to before y are moved. The measure is what is left of them. Assumes nothing.
-use Prim.Native.Nat.{_≤_, _-_}
+use Prim.Native.Nat.{_≤_, _-_, _+_, _*_}
 use native.Mathlib.Omega.{arith}
 use borrow.Author.Needs.{needs}
-use Rattle.case_minimization.proofs.Laws.{Moved, moved-none, moved-more, moved-all}
+use lib.ListN.{getD}
+use Rattle.list_laws.proofs.Ranges.{filled-none, filled-more}
+use Rattle.list_laws.specs.Kept.{Filled}
+use Rattle.case_minimization.proofs.Laws.{moved-all}
 use Rattle.case_minimization.proofs.close_gap.Statement.{statement}
 use Rattle.case_minimization.proofs.close_gap.Tie as tie
 
 abbrev Inv-loop : tie.InvT-loop
-Inv-loop facts₀ n i end y₀ facts y = (y ≤ end) × Moved facts₀ facts i y
+Inv-loop facts₀ n i end y₀ facts y = (y ≤ end) × (i * 5 ≤ y) × Filled 0 facts₀ facts (i * 5) y (λ z. getD facts₀ (z + 5) 0)
 
 abbrev μ-loop : tie.MeasureT-loop
 μ-loop facts₀ n i end y₀ facts y = end - y
@@ -22,7 +25,7 @@ mul-y : tie.Need-mul-y Inv-loop μ-loop
 mul-y c = search needs
 
 loop-holds : tie.Need-loop-holds Inv-loop μ-loop
-loop-holds c = (omega arith, moved-none _ _)
+loop-holds c = (omega arith, omega arith, filled-none _ _ _)
 
 add-facts : tie.Need-add-facts Inv-loop μ-loop
 add-facts c = search needs
@@ -49,7 +52,7 @@ loop-again : tie.Need-loop-again Inv-loop μ-loop
 loop-again c =
     let l = c .before .before .loop in
     let a = c .before .before .before .args in
-    (omega arith, moved-more (a .facts .now) (l .facts) (a .i) (l .y) (omega arith) (l .inv .1))
+    (omega arith, omega arith, filled-more (a .facts .now) (l .facts) (a .i * 5) (l .y) (getD (l .facts) (l .y + 5) 0) (λ z. getD (a .facts .now) (z + 5) 0) (omega arith) (omega arith) (l .inv .2 .kept .above (l .y + 5) (omega arith)) (l .inv .2))
 
 same-length : tie.Need-same-length Inv-loop μ-loop
 same-length c = search needs
@@ -58,7 +61,7 @@ returns : tie.Need-returns Inv-loop μ-loop
 returns c =
     let l = c .before .loop in
     let a = c .before .before .args in
-    moved-all (a .facts .now) (l .facts) (a .n) (a .i) (l .y) (omega arith) (omega arith) (omega arith) (l .inv .1)
+    moved-all (a .facts .now) (l .facts) (a .n) (a .i) (l .y) (omega arith) (omega arith) (omega arith) (l .inv .2)
 
 pub close-gap-spec : {M : Type 1} → statement M
 close-gap-spec =

@@ -1,23 +1,23 @@
 -- `shrink::copy` meets its contract. The loop's invariant: the first y numbers are copied. The measure is what is left of them. Assumes nothing.
-use mathlib.Core.Path.{_≡_, _∙_}
-use Prim.Native.Nat.{ℕ, _≤_, _<_, _-_}
+use mathlib.Core.Path.{refl}
+use Prim.Native.Nat.{_≤_, _-_}
 use native.Mathlib.Omega.{arith}
-use borrow.Author.Count.{below-more}
 use borrow.Author.Needs.{needs}
-use lib.ListN.{length-set, length, getD}
-use lib.Seq.{getD-set-same, getD-set-other}
+use lib.ListN.{getD}
+use Rattle.list_laws.proofs.Ranges.{filled-none, filled-more}
+use Rattle.list_laws.specs.Kept.{Filled}
 use Rattle.case_minimization.proofs.Laws.{same-front}
 use Rattle.case_minimization.proofs.copy.Statement.{statement}
 use Rattle.case_minimization.proofs.copy.Tie as tie
 
 abbrev Inv-loop : tie.InvT-loop
-Inv-loop facts count out₀ y₀ out y = (length out ≡ length out₀) × (y ≤ count) × ((z : ℕ) → z < y → getD out z 0 ≡ getD facts z 0)
+Inv-loop facts count out₀ y₀ out y = (y ≤ count) × Filled 0 out₀ out 0 y (λ z. getD facts z 0)
 
 abbrev μ-loop : tie.MeasureT-loop
 μ-loop facts count out₀ y₀ out y = count - y
 
 loop-holds : tie.Need-loop-holds Inv-loop μ-loop
-loop-holds c = search needs
+loop-holds c = (omega arith, filled-none _ 0 _)
 
 mul-out : tie.Need-mul-out Inv-loop μ-loop
 mul-out c = search needs
@@ -40,8 +40,8 @@ loop-less c = search needs
 loop-again : tie.Need-loop-again Inv-loop μ-loop
 loop-again c =
     let l = c .before .before .loop in
-    let v = getD (c .before .before .before .args .facts .now) (l .y) 0 in
-    (simp length-set (l .inv .0), omega arith, below-more _ _ (λ z lt. getD-set-other (l .out) (l .y) z v 0 (λ e. absurd (omega arith)) ∙ l .inv .2 z lt) (getD-set-same (l .out) (l .y) v 0 (omega arith)))
+    let a = c .before .before .before .args in
+    (omega arith, filled-more (a .out .now) (l .out) 0 (l .y) (getD (a .facts .now) (l .y) 0) (λ z. getD (a .facts .now) z 0) (omega arith) (omega arith) refl (l .inv .1))
 
 same-length : tie.Need-same-length Inv-loop μ-loop
 same-length c = search needs
@@ -50,7 +50,7 @@ returns : tie.Need-returns Inv-loop μ-loop
 returns c =
     let l = c .before .loop in
     let a = c .before .before .args in
-    same-front (l .out) (a .facts .now) (a .count) (omega arith) (omega arith) (λ z h. l .inv .2 z (omega arith))
+    same-front (l .out) (a .facts .now) (a .count) (omega arith) (omega arith) (λ z h. l .inv .1 .each z (omega arith) (omega arith))
 
 pub copy-spec : {M : Type 1} → statement M
 copy-spec =

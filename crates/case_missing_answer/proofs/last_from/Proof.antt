@@ -1,11 +1,11 @@
 -- `missing::last_from` meets its contract. The loop's invariant: the columns before k are the row's. The measure is what is left of the columns. Assumes nothing.
-use Rattle.query_answers.specs.Answers.{Agree}
 use lib.ListN.{length-set, length}
 use lib.Seq.{getD-set-other}
 use mathlib.Core.Path.{_≡_, refl, sym, _∙_}
 use Prim.Native.Nat.{_≤_, _-_}
 use native.Mathlib.Omega.{arith}
 use borrow.Author.Needs.{needs}
+use Rattle.list_laws.specs.Order.{Agree}
 use Rattle.case_missing_answer.proofs.last_from.Statement.{statement}
 use Rattle.case_missing_answer.proofs.last_from.Tie as tie
 

@@ -1,8 +1,8 @@
 -- `views::below` meets its contract: the loop's invariant: the rows agree in the columns before k. The measure is what is left of the columns. Assumes nothing.
-use Rattle.query_answers.proofs.Rows.{agree-more}
-use Rattle.tableau_parts.proofs.Laws.{below-yes, below-no, below-same}
-use Rattle.query_answers.specs.Answers.{Agree}
-use mathlib.Core.Path.{_≡_, subst}
+use mathlib.Core.Logic.{inl, inr}
+use Rattle.list_laws.proofs.Order.{agree-more, agree-none, agree-sym, agree-all, order, not-below}
+use Rattle.list_laws.specs.Order.{Agree}
+use mathlib.Core.Path.{_≡_}
 use Prim.Native.Nat.{_≤_, _-_}
 use native.Mathlib.Omega.{arith}
 use borrow.Author.Needs.{needs}
@@ -17,7 +17,7 @@ abbrev μ-loop : tie.MeasureT-loop
 μ-loop t u k₀ k = 4 - k
 
 loop-holds : tie.Need-loop-holds Inv-loop μ-loop
-loop-holds c = (omega arith, record { same = λ q lt. absurd (omega arith) }, search needs, search needs)
+loop-holds c = (omega arith, agree-none (c .args .t1) (c .args .t2), search needs, search needs)
 
 mul-if1 : tie.Need-mul-if1 Inv-loop μ-loop
 mul-if1 c = search needs
@@ -35,7 +35,7 @@ returns : tie.Need-returns Inv-loop μ-loop
 returns c =
     let l = c .before .before in
     let s = l .before in
-    below-yes (s .args .t1) (s .args .t2) (l .loop .k) (search needs) (l .loop .inv .2) (l .loop .inv .3) (l .loop .inv .1) (c .if1 .taken)
+    order (l .loop .k) (s .args .t1) (s .args .t2) (omega arith) (omega arith) (l .loop .inv .1) (c .if1 .taken)
 
 mul-if2 : tie.Need-mul-if2 Inv-loop μ-loop
 mul-if2 c = search needs
@@ -53,7 +53,7 @@ returns-2 : tie.Need-returns-2 Inv-loop μ-loop
 returns-2 c =
     let l = c .before .before .before in
     let s = l .before in
-    below-no (s .args .t1) (s .args .t2) (l .loop .k) (l .loop .inv .1) (c .if2 .taken)
+    not-below (s .args .t1) (s .args .t2) (inr (order (l .loop .k) (s .args .t2) (s .args .t1) (omega arith) (omega arith) (agree-sym (l .loop .inv .1)) (c .if2 .taken)))
 
 add-k : tie.Need-add-k Inv-loop μ-loop
 add-k c = search needs
@@ -71,8 +71,7 @@ returns-3 : tie.Need-returns-3 Inv-loop μ-loop
 returns-3 c =
     let l = c .before in
     let s = l .before in
-    let e : l .loop .k ≡ 4 = omega arith in
-    below-same (s .args .t1) (s .args .t2) (l .loop .inv .2) (subst (λ k. Agree k (s .args .t1) (s .args .t2)) e (l .loop .inv .1))
+    not-below (s .args .t1) (s .args .t2) (inl (agree-all (l .loop .k) (s .args .t1) (s .args .t2) (omega arith) (omega arith) (l .loop .inv .1)))
 
 pub below-spec : {M : Type 1} → statement M
 below-spec =

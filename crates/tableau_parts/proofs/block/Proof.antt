@@ -1,20 +1,23 @@
 -- `views::block` meets its contract: the loop's invariant: the first i numbers are copied. The measure is what is left of them. Assumes nothing.
-use Rattle.tableau_parts.proofs.Laws.{Copied, copied-none, copied-more, copied-all}
-use mathlib.Core.Path.{_≡_, subst}
-use Prim.Native.Nat.{_-_}
+use Rattle.list_laws.specs.Kept.{Filled}
+use Rattle.list_laws.proofs.Lists.{part-is}
+use Rattle.list_laws.proofs.Ranges.{filled-none, filled-more}
+use mathlib.Core.Path.{_≡_, refl}
+use Prim.Native.Nat.{_≤_, _-_, _+_, _*_}
+use lib.ListN.{length, getD}
 use native.Mathlib.Omega.{arith}
 use borrow.Author.Needs.{needs}
 use Rattle.tableau_parts.proofs.block.Statement.{statement}
 use Rattle.tableau_parts.proofs.block.Tie as tie
 
 abbrev Inv-loop : tie.InvT-loop
-Inv-loop p b r₀ i₀ r i = Copied p b r i
+Inv-loop p b r₀ i₀ r i = (length r₀ ≡ 34) × (i ≤ 34) × Filled 0 r₀ r 0 i (λ k. getD p (830 + b * 34 + k) 0)
 
 abbrev μ-loop : tie.MeasureT-loop
 μ-loop p b r₀ i₀ r i = 34 - i
 
 loop-holds : tie.Need-loop-holds Inv-loop μ-loop
-loop-holds c = copied-none (c .args .p .now) (c .args .b) _ (search needs)
+loop-holds c = (search needs, omega arith, filled-none _ 0 _)
 
 mul-r : tie.Need-mul-r Inv-loop μ-loop
 mul-r c = search needs
@@ -45,17 +48,17 @@ loop-less c = search needs
 
 loop-again : tie.Need-loop-again Inv-loop μ-loop
 loop-again c =
-    let s = c .before .before .before in
-    let l = c .before .before in
-    copied-more (s .args .p .now) (s .args .b) (l .loop .r) (l .loop .i) (search needs) (l .loop .inv)
+    let l = c .before .before .loop in
+    let a = c .before .before .before .args in
+    (l .inv .0, omega arith, filled-more _ (l .r) 0 (l .i) (getD (a .p .now) (830 + a .b * 34 + l .i) 0) _ (omega arith) (omega arith) refl (l .inv .2))
 
 returns : tie.Need-returns Inv-loop μ-loop
 returns c =
-    let s = c .before .before in
-    let l = c .before in
+    let l = c .before .loop in
+    let a = c .before .before .args in
     λ size.
-    let e : l .loop .i ≡ 34 = let h = l .loop .inv .inside in omega arith in
-    copied-all (s .args .p .now) (s .args .b) (l .loop .r) size (search needs) (subst (Copied (s .args .p .now) (s .args .b) (l .loop .r)) e (l .loop .inv))
+    let n = l .inv .2 .kept .same in
+    part-is 0 (a .p .now) (l .r) (830 + a .b * 34) 34 (omega arith) (omega arith) (λ x lt. l .inv .2 .each x (omega arith) (omega arith))
 
 pub block-spec : {M : Type 1} → statement M
 block-spec =

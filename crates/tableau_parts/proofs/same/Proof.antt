@@ -1,8 +1,7 @@
 -- `views::same` meets its contract: the loop's invariant: the rows agree in the columns before k. The measure is what is left of the columns. Assumes nothing.
-use Rattle.tableau_parts.proofs.Laws.{same-yes}
-use Rattle.query_answers.specs.Answers.{Agree}
-use Rattle.query_answers.proofs.Rows.{agree-more}
-use mathlib.Core.Path.{_≡_, ap, subst}
+use Rattle.list_laws.proofs.Order.{agree-more, agree-none, agree-all}
+use Rattle.list_laws.specs.Order.{Agree}
+use mathlib.Core.Path.{_≡_, ap}
 use Prim.Native.Nat.{_≤_, _-_}
 use native.Mathlib.Omega.{arith}
 use borrow.Author.Needs.{needs}
@@ -17,7 +16,7 @@ abbrev μ-loop : tie.MeasureT-loop
 μ-loop t u k₀ k = 4 - k
 
 loop-holds : tie.Need-loop-holds Inv-loop μ-loop
-loop-holds c = (omega arith, record { same = λ q lt. absurd (omega arith) }, search needs, search needs)
+loop-holds c = (omega arith, agree-none (c .args .t1) (c .args .t2), search needs, search needs)
 
 mul-if1 : tie.Need-mul-if1 Inv-loop μ-loop
 mul-if1 c = search needs
@@ -50,8 +49,7 @@ returns-2 : tie.Need-returns-2 Inv-loop μ-loop
 returns-2 c =
     let l = c .before in
     let s = l .before in
-    let e : l .loop .k ≡ 4 = omega arith in
-    same-yes (s .args .t1) (s .args .t2) (l .loop .inv .2) (l .loop .inv .3) (subst (λ k. Agree k (s .args .t1) (s .args .t2)) e (l .loop .inv .1))
+    agree-all (l .loop .k) (s .args .t1) (s .args .t2) (omega arith) (omega arith) (l .loop .inv .1)
 
 pub same-spec : {M : Type 1} → statement M
 same-spec =
