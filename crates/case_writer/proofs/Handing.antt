@@ -8,6 +8,7 @@ use native.Mathlib.Omega.{arith}
 use lib.IntN.{ℤ, pos}
 use lib.ListN.{length, getD, take, drop, length-map}
 use lib.Seq.{length-take-le}
+use Rattle.list_laws.proofs.Lists.{inside}
 use Rattle.sheet_format.specs.Relations.{columnsOf}
 use Rattle.query_meaning.specs.Meaning.{Fact, Log, In}
 use Rattle.query_meaning.specs.Facts as facts
@@ -32,7 +33,6 @@ use Rattle.tableau_parts.specs.Walks as walks
 use Rattle.case_order.specs.Order.{factAt, Ordered}
 use Rattle.case_minimization.specs.Shrink.{IsCase, Shrunk}
 use Rattle.search_chase.specs.Parts.{Ready, Found}
-use Rattle.search_chase.proofs.Heads.{inside}
 use Rattle.search_chase.proofs.Node as node
 use Rattle.search_chase.proofs.Node.{ten-columns}
 use Rattle.search_chase.proofs.ReadyLaws.{ready-task}

@@ -7,6 +7,7 @@ use Prim.Native.Nat.{ℕ, zero, suc, _+_, _-_, _*_, _<_, _≤_}
 use native.Mathlib.Omega.{arith}
 use lib.Dec.{ltb}
 use lib.ListN.{length, getD, replicate, length-map}
+use Rattle.list_laws.proofs.Lists.{inside}
 use Rattle.query_meaning.specs.Meaning.{Term, con, var, Block, In, value, row}
 use Rattle.query_meaning.specs.Blocks.{View, nth}
 use Rattle.query_join.specs.Joins.{headRow}
@@ -29,7 +30,6 @@ use Rattle.search_state.specs.State.{made-up, Fresh, Constants, Equated, Equate
 use Rattle.search_state.specs.Parts.{Own}
 use Rattle.search_state.proofs.Laws.{own-free}
 use Rattle.search_chase.specs.Parts.{Ready, sheetBy, fromBy, Proper, Settled, Stood, Fitting, Heads, HeadsBy, Begins, SoughtBy, Found, FoundBy}
-use Rattle.search_chase.proofs.Heads.{inside}
 use Rattle.search_chase.proofs.Fresh.{proper-value, copy-small}
 use Rattle.search_chase.proofs.Node.{Task, nth-in, head-refuted, kept-row, fine-row}
 use Rattle.search_chase.proofs.ReadyLaws.{ready-task, ready-facts}

@@ -5,6 +5,7 @@ use mathlib.Core.Logic.{_⊎_, inl, inr, ⊎-elim}
 use Prim.Native.Nat.{ℕ, zero, suc, _+_, _-_, _*_, _<_, _≤_}
 use native.Mathlib.Omega.{arith}
 use lib.ListN.{length, getD, replicate, List·getD-eq-default}
+use Rattle.list_laws.proofs.Lists.{inside}
 use Rattle.query_meaning.specs.Meaning.{Term, con, var, Fact, Log, Atom, Block, In, value, row, factOf, Answer}
 use Rattle.query_encoding.specs.Numbers.{Shaped, padded}
 use Rattle.query_encoding.proofs.Lists.{in-map, map-in}
@@ -17,7 +18,6 @@ use Rattle.case_verdicts.specs.Words.{stateOf}
 use Rattle.case_verdicts.proofs.Tableau.{source, copy-block}
 use Rattle.search_state.specs.State.{Fresh, Constants, Equated}
 use Rattle.search_chase.specs.Parts.{Proper}
-use Rattle.search_chase.proofs.Heads.{inside}
 
 -- a word of the state
 pub proper-value : (ws : List ℕ) → Proper ws → (n : ℕ) → n < 533 → (v : ℕ) → v ≡ stateOf top ws n → (v < top) ⊎ ((top ≤ v) × (v < top + length ws) × (getD ws (v - top) 0 ≡ v))

@@ -8,6 +8,7 @@ use borrow.Author.Tests.{lt-ltb, le-ltb}
 use lib.Dec.{ltb}
 use lib.ListN.{length, getD, take, drop}
 use lib.Seq.{getD-take, getD-drop}
+use Rattle.list_laws.proofs.Lists.{inside}
 use Rattle.query_join.specs.Joins.{names, valueOf}
 use Rattle.case_verdicts.specs.Sheets.{top}
 use Rattle.case_verdicts.specs.Words.{stateOf}
@@ -16,15 +17,6 @@ use Rattle.tableau_plan.specs.Plan.{blockNumbers}
 -- a number of a block is a number of the plan
 pub block-at : (p : List ℕ) (b j : ℕ) → j < 34 → getD (blockNumbers p b) j 0 ≡ getD p (830 + b * 34 + j) 0
 block-at p b j lt = getD-take 34 (drop (830 + b * 34) p) j 0 lt ∙ getD-drop (830 + b * 34) p j 0
-
--- within the words the default says nothing
-pub inside : (ws : List ℕ) (i d e : ℕ) → i < length ws → getD ws i d ≡ getD ws i e
-inside ws i d e lt = go ws i lt
-  where
-    go : (l : List ℕ) (k : ℕ) → k < length l → getD l k d ≡ getD l k e
-    go List.[] k h = absurd (omega arith)
-    go (List._∷_ w l) zero h = refl
-    go (List._∷_ w l) (suc k) h = go l k (omega arith)
 
 module _ (p st : List ℕ) (b k c : ℕ) (size : length st ≡ 533) (copy : k < 41) (col : c < 4) where
   place : getD (blockNumbers p b) (30 + c) 0 ≡ getD p (830 + b * 34 + 30 + c) 0

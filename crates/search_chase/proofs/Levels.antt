@@ -8,6 +8,7 @@ use native.Mathlib.Omega.{arith}
 use borrow.Author.Count.{below-more}
 use borrow.Author.Tests.{lt-ltb, le-ltb}
 use lib.ListN.{length, getD, replicate, List·getD-eq-default}
+use Rattle.list_laws.proofs.Lists.{inside}
 use Rattle.query_meaning.specs.Meaning.{Block, In}
 use Rattle.query_meaning.specs.Blocks.{View, nth}
 use Rattle.query_encoding.specs.Numbers.{padded}
@@ -31,7 +32,6 @@ use Rattle.search_conflict.proofs.Jumps.{below-by, relaxed-plain, relaxed-const
 use Rattle.search_nogoods.specs.Strikes.{Forgot}
 use Rattle.search_learning.specs.Rows.{Unmarked, Learned}
 use Rattle.search_chase.specs.Parts.{Ready, sheetBy, Proper, Settled, NodeBy, Stood, Fitting, Found, Levelled, SameLevels, Lost, Opened, Taken, Passed, TakenBy, GivenTo, JumpsBy, turned, Tried, Failed, Going, Begins, SoughtBy, Strikes, RefutedAs}
-use Rattle.search_chase.proofs.Heads.{inside}
 use Rattle.search_chase.proofs.Node.{Task, nth-in, in-nth, meets-kept}
 use Rattle.search_chase.proofs.ReadyLaws.{ready-task}
 use Rattle.search_chase.proofs.Struck.{strikes-under, strikes-back, strikes-learned}

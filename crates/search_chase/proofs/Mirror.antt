@@ -8,6 +8,7 @@ use native.Mathlib.Omega.{arith}
 use borrow.Author.Tests.{eqb-true}
 use lib.Dec.{eqb}
 use lib.ListN.{length, getD, List·getD-eq-default}
+use Rattle.list_laws.proofs.Lists.{inside}
 use Rattle.query_meaning.specs.Meaning.{Term, con, var, Atom, Block, In, row}
 use Rattle.query_meaning.specs.Blocks.{View, nth}
 use Rattle.query_encoding.specs.Numbers.{BlockNumbers, Shaped, padded, number, termAt}
@@ -29,7 +30,7 @@ use Rattle.search_symmetry.specs.Mirrors.{exchanged, copyTo, Exchanges, RowTo, 
 use Rattle.search_symmetry.proofs.Symmetry.{Still, StillBlock, Turns, Symmetric, good-turned, map-twice, row-turned}
 use Rattle.search_chase.specs.Parts.{Ready, sheetBy, Proper}
 use Rattle.search_chase.proofs.Columns.{same-at, pad-at, map-at, map-length, met-at, at-met, at-in, row-at}
-use Rattle.search_chase.proofs.Heads.{block-at, inside}
+use Rattle.search_chase.proofs.Heads.{block-at}
 use Rattle.search_chase.proofs.Fresh.{copy-small}
 use Rattle.search_chase.proofs.Node.{nth-in, in-nth}
 use Rattle.search_chase.proofs.NodeLaws.{only-saved}

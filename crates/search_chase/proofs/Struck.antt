@@ -6,6 +6,7 @@ use mathlib.Core.Logic.{_⊎_, inl, inr, ⊎-elim}
 use Prim.Native.Nat.{ℕ, _+_, _-_, _*_, _<_, _≤_}
 use native.Mathlib.Omega.{arith}
 use lib.ListN.{length, getD}
+use Rattle.list_laws.proofs.Lists.{inside}
 use Rattle.query_meaning.specs.Meaning.{In}
 use Rattle.case_verdicts.specs.Verdict.{Sheet}
 use Rattle.case_verdicts.specs.Sheets.{top}
@@ -20,7 +21,6 @@ use Rattle.search_nogoods.specs.Strikes.{slotAt, valueAt, marksAt, countOf, Sam
 use Rattle.search_chase.specs.Parts.{Proper, Struck, Strikes}
 use Rattle.search_learning.specs.Rows.{Alone, Learned}
 use Rattle.search_chase.proofs.Columns.{met-at, at-met, at-in, row-at}
-use Rattle.search_chase.proofs.Heads.{inside}
 
 module _ (ws lv : List ℕ) (pr : Proper ws) where
   -- a slot that is not bound is not bound without choices either

@@ -12,12 +12,6 @@ use Rattle.case_verdicts.proofs.Decide.{same?, less?}
 use Rattle.search_choices.specs.Marks.{Within, MarksAdded, LastMarked}
 use Rattle.search_choices.proofs.Laws.{within-same, within-trans, within-set, set-there}
 
--- the default plays no part where there is a mark
-pub inside : (l : List Bool) (k : ℕ) (d e : Bool) → k < length l → getD l k d ≡ getD l k e
-inside [] k d e h = absurd (omega arith)
-inside (x ∷ l) zero d e h = refl
-inside (x ∷ l) (suc k) d e h = inside l k d e (omega arith)
-
 -- ---- the first n marks of others added
 
 pub record AddedTo (old others : List Bool) (skip : ℕ) (marks : List Bool) (n : ℕ) : Type 0 where

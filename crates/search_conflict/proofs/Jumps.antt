@@ -8,6 +8,7 @@ use native.Mathlib.Omega.{arith}
 use borrow.Author.Tests.{lt-ltb, le-ltb}
 use lib.Dec.{ltb}
 use lib.ListN.{length, getD, List·getD-eq-default}
+use Rattle.list_laws.proofs.Lists.{inside}
 use Rattle.query_meaning.specs.Meaning.{In}
 use Rattle.case_verdicts.specs.Verdict.{Sheet}
 use Rattle.case_verdicts.specs.Sheets.{top}
@@ -33,11 +34,6 @@ below-by s t plain same = record {
       (λ e. ap (λ b. cond b (s n) (t (s n - top))) (le-ltb (s n) top (omega arith)) ∙ ap t (let z : s n - top ≡ n = omega arith in z))
       (plain n);
 }
-
-inside : (ws : List ℕ) (i d e : ℕ) → i < length ws → getD ws i d ≡ getD ws i e
-inside [] i d e h = absurd (omega arith)
-inside (w ∷ ws) zero d e h = refl
-inside (w ∷ ws) (suc i) d e h = inside ws i d e (omega arith)
 
 module _ (ws lv : List ℕ) (size : length ws ≡ 533) (own : Owns ws) where
   state-plain : Plain (stateOf top ws)

@@ -8,6 +8,7 @@ use native.Mathlib.Omega.{arith}
 use borrow.Author.Tests.{lt-ltb, le-ltb}
 use lib.Dec.{ltb}
 use lib.ListN.{length, getD}
+use Rattle.list_laws.proofs.Lists.{inside}
 use Rattle.query_join.specs.Joins.{Becomes, AtomMet, AllMet, Given, headRow}
 use Rattle.case_verdicts.specs.Sheets.{top}
 use Rattle.case_verdicts.specs.Tableau.{State}
@@ -21,11 +22,6 @@ use Rattle.search_conflict.specs.Reasons.{kept, relaxed, Held, AtomHeld}
 -- each word is a constant, or the own made-up value of its slot
 abbrev pub Owns : List ℕ → Type 0
 Owns ws = (n : ℕ) → n < 533 → (getD ws n 0 < top) ⊎ (getD ws n 0 ≡ top + n)
-
-inside : (ws : List ℕ) (i d e : ℕ) → i < length ws → getD ws i d ≡ getD ws i e
-inside [] i d e h = absurd (omega arith)
-inside (w ∷ ws) zero d e h = refl
-inside (w ∷ ws) (suc i) d e h = inside ws i d e (omega arith)
 
 module _ (ws lv : List ℕ) (marks : List Bool) (size : length ws ≡ 533) (own : Owns ws) where
   -- a slot that is held has the same value

@@ -9,6 +9,7 @@ use native.Mathlib.Decide.{ℕ-discrete, decLt}
 use borrow.Author.Count.{below-more}
 use lib.ListN.{length, getD, set, drop, length-set, length-take, length-drop}
 use lib.Seq.{getD-set-same, getD-set-other, getD-take, getD-drop, ext-getD}
+use Rattle.list_laws.proofs.Lists.{inside}
 use Rattle.search_nogoods.specs.Strikes.{slotAt, valueAt, marksAt, countOf, SameEntry, Added, Forgot}
 use Rattle.search_nogoods.specs.Parts.{Copied, Moved, Free, Kept, FreeTo, NoneTo}
 
@@ -17,12 +18,6 @@ pub none-there : (sl : List ℕ) → getD sl 128 0 ≡ 0 → (e : ℕ) → e < c
 none-there sl z e lt = omega arith
 
 -- ---- marks
-
--- the default plays no part where there is a mark
-inside : (l : List Bool) (k : ℕ) (d e : Bool) → k < length l → getD l k d ≡ getD l k e
-inside [] k d e h = absurd (omega arith)
-inside (x ∷ l) zero d e h = refl
-inside (x ∷ l) (suc k) d e h = inside l k d e (omega arith)
 
 marks-length : (sm : List Bool) (e : ℕ) → length sm ≡ 4096 → e < 64 → length (marksAt sm e) ≡ 64
 marks-length sm e l lt = simp (length-take, length-drop) (omega arith)

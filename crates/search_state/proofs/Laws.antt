@@ -10,6 +10,7 @@ use lib.Dec.{ltb}
 use lib.ListN.{length, getD, set, drop, length-set, drop-of-length-le}
 use lib.Seq.{getD-set-same, getD-set-other, set-out, ext-getD, drop-cons}
 use borrow.Author.Tests.{lt-ltb, le-ltb}
+use Rattle.list_laws.proofs.Lists.{inside}
 use Rattle.query_meaning.specs.Meaning.{In}
 use Rattle.case_verdicts.specs.Sheets.{top}
 use Rattle.case_verdicts.specs.Search.{free, _≈_, equations, Unifier, Clash, replace, after}
@@ -21,12 +22,6 @@ use Rattle.search_state.specs.State.{made-up, Fresh, Constants}
 use Rattle.search_state.specs.Parts.{Own, FreshValue, freed, Joined, Apart, Others, MetBy, constant, again, new, unlike, outside, other}
 
 -- ---- lists
-
--- the default plays no part where there is a word
-pub inside : (ws : List ℕ) (i d e : ℕ) → i < length ws → getD ws i d ≡ getD ws i e
-inside [] i d e h = absurd (omega arith)
-inside (w ∷ ws) zero d e h = refl
-inside (w ∷ ws) (suc i) d e h = inside ws i d e (omega arith)
 
 pub in-drop : (v : ℕ) (c : ℕ) (u : List ℕ) → In v (drop c u) → In v u
 in-drop v zero u m = m

@@ -7,12 +7,12 @@ use native.Mathlib.Omega.{arith}
 use lib.ListN.{length, getD, take}
 use lib.Seq.{length-take-le, getD-take, ext-getD}
 use borrow.Author.Tests.{eq-eqb, ne-eqb, lt-ltb, le-ltb}
+use Rattle.list_laws.proofs.Lists.{inside}
 use Rattle.case_verdicts.specs.Tableau.{State}
 use Rattle.case_verdicts.specs.Sheets.{top}
 use Rattle.case_verdicts.specs.Words.{stateOf}
 use Rattle.tableau_plan.specs.Plan.{slotValue, slot-end, tableauFacts}
 use Rattle.search_state.specs.Parts.{numberAt}
-use Rattle.search_state.proofs.Laws.{inside}
 
 module _ (p : List ℕ) (s : State) where
   pub relation-number : (x : ℕ) → x % 5 ≡ 0 → getD p x 0 ≡ numberAt p s x

@@ -1,8 +1,8 @@
 use mathlib.Core.Path.{sym}
 use mathlib.Core.Bool.{true, false}
 use lib.ListN.{List·getD-eq-default}
-use Rattle.search_choices.proofs.Writes.{inside}
 use borrow.Author.Needs.{needs}
+use Rattle.list_laws.proofs.Lists.{inside}
 use Rattle.search_choices.proofs.is_marked.Statement.{statement}
 use Rattle.search_choices.proofs.is_marked.Tie as tie
 
