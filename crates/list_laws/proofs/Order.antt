@@ -81,20 +81,16 @@ differ (m ∷ l) (n ∷ r) (inr h) = later (differ l r (h .1))
 pub agree-all : (k : ℕ) (t u : List ℕ) → length t ≡ k → length u ≡ k → Agree k t u → t ≡ u
 agree-all k t u long long′ a = ext-getD 0 t u (long ∙ sym long′) (λ i lt. a .same i (omega arith))
 
+compare-first : (m n : ℕ) (l r : List ℕ) → Dec (m < n) → Dec (n < m) → (l ⊏ r) ⊎ ((l ≡ r) ⊎ (r ⊏ l)) → ((m ∷ l) ⊏ (n ∷ r)) ⊎ (((m ∷ l) ≡ (n ∷ r)) ⊎ ((n ∷ r) ⊏ (m ∷ l)))
+compare-first m n l r (yes lt) k o = inl (inl lt)
+compare-first m n l r (no h) (yes lt) o = inr (inr (inl lt))
+compare-first m n l r (no h) (no k) o =
+    let e : m ≡ n = omega arith in
+    ⊎-elim (λ x. inl (inr (e, x))) (⊎-elim (λ x. inr (inl (λ i. e i ∷ x i))) (λ x. inr (inr (inr (sym e, x))))) o
+
 -- of as many numbers, one is below the other or they are the same
 pub compare : (t u : List ℕ) → length t ≡ length u → (t ⊏ u) ⊎ ((t ≡ u) ⊎ (u ⊏ t))
-compare t u long = go t u long
-  where
-    first : (m n : ℕ) (l r : List ℕ) → Dec (m < n) → Dec (n < m) → (l ⊏ r) ⊎ ((l ≡ r) ⊎ (r ⊏ l))
-        → ((m ∷ l) ⊏ (n ∷ r)) ⊎ (((m ∷ l) ≡ (n ∷ r)) ⊎ ((n ∷ r) ⊏ (m ∷ l)))
-    first m n l r (yes lt) k o = inl (inl lt)
-    first m n l r (no h) (yes lt) o = inr (inr (inl lt))
-    first m n l r (no h) (no k) o =
-        let e : m ≡ n = omega arith in
-        ⊎-elim (λ x. inl (inr (e, x))) (⊎-elim (λ x. inr (inl (λ i. e i ∷ x i))) (λ x. inr (inr (inr (sym e, x))))) o
-
-    go : (t u : List ℕ) → length t ≡ length u → (t ⊏ u) ⊎ ((t ≡ u) ⊎ (u ⊏ t))
-    go [] [] e = inr (inl refl)
-    go [] (n ∷ u) e = absurd (omega arith)
-    go (m ∷ t) [] e = absurd (omega arith)
-    go (m ∷ t) (n ∷ u) e = first m n t u (decLt m n) (decLt n m) (go t u (omega arith))
+compare [] [] e = inr (inl refl)
+compare [] (n ∷ u) e = absurd (omega arith)
+compare (m ∷ t) [] e = absurd (omega arith)
+compare (m ∷ t) (n ∷ u) e = compare-first m n t u (decLt m n) (decLt n m) (compare t u (omega arith))

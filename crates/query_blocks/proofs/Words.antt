@@ -5,20 +5,15 @@ use mathlib.Core.List.{List, [], _∷_}
 use Prim.Native.Nat.{ℕ, suc, _+_, _-_, _*_, _/_, _<_}
 use native.Mathlib.Omega.{arith}
 use lib.IntN.{ℤ, pos}
-use lib.ListN.{length, take, drop, getD, length-take, length-drop}
-use lib.Seq.{getD-take, getD-drop}
+use lib.ListN.{length, take, drop, getD}
 use Rattle.sheet_format.proofs.KindLaws.{kind-first}
 use Rattle.sheet_format.proofs.WordLines.{line-get}
-use Rattle.list_laws.proofs.Lists.{padded-get}
-use Rattle.sheet_format.specs.Line.{Line, null, wordLine, wordLines, lineWords}
+use Rattle.sheet_format.proofs.WordLines as words
+use Rattle.list_laws.proofs.Lists.{part-get, part-length}
+use Rattle.sheet_format.specs.Line.{Line, null, wordLines}
 use Rattle.sheet_format.specs.Cause.{kindOf, kind, rest, second, terms}
-use Rattle.sheet_format.proofs.LineLaws.{word-shown}
 
 -- ---- a line's fields, the unused ones 0, are its words after the first
-
-line-words-get : (l : Line) (f : ℕ) → getD (lineWords l) (suc f) (pos 0) ≡ getD l f (pos 0)
-unfolding lineWords
-line-words-get l f = padded-get (pos 0) l (6 - length l) f
 
 -- field f of a well-formed line i is word 7 i + 1 + f
 pub field-word : (ws : List ℤ) (i : ℕ) → i < length ws / 7 → null (getD (wordLines ws) i []) ≡ false → (f : ℕ) → f < 6
@@ -26,14 +21,10 @@ pub field-word : (ws : List ℤ) (i : ℕ) → i < length ws / 7 → null (getD 
 field-word ws i lt h f few =
     let s = take 7 (drop (7 * i) ws) in
     let e = line-get ws i lt in
-    let n : length s ≡ 7 = simp (length-take, length-drop) (omega arith) in
-    let w = word-shown s n (ap null (sym e) ∙ h) in
     ap (λ l. getD l f (pos 0)) e
-    ∙ sym (line-words-get (wordLine s) f)
-    ∙ ap (λ l. getD l (suc f) (pos 0)) w
-    ∙ getD-take 7 (drop (7 * i) ws) (suc f) (pos 0) (omega arith)
-    ∙ getD-drop (7 * i) ws (suc f) (pos 0)
-    ∙ ap (λ k. getD ws k (pos 0)) (let q : 7 * i + suc f ≡ 7 * i + 1 + f = omega arith in q)
+    ∙ words.field-word s (part-length ws (7 * i) 7 (omega arith)) (ap null (sym e) ∙ h) f
+    ∙ part-get ws (7 * i) 7 (f + 1) (pos 0) (omega arith)
+    ∙ ap (λ k. getD ws k (pos 0)) (let q : 7 * i + (f + 1) ≡ 7 * i + 1 + f = omega arith in q)
 
 rest-get : (l : Line) (f : ℕ) → getD (rest l) f (pos 0) ≡ getD l (suc f) (pos 0)
 rest-get [] f = refl

@@ -5,20 +5,20 @@ use mathlib.Core.List.{List, [], _∷_}
 use Prim.Native.Nat.{ℕ, zero, suc, _+_, _≤_, _<_}
 use native.Mathlib.Omega.{arith}
 use native.Mathlib.Numerals.{add-one}
-use lib.Dec.{eqb, ltb, leb}
+use lib.Dec.{eqb, ltb}
 use lib.IntN.{ℤ, pos, negsuc}
 use lib.Signed.{ltZ}
-use lib.ListN.{length, take, drop, getD, set, length-take, length-drop, drop-of-length-le}
-use lib.Seq.{getD-take, getD-drop, take-suc-set, take-suc, take-all, take-take}
+use lib.ListN.{length, take, drop, getD, set, length-drop, drop-of-length-le}
+use lib.Seq.{getD-drop, take-suc-set, take-suc, take-all, take-take}
 use mir.Syntax.{w32}
 use mir.Val.{SFits, toZ, ofZ}
-use borrow.Author.Tests.{eq-eqb, ne-eqb, leb-true, ltb-false, le-ltb, lt-ltb, not-true}
+use borrow.Author.Tests.{eq-eqb, ne-eqb, ltb-false, le-ltb, lt-ltb, not-true}
+use Rattle.sheet_format.proofs.WordLines.{kind-word}
 use Rattle.sheet_format.proofs.ScanLaws.{lines-formed}
-use Rattle.sheet_format.proofs.KindLaws.{kind-first}
-use Rattle.sheet_format.proofs.Lists.{true-false, both}
+use Rattle.sheet_format.proofs.Lists.{both}
 use Rattle.list_laws.proofs.Words.{word-of}
 use Rattle.list_laws.proofs.Lists.{drop-next}
-use Rattle.sheet_format.specs.Line.{Line, all, null, natural, count, wellFormedWords, wordLine}
+use Rattle.sheet_format.specs.Line.{Line, all, null, wordLine}
 use Rattle.sheet_format.specs.Cause.{kindOf, kind, rest, terms, isHead, isAtom, atoms, same, occurs, bound, unsafe, refusal, none, heads, cause, next, stepOf, orAt, missing, start, scan, refusalOf}
 use Rattle.sheet_format.specs.declared.Refusal.{Refusal}
 use Rattle.sheet_format.specs.declared.Seen.{Seen}
@@ -48,69 +48,6 @@ formed-at {ls} f i h = go ls i (f .each) h
     go [] i e h = absurd (omega arith)
     go (l ∷ ls) zero e h = not-true _ (both _ _ e .0)
     go (l ∷ ls) (suc i) e h = go ls i (both (not (null l)) _ e .1) (omega arith)
-
--- ---- a well-formed line by its words
-
-pub record Fields (ws : List ℤ) (n : ℕ) : Type 0 where
-  pub word : getD ws 0 (pos 0) ≡ pos n
-  pub from-one : 1 ≤ n
-  pub to-six : n ≤ 6
-  pub line : wordLine ws ≡ take n (drop 1 ws)
-  pub counted : length (wordLine ws) ≡ n
-
-cond-false : {A : Type 0} (t : Bool) (l : List A) → null (cond t l []) ≡ false → t ≡ true
-cond-false true l e = refl
-cond-false false l e = true-false e
-
-pub fields : (ws : List ℤ) → length ws ≡ 7 → null (wordLine ws) ≡ false → (n : ℕ) × Fields ws n
-unfolding wordLine
-fields ws e f = go (getD ws 0 (pos 0)) refl
-  where
-    formed : wellFormedWords ws ≡ true
-    formed = cond-false (wellFormedWords ws) _ f
-
-    some : leb 1 (count ws) ≡ true
-    some = both (leb 1 (count ws)) _ formed .0
-
-    few : leb (count ws) 6 ≡ true
-    few = both (leb (count ws) 6) _ (both (leb 1 (count ws)) _ formed .1) .0
-
-    line : wordLine ws ≡ take (count ws) (drop 1 ws)
-    line = ap (λ t. cond t (take (count ws) (drop 1 ws)) []) formed
-
-    go : (z : ℤ) → getD ws 0 (pos 0) ≡ z → (n : ℕ) × Fields ws n
-    go (pos n) g =
-        let c : count ws ≡ n = ap natural g in
-        let p = leb-true 1 (count ws) some in
-        let q = leb-true (count ws) 6 few in
-        let w : wordLine ws ≡ take n (drop 1 ws) = line ∙ ap (λ k. take k (drop 1 ws)) c in (
-          n,
-          record {
-            word = g;
-            from-one = omega arith;
-            to-six = omega arith;
-            line = w;
-            counted = ap length w ∙ length-take n (drop 1 ws) ∙ (let d = length-drop 1 ws in omega arith);
-          },
-        )
-    go (negsuc n) g = true-false (sym (sym (ap (λ z. leb 1 (natural z)) g) ∙ some))
-
--- field j of a line is word j + 1
-pub field-word : (ws : List ℤ) → length ws ≡ 7 → null (wordLine ws) ≡ false → (j : ℕ) → j < length (wordLine ws) → getD (wordLine ws) j (pos 0) ≡ getD ws (j + 1) (pos 0)
-field-word ws e f j h =
-    let (n, g) = fields ws e f in
-    let k = g .counted in
-    ap (λ l. getD l j (pos 0)) (g .line)
-    ∙ getD-take n (drop 1 ws) j (pos 0) (omega arith)
-    ∙ getD-drop 1 ws j (pos 0)
-    ∙ ap (λ k. getD ws k (pos 0)) (let e : 1 + j ≡ j + 1 = omega arith in e)
-
-pub kind-word : (ws : List ℤ) → length ws ≡ 7 → null (wordLine ws) ≡ false → kind (wordLine ws) ≡ kindOf (getD ws 1 (pos 0))
-kind-word ws e f =
-    let (n, g) = fields ws e f in
-    let p = g .from-one in
-    let k = g .counted in
-    kind-first (wordLine ws) f ∙ ap kindOf (field-word ws e f 0 (omega arith))
 
 -- the kind of a line whose second word has the bits n
 pub kind-is : (ws : List ℤ) → length ws ≡ 7 → null (wordLine ws) ≡ false → (n : ℕ) → SFits w32 (getD ws 1 (pos 0)) → ofZ w32 (getD ws 1 (pos 0)) ≡ n

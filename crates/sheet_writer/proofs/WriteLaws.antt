@@ -7,15 +7,17 @@ use native.Mathlib.Omega.{arith}
 use native.Mathlib.Numerals.{add-one}
 use borrow.Author.Tests.{not-true}
 use lib.IntN.{ℤ, pos}
-use lib.ListN.{length, take, drop, getD, set, length-drop}
-use lib.Seq.{take-suc, take-length, getD-take, getD-drop, length-take-le}
+use lib.ListN.{length, take, drop, getD, set}
+use lib.Seq.{take-suc, take-length, length-take-le}
+use Rattle.list_laws.proofs.Lists.{part-get, part-length}
 use Rattle.sheet_format.proofs.WordLines.{sevens-get}
+use Rattle.sheet_format.proofs.WordLines as words
 use Rattle.sheet_format.specs.Field.{fieldBytes}
 use Rattle.sheet_format.specs.Line.{Line, all, gather, null, count, wordLine, sevens, wordLines, lineBytes, bytesOf}
 use Rattle.sheet_format.specs.Cause.{refusalOf}
 use Rattle.sheet_format.proofs.Lists.{append-nil, gather-append, all-at}
 use Rattle.sheet_format.proofs.Good.{Goods}
-use Rattle.sheet_format.proofs.LineLaws.{FormedWords, word-formed, natural-pos, sevens-good, sevens-length, bytes-size}
+use Rattle.sheet_format.proofs.LineLaws.{sevens-good, sevens-length, bytes-size}
 use Rattle.sheet_format.proofs.ScanLaws.{accepted-lines, accepted-length}
 use Rattle.list_laws.specs.Wrote.{Wrote}
 use Rattle.list_laws.proofs.Laws.{wrote-none, wrote-more, wrote-join}
@@ -23,55 +25,29 @@ use Rattle.list_laws.proofs.Laws.{wrote-none, wrote-more, wrote-join}
 abbrev pub sevenAt : List ℤ → ℕ → List ℤ
 sevenAt ws i = take 7 (drop (i * 7) ws)
 
-seven-at : (ws : List ℤ) (i j : ℕ) → j < 7 → getD (sevenAt ws i) j (pos 0) ≡ getD ws (i * 7 + j) (pos 0)
-seven-at ws i j lt = getD-take 7 (drop (i * 7) ws) j (pos 0) lt ∙ getD-drop (i * 7) ws j (pos 0)
-
 -- ---- one line that is not malformed
 
 module _ (ws : List ℤ) (i : ℕ) (fits : i * 7 + 7 ≤ length ws) (formed : null (wordLine (sevenAt ws i)) ≡ false) where
   seven-length : length (sevenAt ws i) ≡ 7
-  seven-length = length-take-le 7 (drop (i * 7) ws) (simp length-drop (omega arith))
-
-  facts : FormedWords (sevenAt ws i)
-  facts = word-formed (sevenAt ws i) formed .0
-
-  line-is : wordLine (sevenAt ws i) ≡ take (count (sevenAt ws i)) (drop 1 (sevenAt ws i))
-  line-is = word-formed (sevenAt ws i) formed .1
-
-  line-count : length (wordLine (sevenAt ws i)) ≡ count (sevenAt ws i)
-  line-count =
-      let f = facts .few in
-      let d : length (drop 1 (sevenAt ws i)) ≡ 6 = simp length-drop (let l = seven-length in omega arith) in
-      ap length line-is ∙ length-take-le (count (sevenAt ws i)) (drop 1 (sevenAt ws i)) (omega arith)
+  seven-length = part-length ws (i * 7) 7 fits
 
   -- the first word is the field count
   pub first-word : getD ws (i * 7) (pos 0) ≡ pos (length (wordLine (sevenAt ws i)))
   first-word =
-      let w = facts in
-      let n = line-count in
       ap (λ k. getD ws k (pos 0)) (let e : i * 7 ≡ i * 7 + 0 = omega arith in e)
-      ∙ sym (seven-at ws i 0 (omega arith))
-      ∙ natural-pos (getD (sevenAt ws i) 0 (pos 0)) (w .some)
-      ∙ ap pos (sym n)
+      ∙ sym (part-get ws (i * 7) 7 0 (pos 0) (omega arith))
+      ∙ words.first-word (sevenAt ws i) seven-length formed
 
   pub line-few : (1 ≤ length (wordLine (sevenAt ws i))) × (length (wordLine (sevenAt ws i)) ≤ 6)
-  line-few =
-      let w = facts in
-      let f = w .few in
-      let s = w .some in
-      let n = line-count in
-      (omega arith, omega arith)
+  line-few = words.line-few (sevenAt ws i) seven-length formed
 
   -- its fields stand after it
   pub field-word : (j : ℕ) → j < length (wordLine (sevenAt ws i)) → getD ws (i * 7 + 1 + j) (pos 0) ≡ getD (wordLine (sevenAt ws i)) j (pos 0)
   field-word j lt =
-      let f = facts .few in
-      let n = line-count in
-      sym (ap (λ x. getD x j (pos 0)) line-is
-      ∙ getD-take (count (sevenAt ws i)) (drop 1 (sevenAt ws i)) j (pos 0) (omega arith)
-      ∙ getD-drop 1 (sevenAt ws i) j (pos 0)
-      ∙ seven-at ws i (1 + j) (omega arith)
-      ∙ ap (λ k. getD ws k (pos 0)) (let e : i * 7 + (1 + j) ≡ i * 7 + 1 + j = omega arith in e))
+      let f = line-few in
+      sym (words.field-word (sevenAt ws i) seven-length formed j
+      ∙ part-get ws (i * 7) 7 (j + 1) (pos 0) (omega arith)
+      ∙ ap (λ k. getD ws k (pos 0)) (let e : i * 7 + (j + 1) ≡ i * 7 + 1 + j = omega arith in e))
 
 -- ---- its bytes, field by field
 

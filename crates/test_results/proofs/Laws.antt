@@ -19,8 +19,3 @@ turned (negsuc n) e f = (n, (let h = ltb-false 2147483646 n f in omega arith), a
 pub least-size : (z : ℤ) → SFits w32 z → ltZ z (negsuc 2147483646) ≡ true → natAbs z ≡ 2147483648
 least-size (pos n) h e = let z : _≡_ {A = ℕ} 0 1 = cc in absurd (omega arith)
 least-size (negsuc n) h e = let a = ltb-true 2147483646 n e in let b : n < 2147483648 = h .sfits in omega arith
-
--- a word not below 0
-pub natural : (z : ℤ) → SFits w32 z → ltZ z (pos 0) ≡ false → (n : ℕ) × (n < 2147483648) × (z ≡ pos n)
-natural (pos n) h e = (n, h .sfits, refl)
-natural (negsuc n) h e = let z : _≡_ {A = ℕ} 0 1 = cc in absurd (omega arith)

@@ -7,11 +7,11 @@ use mathlib.Core.Bool.{false}
 use lib.IntN.{pos}
 use lib.ListN.{length, getD, drop}
 use borrow.Author.Tests.{not-true, not-false}
-use Rattle.sheet_format.proofs.WordLines.{lines-length}
+use Rattle.sheet_format.proofs.WordLines.{lines-length, field-word}
 use Rattle.list_laws.proofs.Words.{word-back}
 use Rattle.sheet_format.specs.Line.{all, null, wordLine, wordLines}
 use Rattle.sheet_format.specs.Cause.{atoms, rest, bound}
-use Rattle.sheet_causes.proofs.Laws.{formed-at, field-word, all-off, all-on, all-end, all-rest}
+use Rattle.sheet_causes.proofs.Laws.{formed-at, all-off, all-on, all-end, all-rest}
 use Rattle.sheet_causes.proofs.all_bound.Statement.{statement}
 use Rattle.sheet_causes.proofs.all_bound.Tie as tie
 
@@ -59,9 +59,8 @@ told : (c : tie.After-is-bound Inv-loop μ-loop)
 told c =
     let d = c .before .before .before .before .before in
     let l = c .before .before .before .loop in
-    let n = c .before .before .before .before .count .ensures .0 in
     let h = word-back (d .line-at .result) (l .j + 1) (c .before .is-bound-arg .given) in
-    (rw h at (c .is-bound .ensures)) ∙ ap (bound (atoms (drop (d .before .args .i + 1) (wordLines (d .before .args .ws .now))))) (sym (field-word (d .line-at .result) (d .line-at .ok .1 .0 .1) (formed d) (l .j) (omega arith)))
+    (rw h at (c .is-bound .ensures)) ∙ ap (bound (atoms (drop (d .before .args .i + 1) (wordLines (d .before .args .ws .now))))) (sym (field-word (d .line-at .result) (d .line-at .ok .1 .0 .1) (formed d) (l .j)))
 
 returns : tie.Need-returns Inv-loop μ-loop
 returns c =

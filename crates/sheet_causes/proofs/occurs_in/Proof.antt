@@ -7,10 +7,11 @@ use lib.IntN.{pos}
 use mir.Syntax.{w32}
 use mir.Val.{toZ, ofZ}
 use lib.ListN.{getD, drop}
+use Rattle.sheet_format.proofs.WordLines.{field-word}
 use Rattle.list_laws.proofs.Words.{back, of-bits}
 use Rattle.sheet_format.specs.Line.{wordLine}
 use Rattle.sheet_format.specs.Cause.{occurs, terms}
-use Rattle.sheet_causes.proofs.Laws.{field-word, terms-drop, occurs-here, occurs-on, occurs-end}
+use Rattle.sheet_causes.proofs.Laws.{terms-drop, occurs-here, occurs-on, occurs-end}
 use Rattle.sheet_causes.proofs.occurs_in.Statement.{statement}
 use Rattle.sheet_causes.proofs.occurs_in.Tie as tie
 
@@ -40,7 +41,7 @@ returns c =
     let s = c .before .before .before .before .before in
     let l = c .before .before .before .loop in
     let n = c .before .before .before .before .count .ensures .0 in
-    let w = field-word (s .args .t1) (s .good .0 .1 .0 .1) (s .pre) (l .j) (omega arith) in
+    let w = field-word (s .args .t1) (s .good .0 .1 .0 .1) (s .pre) (l .j) in
     let h = of-bits (record { sfits = c .before .if12 .given }) (s .fits .z) (c .if1 .taken) in
     sym (occurs-here (s .args .z) (wordLine (s .args .t1)) (l .j) (omega arith) (w ∙ h)) ∙ (rw (back (s .fits .z)) at (l .inv .1))
 
@@ -55,7 +56,7 @@ loop-again c =
     let s = c .before .before .before .before .before in
     let l = c .before .before .before .loop in
     let n = c .before .before .before .before .count .ensures .0 in
-    let w = field-word (s .args .t1) (s .good .0 .1 .0 .1) (s .pre) (l .j) (omega arith) in
+    let w = field-word (s .args .t1) (s .good .0 .1 .0 .1) (s .pre) (l .j) in
     let h : (getD (wordLine (s .args .t1)) (l .j) (pos 0) ≡ s .args .z → ⊥) = λ e. c .if1 .left (ap (ofZ w32) (sym w ∙ e)) in
     (omega arith, rw (back (s .fits .z)) (occurs-on (s .args .z) (wordLine (s .args .t1)) (l .j) (omega arith) h ∙ (rw (back (s .fits .z)) at (l .inv .1))))
 

@@ -4,7 +4,8 @@ use Prim.Native.Nat.{ℕ, suc, _<_}
 use native.Mathlib.Omega.{arith}
 use lib.IntN.{pos, _-ℤ_, natAbs}
 use mir.ValLaws.{toZ-ofZ, toZ-pos}
-use Rattle.test_results.proofs.Laws.{turned, natural, least-size}
+use Rattle.list_laws.proofs.Words.{natural}
+use Rattle.test_results.proofs.Laws.{turned, least-size}
 use mir.Syntax.{w32}
 use mir.Val.{SFits}
 use Rattle.test_results.proofs.size.Statement.{statement}
