@@ -2,7 +2,7 @@
 use libc::STDIN_FILENO;
 use libc::STDOUT_FILENO;
 use text_reader::MOST_TEXT;
-use text_to_sheet::SPOKEN_BYTES;
+use text_writer::TEXT_ROOM;
 
 // What is read: one byte more than a text may have, so that a longer one is refused.
 const READ: usize = MOST_TEXT + 1;
@@ -14,7 +14,7 @@ fn main() {
 }
 
 fn print(given: &[u8]) {
-    let mut words = [0u8; SPOKEN_BYTES];
+    let mut words = [0u8; TEXT_ROOM];
     let n = text_answer::answer(given, &mut words);
     if n <= words.len() {
         io::write_all(STDOUT_FILENO, &words[0..n]);

@@ -5,7 +5,7 @@ use libc::STDOUT_FILENO;
 use sheet_format::MOST_BYTES;
 use text_reader::MOST_TEXT;
 use text_to_sheet::Made;
-use text_to_sheet::SPOKEN_BYTES;
+use text_writer::TEXT_ROOM;
 
 // What is read: one byte more than a text may have, so that a longer one is refused.
 const READ: usize = MOST_TEXT + 1;
@@ -29,7 +29,7 @@ fn print(given: &[u8]) {
 }
 
 fn complain(made: Made) {
-    let mut words = [0u8; SPOKEN_BYTES];
+    let mut words = [0u8; TEXT_ROOM];
     let n = text_message::message(made, &mut words);
     if n <= words.len() {
         io::write_all(STDERR_FILENO, &words[0..n]);

@@ -9,15 +9,14 @@ use libc::STDOUT_FILENO;
 use sheet_format::Ending;
 use sheet_format::MOST_BYTES;
 use text_calls::Made;
-use text_calls::SPOKEN_BYTES;
-use text_calls::TEXT_BYTES;
+use text_calls::TEXT_ROOM;
 ghost use Prim.Native.Nat.{_≤_};
 ghost use lib.ListN.{length};
 
 // The bytes of a case at most, and of its result: the name, what is said in words, a text, and a few marks.
 const LINE: usize = 8192;
 
-const ROOM: usize = LINE + SPOKEN_BYTES + TEXT_BYTES + 16;
+const ROOM: usize = LINE + TEXT_ROOM + TEXT_ROOM + 16;
 
 // Runs every case: the count is one that no input reaches.
 fn main() {
@@ -73,7 +72,7 @@ fn run(case: &[u8], out: &mut [u8]) -> usize {
 }
 
 fn run_given(given: &[u8], out: &mut [u8], at: usize) -> usize {
-    let mut words = [0u8; SPOKEN_BYTES];
+    let mut words = [0u8; TEXT_ROOM];
     let n = text_calls::answer(given, &mut words);
     let end = put_part(out, at, &words, n);
     run_text(given, out, end)
@@ -93,7 +92,7 @@ fn run_text(given: &[u8], out: &mut [u8], at: usize) -> usize {
 
 // The text of a sheet, and whether it has the same sheet.
 fn run_back(sheet: &[u8], out: &mut [u8], at: usize) -> usize {
-    let mut back = [0u8; TEXT_BYTES];
+    let mut back = [0u8; TEXT_ROOM];
     let Ending::Done(n) = text_calls::text_of(sheet, &mut back) else {
         return at;
     };

@@ -1,28 +1,35 @@
 -- What the calls on texts give, as what this crate's contract says.
-use mathlib.Core.Path.{_≡_, subst}
+use mathlib.Core.Path.{_≡_, sym, subst}
+use mathlib.Core.Bool.{true}
 use mathlib.Core.List.{List}
-use mathlib.Core.Logic.{_⊎_, inl, inr, ⊎-elim}
-use Prim.Native.Nat.{ℕ, _-_, _≤_, _<_}
+use mathlib.Core.Logic.{inr}
+use Prim.Native.Nat.{ℕ, _-_, _≤_}
 use native.Mathlib.Omega.{arith}
-use lib.ListN.{length, take}
-use Rattle.sheet_format.specs.Sheet.{sheetRefusal}
-use Rattle.text_to_sheet.specs.Texts.{Written, Silent, Worded, at-line, refused, Told}
+use lib.ListN.{length, take, replicate}
+use Rattle.sheet_format.specs.Limits.{most-bytes}
+use Rattle.text_begins.specs.Begins.{isText}
+use Rattle.text_writer.specs.Says.{Says}
+use Rattle.text_to_sheet.specs.Texts.{Written}
 use Rattle.text_to_sheet.specs.declared.Made.{Made}
-use Rattle.text_to_sheet.specs.declared.Made.the-variants as made
+use Rattle.text_to_sheet.specs.declared.Made.the-variants.{Sheet, Expected, Refused}
+use Rattle.text_message.specs.Message.{messageBytes}
+use Rattle.text_verdict.specs.Verdict.{Verdict}
+use Rattle.text_answer.specs.Answered.{Replied, Answered}
 
-pub sheet-fits : (m : Made) (n : ℕ) (old new : List ℕ) → Written old new m → m ≡ made.Sheet n → n ≤ length new
+pub sheet-fits : (m : Made) (n : ℕ) (old new : List ℕ) → Written old new m → m ≡ Sheet n → n ≤ length new
 sheet-fits m n old new w e = subst (Written old new) e w .fits
 
--- the sheet as the part of the bytes that is handed on
-pub sheet-accepted : (m : Made) (n : ℕ) (old new : List ℕ) → Written old new m → m ≡ made.Sheet n → sheetRefusal (take (n - 0) new) .number ≡ 0
-sheet-accepted m n old new w e = subst (λ k. sheetRefusal (take k new) .number ≡ 0) (let z : n ≡ n - 0 = omega arith in z) (subst (Written old new) e w .accepted)
+module _ (given : List ℕ) (is : isText given ≡ true) (m : Made) (sheet : List ℕ) (written : Written (replicate most-bytes 0) sheet m) (old new : List ℕ) (r : ℕ) where
+  replied : Replied m sheet old new r → Answered given old new r
+  replied d = inr (record { is = is; made = m; sheet = sheet; written = written; reply = d })
 
--- what a text without a sheet is told
-abbrev Why : List ℕ → List ℕ → ℕ → Type 0
-Why old new r = ((length old < 8192) × Silent old new r) ⊎ (Worded old new r at-line ⊎ Worded old new r refused)
+  pub judged : (n : ℕ) → m ≡ Sheet n → Verdict (take (n - 0) sheet) old new r → Answered given old new r
+  judged n e v =
+      let z : n - 0 ≡ n = omega arith in
+      replied (subst (λ x. Replied x sheet old new r) (sym e) (subst (λ k. Verdict (take k sheet) old new r) z v))
 
-pub why-expected : (m : Made) (l w k : ℕ) (old new : List ℕ) (r : ℕ) → Told m old new r → m ≡ made.Expected l w k → Why old new r
-why-expected m l w k old new r t e = ⊎-elim inl (λ d. inr (inl d)) (subst (λ x. Told x old new r) e t)
+  pub expected : (l w k : ℕ) → m ≡ Expected l w k → Says (messageBytes m) old new r → Answered given old new r
+  expected l w k e d = replied (subst (λ x. Replied x sheet old new r) (sym e) (subst (λ x. Says (messageBytes x) old new r) e d))
 
-pub why-refused : (m : Made) (c l t : ℕ) (old new : List ℕ) (r : ℕ) → Told m old new r → m ≡ made.Refused c l t → Why old new r
-why-refused m c l t old new r h e = ⊎-elim inl (λ d. inr (inr d)) (subst (λ x. Told x old new r) e h)
+  pub refused : (c l t : ℕ) → m ≡ Refused c l t → Says (messageBytes m) old new r → Answered given old new r
+  refused c l t e d = replied (subst (λ x. Replied x sheet old new r) (sym e) (subst (λ x. Says (messageBytes x) old new r) e d))

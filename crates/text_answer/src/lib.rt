@@ -4,7 +4,7 @@ use text_message::message;
 use text_to_sheet::Made;
 use text_to_sheet::sheet_of;
 use text_verdict::verdict;
-ghost use Rattle.text_to_sheet.specs.Texts.{Answered};
+ghost use Rattle.text_answer.specs.Answered.{Answered};
 
 // Says in words what comes of a sheet or a text: its verdict, or why there is none.
 pub fn answer(given: &[u8], out: &mut [u8]) -> usize

@@ -11,7 +11,6 @@ pub use text_answer::answer;
 pub use text_from_sheet::text_of;
 pub use text_message::message;
 pub use text_to_sheet::Made;
-pub use text_to_sheet::SPOKEN_BYTES;
-pub use text_to_sheet::TEXT_BYTES;
 pub use text_to_sheet::sheet_of;
 pub use text_verdict::verdict;
+pub use text_writer::TEXT_ROOM;

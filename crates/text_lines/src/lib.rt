@@ -1,6 +1,7 @@
 // The lines of a number form as bytes, put at a place of a buffer.
 use sheet_format::ATOM_KIND;
 use sheet_format::LINE_WORDS;
+use sheet_format::MOST_FIELDS;
 use sheet_format::ROW_KIND;
 use sheet_format::VIEW_KIND;
 use text_buffer::put;
@@ -22,7 +23,7 @@ fn small(w: i32) -> usize
     ensures { λ r. ⌜ (r ≡ small w) × (r ≤ 6) ⌝ }
 {
     let n = natural(w);
-    if 6 < n {
+    if MOST_FIELDS < n {
         return 0;
     }
     n

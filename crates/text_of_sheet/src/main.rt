@@ -5,8 +5,7 @@ use libc::STDOUT_FILENO;
 use sheet_format::Ending;
 use sheet_format::MOST_SHEET_BYTES;
 use text_to_sheet::Made;
-use text_to_sheet::SPOKEN_BYTES;
-use text_to_sheet::TEXT_BYTES;
+use text_writer::TEXT_ROOM;
 
 // What is read: one byte more than a sheet may have, so that a longer one is refused.
 const READ: usize = MOST_SHEET_BYTES + 1;
@@ -18,7 +17,7 @@ fn main() {
 }
 
 fn print(given: &[u8]) {
-    let mut text = [0u8; TEXT_BYTES];
+    let mut text = [0u8; TEXT_ROOM];
     match text_from_sheet::text_of(given, &mut text) {
         Ending::Done(n) => {
             if n <= text.len() {
@@ -30,7 +29,7 @@ fn print(given: &[u8]) {
 }
 
 fn complain(number: usize, line: usize) {
-    let mut words = [0u8; SPOKEN_BYTES];
+    let mut words = [0u8; TEXT_ROOM];
     let n = text_message::message(Made::Refused(number, line, 0), &mut words);
     if n <= words.len() {
         io::write_all(STDERR_FILENO, &words[0..n]);

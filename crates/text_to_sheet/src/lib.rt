@@ -17,12 +17,6 @@ pub enum Made {
     Refused(usize, usize, usize),
 }
 
-// The room that a text, and a verdict in words, want. By the limits of sheets the longest text has 2,818 bytes, and the longest verdict
-// below 5,000.
-pub const TEXT_BYTES: usize = 4096;
-
-pub const SPOKEN_BYTES: usize = 8192;
-
 fn least(a: usize, b: usize) -> usize
     ensures { λ r. ⌜ r ≤ b ⌝ }
 {

@@ -1,52 +1,142 @@
--- What the call that judges gives, as what this crate's contract says.
-use mathlib.Core.Path.{_≡_, refl, ap, subst}
-use mathlib.Core.List.{List, [], _++_}
+-- What the calls that judge and put words give, as what this crate's contracts say.
+use mathlib.Core.Path.{_≡_, refl, sym, ap, _∙_}
+use mathlib.Core.Bool.{Bool, true, false, cond}
+use mathlib.Core.List.{List, [], _∷_, _++_, map}
 use mathlib.Core.Logic.{_⊎_, inl, inr, ⊎-elim}
-use Prim.Native.Nat.{ℕ, zero, suc, _<_}
+use Prim.Native.Nat.{ℕ, zero, suc, _-_, _/_, min, _≤_, _<_}
 use native.Mathlib.Omega.{arith}
-use lib.IntN.{ℤ}
-use lib.ListN.{length}
-use Rattle.sheet_format.specs.Line.{byteLines}
+use lib.Dec.{eqb, ltb}
+use lib.IntN.{ℤ, pos}
+use lib.ListN.{length, take, getD, length-append, length-map, length-take}
+use mir.Syntax.{w32}
+use mir.Val.{toZ}
+use mir.ValLaws.{toZ-pos}
+use borrow.Author.Tests.{eq-eqb, ne-eqb, eqb-true, lt-ltb, le-ltb}
+use Rattle.sheet_format.specs.Limits.{field-bytes, field-end}
+use Rattle.sheet_format.specs.Line.{Line, null, lineOf, closed, openFrom, byteLines, lineAt}
+use Rattle.sheet_format.specs.Cause.{Kind, question, saved, view, atom, row, other, kind, rest, inPlace, start, scan, refusalOf}
 use Rattle.sheet_format.specs.Sheet.{sheetRefusal}
-use Rattle.sheet_format.proofs.Lists.{append-nil}
-use Rattle.list_laws.specs.Wrote.{Wrote}
-use Rattle.judge.specs.Judged.{Judged, Sent}
+use Rattle.sheet_format.proofs.Lists.{no-way}
+use Rattle.sheet_format.proofs.LineLaws.{line-shown, bytes-length}
+use Rattle.sheet_format.proofs.ScanLaws.{accepted-scan}
+use Rattle.sheet_format.proofs.RoundTrip.{bytes-clean}
+use Rattle.query_meaning.specs.Blocks.{asTerm, blocks}
+use Rattle.query_blocks.proofs.Accepted.{Clean, scan-first}
+use Rattle.case_verdicts.specs.Sheets.{isQuestion, sheetOf}
+use Rattle.judge.specs.Judged.{least-room, Judged, Sent}
 use Rattle.judge.specs.declared.Judgement.{Judgement}
-use Rattle.judge.proofs.Verdicts.{verdict-only-when}
-use Rattle.case_verdicts.specs.Verdict.{HasVerdict}
-use Rattle.case_verdicts.specs.Sheets.{sheetOf}
-use Rattle.text_to_sheet.specs.Texts.{Holds}
+use Rattle.text_buffer.specs.Puts.{Put}
+use Rattle.text_buffer.specs.Words.{bytes}
+use Rattle.text_buffer.proofs.Laws.{said}
+use Rattle.text_writer.specs.Rooms.{text-room}
+use Rattle.text_writer.specs.Texts.{refusalBytes}
+use Rattle.text_writer.proofs.Parts.{take-least}
+use Rattle.text_writer.proofs.Bounds.{all-put, terms-few, facts-few, refusal-few}
+use Rattle.text_verdict.specs.Verdict.{valueWord, caseBytes, verdictBytes, asked, lent, Verdict}
 
-module _ (s : List ℕ) (lent after : List ℤ) (j : Judgement) (judged : Judged s lent after j) (room : length lent ≡ 640) where
-  -- refused with 9, or accepted and the verdict holds
-  way : ((j .verdict ≡ 9) × (sheetRefusal s .number ≡ 0 → ⊥)) ⊎ Holds s (j .verdict)
-  way = ⊎-elim
-      (λ (d : Sent s lent after j). inl (ap (λ (q : Judgement). q .verdict) (d .result), d .cause))
-      (λ d. inr (record { accepted = d .0; verdict = verdict-only-when s lent after j judged (d .0) (omega arith) (j .verdict) refl }))
-      judged
+-- ---- a missing answer
 
-  pub holds : (v : ℕ) → j .verdict ≡ v → v < 9 → Holds s v
-  holds v e lt = ⊎-elim (λ d. let k = d .0 in absurd (omega arith)) (λ h. subst (Holds s) e h) way
+pub value-below : {n : ℕ} → n < field-end → toZ w32 n ≡ valueWord n
+value-below {n} h = rw (toZ-pos w32 n (omega arith), lt-ltb n field-end h)
 
-  pub sent : j .verdict ≡ 9 → sheetRefusal s .number ≡ 0 → ⊥
-  sent e z = ⊎-elim (λ d. d .1 z) (λ h. none (j .verdict) e (h .verdict)) way
-    where
-      none : (v : ℕ) → v ≡ 9 → HasVerdict (sheetOf (byteLines s)) v → ⊥
-      none zero q h = absurd (omega arith)
-      none (suc zero) q h = absurd (omega arith)
-      none (suc (suc zero)) q h = absurd (omega arith)
-      none (suc (suc (suc n))) q h = h
+pub value-beyond : {n : ℕ} → field-end ≤ n → pos 0 ≡ valueWord n
+value-beyond {n} h = rw (le-ltb n field-end h)
 
-  -- a verdict that is none of the others
-  pub left : (j .verdict ≡ 0 → ⊥) → (j .verdict ≡ 2 → ⊥) → (j .verdict ≡ 9 → ⊥) → Holds s 1
-  left a b c = ⊎-elim (λ d. absurd (c (d .0))) (λ h. record { accepted = h .accepted; verdict = one (j .verdict) a b (h .verdict) }) way
-    where
-      one : (v : ℕ) → (v ≡ 0 → ⊥) → (v ≡ 2 → ⊥) → HasVerdict (sheetOf (byteLines s)) v → HasVerdict (sheetOf (byteLines s)) 1
-      one zero p q h = absurd (p refl)
-      one (suc zero) p q h = h
-      one (suc (suc zero)) p q h = absurd (q refl)
-      one (suc (suc (suc n))) p q h = absurd h
+four-values : (m : List ℕ) → length m ≡ 4 → valueWord (getD m 0 0) ∷ valueWord (getD m 1 0) ∷ valueWord (getD m 2 0) ∷ valueWord (getD m 3 0) ∷ [] ≡ map valueWord m
+four-values [] e = absurd (omega arith)
+four-values (a ∷ []) e = absurd (omega arith)
+four-values (a ∷ b ∷ []) e = absurd (omega arith)
+four-values (a ∷ b ∷ c ∷ []) e = absurd (omega arith)
+four-values (a ∷ b ∷ c ∷ d ∷ []) e = refl
+four-values (a ∷ b ∷ c ∷ d ∷ f ∷ m) e = absurd (omega arith)
 
--- words that stand alone
-pub alone : {a b : List ℕ} {r : ℕ} (vs : List ℕ) → Wrote a b 0 r (vs ++ []) → Wrote a b 0 r vs
-alone {a} {b} {r} vs w = subst (λ us. Wrote a b 0 r us) (append-nil vs) w
+-- the first of four words that are the values
+pub some-values : (columns some : ℕ) (m : List ℕ) {a b c d : ℤ} → length m ≡ 4 → some ≡ min columns 4
+    → a ≡ valueWord (getD m 0 0) → b ≡ valueWord (getD m 1 0) → c ≡ valueWord (getD m 2 0) → d ≡ valueWord (getD m 3 0)
+    → take (some - 0) (a ∷ b ∷ c ∷ d ∷ []) ≡ take columns (map valueWord m)
+some-values columns some m l e f g h i =
+    let k : some - 0 ≡ min columns (length (map valueWord m)) = rw (length-map m valueWord, l) (omega arith) in
+    rw (f, g, h, i, four-values m l, k) (take-least columns (map valueWord m))
+
+-- ---- the columns of the question
+
+is-first : (k : Kind) → inPlace start k ≡ true → isQuestion k ≡ true
+is-first question e = refl
+is-first saved e = no-way e
+is-first view e = no-way e
+is-first atom e = no-way e
+is-first row e = no-way e
+is-first other e = no-way e
+
+rest-length : (l : Line) → null l ≡ false → length (rest l) ≡ length l - 1
+rest-length [] e = no-way (sym e)
+rest-length (z ∷ l) e = omega arith
+
+module _ (l : Line) (ls : List Line) (ok : refusalOf (l ∷ ls) .number ≡ 0) where
+  first-clean : Clean start l
+  first-clean = scan-first l ls start [] 1 (eqb-true _ 0 (accepted-scan (l ∷ ls) ok)) .0
+
+  first-asked : length (sheetOf (l ∷ ls) .question .head) ≡ length l - 1
+  unfolding blocks
+  first-asked = rw (is-first (kind l) (first-clean .placed)) (length-map (rest l) asTerm ∙ rest-length l (first-clean .formed))
+
+no-lines : {P : Type 0} → refusalOf [] .number ≡ 0 → P
+unfolding scan
+no-lines ok = no-way (accepted-scan [] ok)
+
+-- the first line of an accepted sheet is the question's head
+pub asked-is : (s : List ℕ) → sheetRefusal s .number ≡ 0 → length (lineAt s 1) / field-bytes - 1 ≡ asked s
+unfolding byteLines
+asked-is s clean = go (closed s) (null (openFrom [] s)) (bytes-clean s clean)
+  where
+    go : (cs : List (List ℕ)) (t : Bool) → refusalOf (map lineOf cs ++ cond t [] ([] ∷ [])) .number ≡ 0
+        → length (getD cs 0 []) / field-bytes - 1 ≡ length (sheetOf (map lineOf cs ++ cond t [] ([] ∷ [])) .question .head)
+    go [] true ok = no-lines ok
+    go [] false ok = no-way (sym (first-clean [] [] ok .formed))
+    go (x ∷ cs) t ok =
+        let ls = map lineOf cs ++ cond t [] ([] ∷ []) in
+        let e = first-asked (lineOf x) ls ok in
+        let k = sym (ap length (line-shown x (first-clean (lineOf x) ls ok .formed))) ∙ bytes-length (lineOf x) in
+        omega arith
+
+-- ---- what is said
+
+case-few : (columns : ℕ) (missing : List ℕ) (count : ℕ) (facts : List ℤ) → length missing ≡ 4 → length facts ≡ least-room → length (caseBytes columns missing count facts) ≤ text-room
+unfolding caseBytes
+case-few columns missing count facts m l =
+    let vs = map valueWord missing in
+    let a = terms-few (take columns vs) in
+    let b = length-take columns vs in
+    let d = length-map missing valueWord in
+    let e = facts-few count facts in
+    simp length-append (omega arith)
+
+module _ (s out : List ℕ) (room : text-room ≤ length out) (after : List ℤ) (j : Judgement) (judged : Judged s lent after j) (new : List ℕ) (r : ℕ) where
+  told : (t : List ℕ) → t ≡ verdictBytes (asked s) j after → length t ≤ text-room → Put out new 0 t r → Verdict s out new r
+  told t e few p = inr (record { after = after; judgement = j; judged = judged; words = all-put (said e p) room (rw (← e) few) })
+
+  pub covered : j .verdict ≡ 0 → Put out new 0 (bytes "covered\n") r → Verdict s out new r
+  unfolding verdictBytes
+  covered e p = told (bytes "covered\n") (rw (eq-eqb (j .verdict) 0 e)) (omega arith) p
+
+  pub no-log : j .verdict ≡ 2 → Put out new 0 (bytes "no log gives these rows\n") r → Verdict s out new r
+  unfolding verdictBytes
+  no-log e p = told (bytes "no log gives these rows\n") (rw e) (omega arith) p
+
+  pub refused : j .verdict ≡ 9 → Put out new 0 (refusalBytes (j .number) (j .line) 0) r → Verdict s out new r
+  unfolding verdictBytes
+  refused e p = told (refusalBytes (j .number) (j .line) 0) (rw e) (refusal-few (j .number) (j .line) 0) p
+
+  -- a sheet whose verdict is not 9 is accepted
+  accepted : (j .verdict ≡ 9 → ⊥) → sheetRefusal s .number ≡ 0
+  accepted n = ⊎-elim (λ (d : Sent s lent after j). absurd (n (ap (λ (q : Judgement). q .verdict) (d .result)))) (λ d. d .0) judged
+
+  pub case : (j .verdict ≡ 0 → ⊥) → (j .verdict ≡ 2 → ⊥) → (j .verdict ≡ 9 → ⊥) → length (j .missing) ≡ 4 → length after ≡ least-room
+      → (columns : ℕ) → columns ≡ length (lineAt s 1) / field-bytes - 1 → Put out new 0 (caseBytes columns (j .missing) (j .count) after) r → Verdict s out new r
+  unfolding verdictBytes
+  case a b c m l columns e p =
+      told
+      (caseBytes (asked s) (j .missing) (j .count) after)
+      (rw (ne-eqb (j .verdict) 0 a, ne-eqb (j .verdict) 2 b, ne-eqb (j .verdict) 9 c))
+      (case-few (asked s) (j .missing) (j .count) after m l)
+      (said (ap (λ (n : ℕ). caseBytes n (j .missing) (j .count) after) (e ∙ asked-is s (accepted c))) p)

@@ -4,79 +4,101 @@ use judge::LEAST_ROOM;
 use judge::NO_LOG;
 use judge::REFUSED;
 use sheet_format::FIELD_BYTES;
-use text_says::REST;
-use text_says::say;
-use text_says::say_refusal;
-use text_says::tell;
-use text_to_sheet::SPOKEN_BYTES;
-ghost use Prim.Native.Nat.{_≤_};
-ghost use Rattle.text_to_sheet.specs.Texts.{Spoken};
+use sheet_format::FIELD_END;
+use sheet_format::MOST_HEAD_FIELDS;
+use text_buffer::put;
+use text_facts::put_facts;
+use text_refusals::put_refusal;
+use text_writer::TEXT_ROOM;
+use text_writer::put_terms;
+ghost use mathlib.Core.Path.{_≡_};
+ghost use Prim.Native.Nat.{_-_, _/_, min};
+ghost use lib.ListN.{length};
+ghost use Rattle.sheet_format.specs.Limits.{field-bytes};
+ghost use Rattle.sheet_format.specs.Line.{lineAt};
+ghost use Rattle.text_buffer.specs.Puts.{Put};
+ghost use Rattle.text_verdict.specs.Verdict.{valueWord, missingBytes, caseBytes, Verdict};
+
+// The columns of a missing answer, at most.
+const COLUMNS: usize = MOST_HEAD_FIELDS - 1;
+
+fn least(a: usize, b: usize) -> usize
+    ensures { λ r. ⌜ r ≡ min a b ⌝ }
+{
+    if a < b { a } else { b }
+}
 
 // The columns of the question's head, which is the sheet's first line.
 fn columns(sheet: &[u8]) -> usize
-    ensures { λ r. ⌜ r ≤ 4 ⌝ }
+    ensures { λ r. ⌜ r ≡ length (lineAt (now (sheet .entry)) 1) / field-bytes - 1 ⌝ }
 {
     let fields = sheet::line(sheet, 1).len() / FIELD_BYTES;
     if fields < 1 {
         return 0;
     }
-    if 4 < fields - 1 {
-        return 4;
-    }
     fields - 1
 }
 
 // A value of a missing answer as a word.
-fn word(n: usize) -> i32 {
-    if n < 100000000 {
+fn word(n: usize) -> i32
+    ensures { λ r. ⌜ r ≡ valueWord n ⌝ }
+{
+    if n < FIELD_END as usize {
         return n as i32;
     }
     0
 }
 
-// The missing answer and the log of a case.
-fn put_case(
-    out: &mut [u8],
-    sheet: &[u8],
-    missing: [usize; 4],
-    facts: &[i32],
-    count: usize,
-) -> usize {
+// A missing answer.
+fn put_missing(out: &mut [u8], at: usize, columns: usize, missing: [usize; COLUMNS]) -> usize
+    ensures { λ r. ⌜ Put (now (out .entry)) (now (out .exit)) at (missingBytes columns missing) r ⌝ }
+{
     let row = [
         word(missing[0]),
         word(missing[1]),
         word(missing[2]),
         word(missing[3]),
     ];
-    let columns = columns(sheet);
-    let a = text_writer::put_terms(out, 0, &row[0..columns]);
-    let b = text_buffer::put(out, a, b" is missing. Log: ");
-    let c = text_facts::put_facts(out, b, facts, count);
-    text_buffer::put(out, c, b"\n")
+    let some = least(columns, COLUMNS);
+    put_terms(out, at, &row[0..some])
+}
+
+// The missing answer and the log of a case.
+fn put_case(
+    out: &mut [u8],
+    columns: usize,
+    missing: [usize; COLUMNS],
+    facts: &[i32],
+    count: usize,
+) -> usize
+    ensures { λ r. ⌜ Put (now (out .entry)) (now (out .exit)) 0 (caseBytes columns missing count (now (facts .entry))) r ⌝ }
+{
+    let a = put(out, 0, b"not covered: ");
+    let b = put_missing(out, a, columns, missing);
+    let c = put(out, b, b" is missing. Log: ");
+    let d = put_facts(out, c, facts, count);
+    put(out, d, b"\n")
 }
 
 // Judges a sheet, and says the verdict in words.
 pub fn verdict(sheet: &[u8], out: &mut [u8]) -> usize
-    ensures { λ r. ⌜ Spoken (now (sheet .entry)) (now (out .entry)) (now (out .exit)) r ⌝ }
+    ensures { λ r. ⌜ Verdict (now (sheet .entry)) (now (out .entry)) (now (out .exit)) r ⌝ }
 {
-    if out.len() < SPOKEN_BYTES {
+    if out.len() < TEXT_ROOM {
         return 0;
     }
     let mut facts = [0i32; LEAST_ROOM];
     let j = judge::judge(sheet, &mut facts);
     let verdict = j.verdict;
-    let count = j.count;
     if verdict == COVERED {
-        return say(b"covered\n", b"", out);
+        return put(out, 0, b"covered\n");
     }
     if verdict == NO_LOG {
-        return say(b"no log gives these rows\n", b"", out);
+        return put(out, 0, b"no log gives these rows\n");
     }
     if verdict == REFUSED {
-        return say_refusal(j.number, j.line, 0, out);
+        return put_refusal(out, 0, j.number, j.line, 0);
     }
     let missing = j.missing;
-    let mut rest = [0u8; REST];
-    let n = put_case(&mut rest, sheet, missing, &facts, count);
-    tell(b"not covered: ", &rest, n, out)
+    put_case(out, columns(sheet), missing, &facts, j.count)
 }

@@ -1,8 +1,10 @@
 // What was expected, in words, put at a place of a buffer.
 use text_buffer::put;
+use text_reader::MOST_TEXT;
+use text_writer::put_number;
 use text_writer::put_relation;
 ghost use Rattle.text_buffer.specs.Puts.{Put};
-ghost use Rattle.text_writer.specs.Texts.{countBytes, columnsBytes, whatBytes};
+ghost use Rattle.text_writer.specs.Texts.{countBytes, columnsBytes, lengthBytes, whatBytes};
 
 // How many columns a relation has.
 fn put_count(out: &mut [u8], at: usize, columns: usize) -> usize
@@ -24,6 +26,15 @@ fn put_columns(out: &mut [u8], at: usize, relation: usize) -> usize
     }
     let n = put_count(out, at, sheet_terms::columns(relation as i32));
     put_relation(out, n, relation)
+}
+
+// A text that is not too long.
+fn put_length(out: &mut [u8], at: usize) -> usize
+    ensures { λ r. ⌜ Put (now (out .entry)) (now (out .exit)) at lengthBytes r ⌝ }
+{
+    let a = put(out, at, b"at most ");
+    let b = put_number(out, a, MOST_TEXT);
+    put(out, b, b" bytes")
 }
 
 // What was expected, by text_reader's numbers for it.
@@ -52,6 +63,6 @@ pub fn put_what(out: &mut [u8], at: usize, what: usize, relation: usize) -> usiz
         15 => put(out, at, b"a row"),
         16 => put(out, at, b", or ; or the end of the line"),
         17 => put(out, at, b"; or the end of the line"),
-        _ => put(out, at, b"at most 65536 bytes"),
+        _ => put_length(out, at),
     }
 }

@@ -15,6 +15,7 @@ use mir.Syntax.{w32}
 use mir.Val.{toZ}
 use mir.ValLaws.{toZ-pos}
 use borrow.Author.Tests.{eq-eqb, ne-eqb, lt-ltb, le-ltb}
+use Rattle.sheet_format.specs.Limits.{field-end}
 use Rattle.sheet_format.specs.Line.{natural}
 use Rattle.sheet_format.specs.Cause.{termOf}
 use Rattle.sheet_format.specs.Relations.{columnsAt, columnsOf}
@@ -151,11 +152,11 @@ apart {n} {k} l h = ⊎-elim (λ e. absurd (h (sym e))) (λ b. omega arith) (eq-
 
 -- ---- numbers and terms
 
-pub word-of : {n : ℕ} → n < 100000000 → wordBytes (toZ w32 n) ≡ numberBytes n
-word-of {n} h = rw (toZ-pos w32 n (omega arith), lt-ltb n 100000000 h)
+pub word-of : {n : ℕ} → n < field-end → wordBytes (toZ w32 n) ≡ numberBytes n
+word-of {n} h = rw (toZ-pos w32 n (omega arith), lt-ltb n field-end h)
 
-pub no-number : {n : ℕ} → 100000000 ≤ n → [] ≡ numberBytes n
-no-number {n} h = rw (le-ltb n 100000000 h)
+pub no-number : {n : ℕ} → field-end ≤ n → [] ≡ numberBytes n
+no-number {n} h = rw (le-ltb n field-end h)
 
 pub letter-first : {i : ℕ} → i < 1 → 97 ≡ variableLetter i
 unfolding variableLetter

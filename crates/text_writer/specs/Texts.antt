@@ -5,6 +5,7 @@ use Prim.Native.Nat.{ℕ, zero, suc, _+_, _-_, _/_, min}
 use lib.Dec.{eqb, ltb}
 use lib.IntN.{ℤ, pos}
 use lib.ListN.{length, getD, take, drop}
+use Rattle.sheet_format.specs.Limits.{most-fields, line-words, field-end}
 use Rattle.sheet_format.specs.Field.{fieldBytes}
 use Rattle.sheet_format.specs.Line.{natural}
 use Rattle.sheet_format.specs.Cause.{termOf}
@@ -13,6 +14,7 @@ use Rattle.sheet_format.specs.declared.Term.{Term}
 use Rattle.sheet_format.specs.declared.Term.the-variants.{Constant, Variable, OutOfRange}
 use Rattle.text_buffer.specs.Words.{bytes}
 use Rattle.text_begins.specs.Begins.{letterOf}
+use Rattle.text_writer.specs.Rooms.{most-text}
 
 -- ---- parts
 
@@ -52,7 +54,7 @@ wordBytes w = plain (fieldBytes w)
 
 -- a number of at most eight digits; nothing for a longer one
 abbrev pub numberBytes : ℕ → List ℕ
-numberBytes n = if (ltb n 100000000) (wordBytes (pos n))
+numberBytes n = if (ltb n field-end) (wordBytes (pos n))
 
 -- a variable's letter: "a" for the first, "z" from the 26th on
 unfoldable pub variableLetter : ℕ → ℕ
@@ -106,7 +108,7 @@ factsBytes count ws = separated (bytes ", ") (map factBytes (groups 5 (min count
 
 -- a field count or a kind; 0 for any other word
 abbrev pub small : ℤ → ℕ
-small w = cond (ltb 6 (natural w)) 0 (natural w)
+small w = cond (ltb most-fields (natural w)) 0 (natural w)
 
 -- a line's kind
 abbrev pub lineKind : List ℤ → ℕ
@@ -156,7 +158,7 @@ linesFrom block (l ∷ ls) = lineBytes l (lineKind l) (blockAt (lineKind l) bloc
 
 -- the text of a number form
 unfoldable pub linesBytes : List ℤ → List ℕ
-linesBytes ws = linesFrom 0 (groups 7 (length ws / 7) ws)
+linesBytes ws = linesFrom 0 (groups line-words (length ws / line-words) ws)
 
 -- ---- causes
 
@@ -183,16 +185,17 @@ numbered texts other (suc n) = getD texts n other
 abbrev pub causeBytes : ℕ → List ℕ
 causeBytes number = numbered causes (bytes "there is not room enough") number
 
--- a refusal without its first word: its cause, its line, and the line of the text, if any
-unfoldable pub refusalBytes : ℕ → ℕ → ℕ → List ℕ
-refusalBytes number line text =
+-- a refusal's cause by its number, its line, and the line of the text, if any
+unfoldable pub placeBytes : ℕ → ℕ → ℕ → List ℕ
+placeBytes number line text =
     unless0 number (bytes "cause " ++ numberBytes number)
     ++ unless0 line (bytes " at line " ++ numberBytes line)
     ++ unless0 text (bytes " of the sheet, line " ++ numberBytes text)
     ++ unless0 text (bytes " of the text")
-    ++ bytes ": "
-    ++ causeBytes number
-    ++ bytes "\n"
+
+-- a refusal
+unfoldable pub refusalBytes : ℕ → ℕ → ℕ → List ℕ
+refusalBytes number line text = bytes "refused: " ++ placeBytes number line text ++ bytes ": " ++ causeBytes number ++ bytes "\n"
 
 -- ---- what was expected
 
@@ -230,10 +233,14 @@ expectations relation =
     ∷ bytes "; or the end of the line"
     ∷ []
 
+-- a text that is not too long
+unfoldable pub lengthBytes : List ℕ
+lengthBytes = bytes "at most " ++ numberBytes most-text ++ bytes " bytes"
+
 -- what was expected
 abbrev pub whatBytes : ℕ → ℕ → List ℕ
-whatBytes what relation = numbered (expectations relation) (bytes "at most 65536 bytes") what
+whatBytes what relation = numbered (expectations relation) lengthBytes what
 
--- what was expected in a line, without the first word
+-- what was expected in a line
 unfoldable pub expectedBytes : ℕ → ℕ → ℕ → List ℕ
-expectedBytes line what relation = numberBytes line ++ bytes ": expected " ++ whatBytes what relation ++ bytes "\n"
+expectedBytes line what relation = bytes "line " ++ numberBytes line ++ bytes ": expected " ++ whatBytes what relation ++ bytes "\n"

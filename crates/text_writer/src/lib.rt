@@ -1,5 +1,6 @@
 // Numbers, terms and names of relations, as bytes, and what the bytes of texts are. Each function puts bytes at a place of a buffer, and returns
 // the place after them; what does not fit is left out.
+use sheet_format::FIELD_END;
 use sheet_format::Term;
 use text_buffer::put_byte;
 use text_reader::NAME;
@@ -12,6 +13,9 @@ ghost use Rattle.sheet_format.specs.Line.{natural};
 ghost use Rattle.text_buffer.specs.Puts.{Put};
 ghost use Rattle.text_buffer.specs.Words.{bytes};
 ghost use Rattle.text_writer.specs.Texts.{plain, wordBytes, numberBytes, variableLetter, termBytes, termsBytes, relationBytes};
+
+// The room that the text of a sheet, and all that is said in words, want.
+pub const TEXT_ROOM: usize = 8192;
 
 // A byte that is no blank.
 fn put_unless_blank(out: &mut [u8], at: usize, b: u8) -> usize
@@ -47,7 +51,7 @@ fn put_word(out: &mut [u8], at: usize, w: i32) -> usize
 pub fn put_number(out: &mut [u8], at: usize, n: usize) -> usize
     ensures { λ r. ⌜ Put (now (out .entry)) (now (out .exit)) at (numberBytes n) r ⌝ }
 {
-    if n < 100000000 {
+    if n < FIELD_END as usize {
         return put_word(out, at, n as i32);
     }
     at

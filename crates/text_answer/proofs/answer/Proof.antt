@@ -1,7 +1,10 @@
-use mathlib.Core.Logic.{inl, inr}
+-- What is said of the sheet that was given, of the sheet that a text has, and of a text without one.
+use mathlib.Core.Path.{sym, _∙_}
+use mathlib.Core.Logic.{inl}
 use native.Mathlib.Omega.{arith}
 use borrow.Author.Needs.{needs}
-use Rattle.text_answer.proofs.Calls.{sheet-fits, sheet-accepted, why-expected, why-refused}
+use borrow.Author.Tests.{not-true, not-false}
+use Rattle.text_answer.proofs.Calls.{sheet-fits, judged, expected, refused}
 use Rattle.text_answer.proofs.answer.Statement.{statement}
 use Rattle.text_answer.proofs.answer.Tie as tie
 
@@ -15,7 +18,9 @@ same-length : tie.Need-same-length
 same-length c = search needs
 
 returns : tie.Need-returns
-returns c = inl (c .before .before .verdict .ensures)
+returns c =
+    let asked = c .before .before .before .before .before in
+    inl (record { is = sym (asked .is-text .ensures) ∙ not-true _ (c .before .before .before .before .if1 .taken); verdict = c .before .before .verdict .ensures })
 
 slice-aggregate-sheet-of : tie.Need-slice-aggregate-sheet-of
 slice-aggregate-sheet-of c = search needs
@@ -35,7 +40,8 @@ part-verdict-start c = search needs
 part-verdict-end : tie.Need-part-verdict-end
 part-verdict-end c =
     let m = c .before .before .before .before .before .sheet-of in
-    let f = sheet-fits (m .result) (c .before .before .made .given .0 .0) _ (m .last .1 .0) (m .ensures) (c .before .before .made .given .1) in
+    let g = c .before .before .made .given in
+    let f = sheet-fits (m .result) (g .0 .0) _ (m .last .1 .0) (m .ensures) (g .1) in
     omega arith
 
 verdict-requires-2 : tie.Need-verdict-requires-2
@@ -58,29 +64,42 @@ same-length-2 c = search needs
 
 returns-2 : tie.Need-returns-2
 returns-2 c =
-    let m = c .before .before .before .before .before .before .before .before .before .before .sheet-of in
+    let made = c .before .before .before .before .before .before .before .before .before .before in
+    let asked = made .before .before .before in
+    let a = asked .before .before .before .args in
+    let is = sym (asked .is-text .ensures) ∙ not-false _ (made .before .before .if1 .left) in
+    let m = made .sheet-of in
     let g = c .before .before .before .before .before .before .before .made .given in
-    inr (inl (record { sheet = _; accepted = sheet-accepted (m .result) (g .0 .0) _ (m .last .1 .0) (m .ensures) (g .1); spoken = c .before .before .verdict2 .ensures }))
+    let v = c .before .before .verdict2 in
+    judged (a .given .now) is (m .result) (m .last .1 .0) (m .ensures) (a .out .now) (v .last .1 .0) (v .result) (g .0 .0) (g .1) (v .ensures)
 
 same-length-3 : tie.Need-same-length-3
 same-length-3 c = search needs
 
 returns-3 : tie.Need-returns-3
 returns-3 c =
-    let m = c .before .before .before .before .before .before .before .sheet-of .result in
+    let made = c .before .before .before .before .before .before .before in
+    let asked = made .before .before .before in
+    let a = asked .before .before .before .args in
+    let is = sym (asked .is-text .ensures) ∙ not-false _ (made .before .before .if1 .left) in
+    let m = made .sheet-of in
     let g = c .before .before .before .before .enum-told .given in
     let t = c .before .before .message in
-    inr (inr (why-expected m (g .0 .0) (g .0 .1 .0) (g .0 .1 .1 .0) _ (t .last .1 .0) (t .result) (t .ensures) (g .1)))
+    expected (a .given .now) is (m .result) (m .last .1 .0) (m .ensures) (a .out .now) (t .last .1 .0) (t .result) (g .0 .0) (g .0 .1 .0) (g .0 .1 .1 .0) (g .1) (t .ensures)
 
 same-length-4 : tie.Need-same-length-4
 same-length-4 c = search needs
 
 returns-4 : tie.Need-returns-4
 returns-4 c =
-    let m = c .before .before .before .before .before .before .before .sheet-of .result in
+    let made = c .before .before .before .before .before .before .before in
+    let asked = made .before .before .before in
+    let a = asked .before .before .before .args in
+    let is = sym (asked .is-text .ensures) ∙ not-false _ (made .before .before .if1 .left) in
+    let m = made .sheet-of in
     let g = c .before .before .before .before .enum-told2 .given in
     let t = c .before .before .message2 in
-    inr (inr (why-refused m (g .0 .0) (g .0 .1 .0) (g .0 .1 .1 .0) _ (t .last .1 .0) (t .result) (t .ensures) (g .1)))
+    refused (a .given .now) is (m .result) (m .last .1 .0) (m .ensures) (a .out .now) (t .last .1 .0) (t .result) (g .0 .0) (g .0 .1 .0) (g .0 .1 .1 .0) (g .1) (t .ensures)
 
 pub answer-spec : {M : Type 1} → statement M
 answer-spec =

@@ -1,12 +1,9 @@
 -- The words that were read are those of the lines of the sheet, and their text is put.
-use mathlib.Core.Path.{refl, sym, ap, _∙_}
+use mathlib.Core.Path.{refl, sym, _∙_}
 use native.Mathlib.Omega.{arith}
 use borrow.Author.Needs.{needs}
-use mathlib.Core.Logic.{inl, inr}
-use Rattle.sheet.proofs.Calls.{few-lines, clean-sheet, refused-by}
-use Rattle.text_buffer.proofs.Laws.{said}
-use Rattle.text_writer.specs.Texts.{linesBytes}
-use Rattle.text_from_sheet.proofs.Calls.{words-read}
+use Rattle.sheet.proofs.Calls.{few-lines}
+use Rattle.text_from_sheet.proofs.Calls.{refused, short, shown}
 use Rattle.text_from_sheet.proofs.text_of.Statement.{statement}
 use Rattle.text_from_sheet.proofs.text_of.Tie as tie
 
@@ -23,14 +20,18 @@ enum-known-lines : tie.Need-enum-known-lines
 enum-known-lines c = search needs
 
 returns : tie.Need-returns
-returns c = record { lent = refl; why = inr (c .if1 .taken, refl) }
+returns c =
+    let read = c .before .before .before .before .before in
+    let g = c .before .before .lines .given in
+    let a = read .before .before .before .before .args in
+    short (a .sheet .now) (a .out .now) (g .0 .0) (sym (read .read .ensures .0) ∙ g .1) (omega arith)
 
 mul-put-lines : tie.Need-mul-put-lines
 mul-put-lines c =
-    let a = c .before .before .before .before .before .before .before .before .before .before .args in
-    let rd = c .before .before .before .before .before .before .read in
+    let read = c .before .before .before .before .before .before in
+    let rd = read .read in
     let g = c .before .before .before .lines .given in
-    let f = few-lines (a .sheet .now) (g .0 .0) (sym (rd .ensures .0) ∙ g .1) in
+    let f = few-lines (read .before .before .before .before .args .sheet .now) (g .0 .0) (sym (rd .ensures .0) ∙ g .1) in
     let k = rd .kept .1 .0 in
     omega arith
 
@@ -42,10 +43,10 @@ part-put-lines-start c = search needs
 
 part-put-lines-end : tie.Need-part-put-lines-end
 part-put-lines-end c =
-    let a = c .before .before .before .before .before .before .before .before .before .before .before .args in
-    let rd = c .before .before .before .before .before .before .before .read in
+    let read = c .before .before .before .before .before .before .before in
+    let rd = read .read in
     let g = c .before .before .before .before .lines .given in
-    let f = few-lines (a .sheet .now) (g .0 .0) (sym (rd .ensures .0) ∙ g .1) in
+    let f = few-lines (read .before .before .before .before .args .sheet .now) (g .0 .0) (sym (rd .ensures .0) ∙ g .1) in
     let k = rd .kept .1 .0 in
     omega arith
 
@@ -54,22 +55,24 @@ put-lines-requires c κs = search needs
 
 returns-2 : tie.Need-returns-2
 returns-2 c =
-    let a = c .before .before .before .before .before .before .before .before .args in
-    let rd = c .before .before .before .before .read in
+    let read = c .before .before .before .before in
     let g = c .before .number .given in
-    record { lent = refl; why = inl (refused-by (a .sheet .now) (g .0 .0) (g .0 .1 .0) (rd .result) (rd .ensures .0) (g .1)) }
+    let a = read .before .before .before .before .args in
+    refused (a .sheet .now) (a .out .now) (g .0 .0) (g .0 .1 .0) (read .read .result) (read .read .ensures .0) (g .1)
 
 same-length : tie.Need-same-length
 same-length c = search needs
 
 returns-3 : tie.Need-returns-3
 returns-3 c =
-    let s = c .before .before .before .before .before .before .before .before .before .before .before .before .before .before .before .args .sheet .now in
-    let rd = c .before .before .before .before .before .before .before .before .before .before .before .read in
-    let g = c .before .before .before .before .before .before .before .before .lines .given in
-    let done = sym (rd .ensures .0) ∙ g .1 in
-    let words = words-read s (g .0 .0) _ (rd .last .1 .0) done refl (rd .ensures .1) in
-    record { accepted = clean-sheet s (g .0 .0) done; text = said (ap linesBytes words) (c .before .before .put-lines .ensures) }
+    let put = c .before .before in
+    let lines = put .before .before .before .before .before .before in
+    let read = lines .before .before .before in
+    let rd = read .read in
+    let g = lines .lines .given in
+    let a = read .before .before .before .before .args in
+    let p = put .put-lines in
+    shown (a .sheet .now) (a .out .now) (g .0 .0) (sym (rd .ensures .0) ∙ g .1) _ (rd .last .1 .0) refl (rd .ensures .1) (omega arith) (p .last .0) (p .result) (p .ensures)
 
 pub text-of-spec : {M : Type 1} → statement M
 text-of-spec =

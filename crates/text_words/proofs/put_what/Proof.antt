@@ -3,8 +3,7 @@ use native.Mathlib.Omega.{arith}
 use borrow.Author.Needs.{needs}
 use Rattle.text_writer.proofs.Parts.{known, apart, numbered-else}
 use Rattle.text_buffer.proofs.Laws.{said}
-use Rattle.text_writer.specs.Texts.{whatBytes, expectations}
-use Rattle.text_buffer.specs.Words.{bytes}
+use Rattle.text_writer.specs.Texts.{whatBytes, expectations, lengthBytes}
 use Rattle.text_words.proofs.put_what.Statement.{statement}
 use Rattle.text_words.proofs.put_what.Tie as tie
 
@@ -107,11 +106,8 @@ slice-aggregate-put-16 c = search needs
 put-requires-16 : tie.Need-put-requires-16
 put-requires-16 c κs = search needs
 
-slice-aggregate-put-17 : tie.Need-slice-aggregate-put-17
-slice-aggregate-put-17 c = search needs
-
-put-requires-17 : tie.Need-put-requires-17
-put-requires-17 c κs = search needs
+put-length-requires : tie.Need-put-length-requires
+put-length-requires c κs = search needs
 
 same-length : tie.Need-same-length
 same-length c = search needs
@@ -220,8 +216,8 @@ same-length-18 c = search needs
 
 returns-18 : tie.Need-returns-18
 returns-18 c =
-    let r = c .before .before .before .before .before .match .rest in
-    said (numbered-else (expectations (c .before .before .before .before .before .before .before .args .relation)) (bytes "at most 65536 bytes") (c .before .before .before .before .before .before .before .args .what) (λ z. let l = apart (apart (apart (apart (apart (apart (apart (apart (apart (apart (apart (apart (apart (apart (apart (apart (apart (apart (omega arith) z) (r .0 .0 .0 .0 .0 .0 .0 .0 .0 .0 .0 .0 .0 .0 .0 .0 .1)) (r .0 .0 .0 .0 .0 .0 .0 .0 .0 .0 .0 .0 .0 .0 .0 .1)) (r .0 .0 .0 .0 .0 .0 .0 .0 .0 .0 .0 .0 .0 .0 .1)) (r .0 .0 .0 .0 .0 .0 .0 .0 .0 .0 .0 .0 .0 .1)) (r .0 .0 .0 .0 .0 .0 .0 .0 .0 .0 .0 .0 .1)) (r .0 .0 .0 .0 .0 .0 .0 .0 .0 .0 .0 .1)) (r .0 .0 .0 .0 .0 .0 .0 .0 .0 .0 .1)) (r .0 .0 .0 .0 .0 .0 .0 .0 .0 .1)) (r .0 .0 .0 .0 .0 .0 .0 .0 .1)) (r .0 .0 .0 .0 .0 .0 .0 .1)) (r .0 .0 .0 .0 .0 .0 .1)) (r .0 .0 .0 .0 .0 .1)) (r .0 .0 .0 .0 .1)) (r .0 .0 .0 .1)) (r .0 .0 .1)) (r .0 .1)) (r .1) in omega arith)) (c .before .before .put17 .ensures)
+    let r = c .before .before .before .before .match .rest in
+    said (numbered-else (expectations (c .before .before .before .before .before .before .args .relation)) lengthBytes (c .before .before .before .before .before .before .args .what) (λ z. let l = apart (apart (apart (apart (apart (apart (apart (apart (apart (apart (apart (apart (apart (apart (apart (apart (apart (apart (omega arith) z) (r .0 .0 .0 .0 .0 .0 .0 .0 .0 .0 .0 .0 .0 .0 .0 .0 .1)) (r .0 .0 .0 .0 .0 .0 .0 .0 .0 .0 .0 .0 .0 .0 .0 .1)) (r .0 .0 .0 .0 .0 .0 .0 .0 .0 .0 .0 .0 .0 .0 .1)) (r .0 .0 .0 .0 .0 .0 .0 .0 .0 .0 .0 .0 .0 .1)) (r .0 .0 .0 .0 .0 .0 .0 .0 .0 .0 .0 .0 .1)) (r .0 .0 .0 .0 .0 .0 .0 .0 .0 .0 .0 .1)) (r .0 .0 .0 .0 .0 .0 .0 .0 .0 .0 .1)) (r .0 .0 .0 .0 .0 .0 .0 .0 .0 .1)) (r .0 .0 .0 .0 .0 .0 .0 .0 .1)) (r .0 .0 .0 .0 .0 .0 .0 .1)) (r .0 .0 .0 .0 .0 .0 .1)) (r .0 .0 .0 .0 .0 .1)) (r .0 .0 .0 .0 .1)) (r .0 .0 .0 .1)) (r .0 .0 .1)) (r .0 .1)) (r .1) in omega arith)) (c .before .before .put-length .ensures)
 
 pub put-what-spec : {M : Type 1} → statement M
 put-what-spec =
@@ -260,8 +256,7 @@ put-what-spec =
     put-requires-15
     slice-aggregate-put-16
     put-requires-16
-    slice-aggregate-put-17
-    put-requires-17
+    put-length-requires
     same-length
     returns
     same-length-2

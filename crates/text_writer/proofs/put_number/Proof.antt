@@ -5,6 +5,9 @@ use Rattle.text_buffer.proofs.Laws.{nothing, said}
 use Rattle.text_writer.proofs.put_number.Statement.{statement}
 use Rattle.text_writer.proofs.put_number.Tie as tie
 
+cast-if1 : tie.Need-cast-if1
+cast-if1 c = search needs
+
 cast-put-word : tie.Need-cast-put-word
 cast-put-word c = search needs
 
@@ -22,4 +25,4 @@ returns-2 c = said (no-number (c .if1 .left)) (nothing (c .before .before .args 
 
 pub put-number-spec : {M : Type 1} → statement M
 put-number-spec =
-    tie.close (tie.spec cast-put-word put-word-requires same-length returns returns-2)
+    tie.close (tie.spec cast-if1 cast-put-word put-word-requires same-length returns returns-2)

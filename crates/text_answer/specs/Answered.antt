@@ -1,0 +1,37 @@
+-- What is said of a sheet or a text, for all input. `old` is what was lent, `new` what it holds afterwards, r the count that is returned.
+use mathlib.Core.Path.{_≡_}
+use mathlib.Core.Bool.{true, false}
+use mathlib.Core.List.{List}
+use mathlib.Core.Logic.{_⊎_}
+use Prim.Native.Nat.{ℕ}
+use lib.ListN.{take, replicate}
+use Rattle.sheet_format.specs.Limits.{most-bytes}
+use Rattle.text_begins.specs.Begins.{isText}
+use Rattle.text_writer.specs.Says.{Says}
+use Rattle.text_to_sheet.specs.Texts.{Written}
+use Rattle.text_to_sheet.specs.declared.Made.{Made}
+use Rattle.text_to_sheet.specs.declared.Made.the-variants.{Sheet, Expected, Refused}
+use Rattle.text_message.specs.Message.{messageBytes}
+use Rattle.text_verdict.specs.Verdict.{Verdict}
+
+-- a sheet that was given: its verdict
+pub record OfSheet (given old new : List ℕ) (r : ℕ) : Type 0 where
+  pub is : isText given ≡ false
+  pub verdict : Verdict given old new r
+
+-- the verdict of the sheet that was made, which `sheet` begins with; else why there is none
+abbrev pub Replied : Made → List ℕ → List ℕ → List ℕ → ℕ → Type 0
+Replied (Sheet n) sheet old new r = Verdict (take n sheet) old new r
+Replied (Expected l w k) sheet old new r = Says (messageBytes (Expected l w k)) old new r
+Replied (Refused c l t) sheet old new r = Says (messageBytes (Refused c l t)) old new r
+
+-- a text that was given. Which sheet it has is free; it is one that reading accepts, made in so many bytes that are 0.
+pub record OfText (given old new : List ℕ) (r : ℕ) : Type 0 where
+  pub is : isText given ≡ true
+  pub made : Made
+  pub sheet : List ℕ
+  pub written : Written (replicate most-bytes 0) sheet made
+  pub reply : Replied made sheet old new r
+
+abbrev pub Answered : List ℕ → List ℕ → List ℕ → ℕ → Type 0
+Answered given old new r = OfSheet given old new r ⊎ OfText given old new r
