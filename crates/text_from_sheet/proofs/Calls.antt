@@ -6,7 +6,7 @@ use native.Mathlib.Omega.{arith}
 use lib.IntN.{ℤ}
 use lib.ListN.{length, take, drop}
 use lib.Seq.{take-at}
-use Rattle.sheet_format.specs.Limits.{most-words}
+use Rattle.sheet_format.specs.Limits.{most-words, line-words}
 use Rattle.sheet_format.specs.Line.{byteLines, wordsOf}
 use Rattle.sheet_format.specs.Sheet.{over, lentBy, sheetRefusal, readEnding, readWords}
 use Rattle.sheet_format.specs.Cause.{refusal}
@@ -25,14 +25,14 @@ use Rattle.text_writer.proofs.Bounds.{text-few, all-put}
 use Rattle.text_from_sheet.specs.Shown.{textOf, textEnding, textLent}
 
 -- the words are those of the sheet's lines
-words-read : (s : List ℕ) (n : ℕ) (ws after : List ℤ) → readEnding s most-words ≡ Done n → length ws ≡ most-words → after ≡ readWords s ws → take (n * 7 - 0) after ≡ wordsOf (byteLines s)
+words-read : (s : List ℕ) (n : ℕ) (ws after : List ℤ) → readEnding s most-words ≡ Done n → length ws ≡ most-words → after ≡ readWords s ws → take (n * line-words - 0) after ≡ wordsOf (byteLines s)
 unfolding readEnding readWords
 words-read s n ws after done l e =
     let is = wordsOf (byteLines s) in
     let c = ending-done (sheetRefusal s) most-words most-words (length (byteLines s)) n done .count in
     let m = all-words-length (byteLines s) (bytes-good s) in
     let q : after ≡ over is ws = e ∙ ap (λ x. lentBy x is ws) (ap (readEnding s) l ∙ done) in
-    rw q (take-at is (drop (length is) ws) (n * 7 - 0) (omega arith))
+    rw q (take-at is (drop (length is) ws) (n * line-words - 0) (omega arith))
 
 -- the room holds the text of every accepted sheet
 pub text-fits : (s : List ℕ) → sheetRefusal s .number ≡ 0 → length (textOf s) ≤ text-room
@@ -61,7 +61,7 @@ module _ (s out : List ℕ) where
     short lt = short-way (sheetRefusal s) text-room (length (textOf s)) (textOf s) out (clean-sheet s n done) lt
 
     pub shown : (ws words : List ℤ) → length ws ≡ most-words → words ≡ readWords s ws → text-room ≤ length out → (after : List ℕ) (r : ℕ)
-        → Put out after 0 (linesBytes (take (n * 7 - 0) words)) r → Ends s out after (Done r)
+        → Put out after 0 (linesBytes (take (n * line-words - 0) words)) r → Ends s out after (Done r)
     unfolding textEnding textLent textOf
     shown ws words l e room after r p =
         let clean = clean-sheet s n done in

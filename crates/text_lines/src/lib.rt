@@ -15,12 +15,13 @@ ghost use mathlib.Core.Bool.{cond};
 ghost use Prim.Native.Nat.{_≤_, _-_, _/_, _*_};
 ghost use lib.Dec.{ltb};
 ghost use lib.ListN.{length, take, drop};
+ghost use Rattle.sheet_format.specs.Limits.{most-fields, line-words};
 ghost use Rattle.text_buffer.specs.Puts.{Put};
 ghost use Rattle.text_writer.specs.Texts.{small, lineKind, blockAt, headBytes, atomBytes, valuesBytes, rowBytes, kindBytes, lineBytes, linesBytes};
 
 // A field count or a kind of the number form.
 fn small(w: i32) -> usize
-    ensures { λ r. ⌜ (r ≡ small w) × (r ≤ 6) ⌝ }
+    ensures { λ r. ⌜ (r ≡ small w) × (r ≤ most-fields) ⌝ }
 {
     let n = natural(w);
     if MOST_FIELDS < n {
@@ -31,8 +32,8 @@ fn small(w: i32) -> usize
 
 // Where the terms after a line's kind end.
 fn terms_end(fields: usize) -> usize
-    requires { ⌜ fields ≤ 6 ⌝ }
-    ensures { λ r. ⌜ (2 ≤ r) × (r ≤ 7) × (r - 2 ≡ fields - 1) ⌝ }
+    requires { ⌜ fields ≤ most-fields ⌝ }
+    ensures { λ r. ⌜ (2 ≤ r) × (r ≤ line-words) × (r - 2 ≡ fields - 1) ⌝ }
 {
     if fields < 1 {
         return 2;
@@ -42,7 +43,7 @@ fn terms_end(fields: usize) -> usize
 
 // The kind of line i, 0 where there is none.
 fn kind_at(words: &[i32], i: usize) -> usize
-    ensures { λ r. ⌜ r ≡ cond (ltb i (length (now (words .entry)) / 7)) (lineKind (take 7 (drop (i * 7) (now (words .entry))))) 0 ⌝ }
+    ensures { λ r. ⌜ r ≡ cond (ltb i (length (now (words .entry)) / line-words)) (lineKind (take line-words (drop (i * line-words) (now (words .entry))))) 0 ⌝ }
 {
     let lines = words.len() / LINE_WORDS;
     if i < lines {
@@ -65,7 +66,7 @@ fn block_at(kind: usize, block: usize) -> usize
 }
 
 fn put_head(out: &mut [u8], at: usize, line: &[i32], kind: usize) -> usize
-    requires { ⌜ length (now line) ≡ 7 ⌝ }
+    requires { ⌜ length (now line) ≡ line-words ⌝ }
     ensures { λ r. ⌜ Put (now (out .entry)) (now (out .exit)) at (headBytes (now (line .entry)) kind) r ⌝ }
 {
     let end = terms_end(small(line[0]));
@@ -76,11 +77,11 @@ fn put_head(out: &mut [u8], at: usize, line: &[i32], kind: usize) -> usize
 
 // An atom, and what stands between it and the next line of its block: in a view "=" before the rows.
 fn put_atom(out: &mut [u8], at: usize, line: &[i32], block: usize, next: usize) -> usize
-    requires { ⌜ length (now line) ≡ 7 ⌝ }
+    requires { ⌜ length (now line) ≡ line-words ⌝ }
     ensures { λ r. ⌜ Put (now (out .entry)) (now (out .exit)) at (atomBytes (now (line .entry)) block next) r ⌝ }
 {
     let n = put_byte(out, at, b' ');
-    let m = put_facts(out, n, &line[2..7], 1);
+    let m = put_facts(out, n, &line[2..LINE_WORDS], 1);
     if next == ATOM_KIND {
         return put_byte(out, m, b',');
     }
@@ -92,7 +93,7 @@ fn put_atom(out: &mut [u8], at: usize, line: &[i32], block: usize, next: usize) 
 
 // A row, bare where it has one column, and a semicolon before the next.
 fn put_row(out: &mut [u8], at: usize, line: &[i32], next: usize) -> usize
-    requires { ⌜ length (now line) ≡ 7 ⌝ }
+    requires { ⌜ length (now line) ≡ line-words ⌝ }
     ensures { λ r. ⌜ Put (now (out .entry)) (now (out .exit)) at (rowBytes (now (line .entry)) next) r ⌝ }
 {
     let n = put_byte(out, at, b' ');
@@ -104,7 +105,7 @@ fn put_row(out: &mut [u8], at: usize, line: &[i32], next: usize) -> usize
 }
 
 fn put_values(out: &mut [u8], at: usize, line: &[i32]) -> usize
-    requires { ⌜ length (now line) ≡ 7 ⌝ }
+    requires { ⌜ length (now line) ≡ line-words ⌝ }
     ensures { λ r. ⌜ Put (now (out .entry)) (now (out .exit)) at (valuesBytes (now (line .entry))) r ⌝ }
 {
     let fields = small(line[0]);
@@ -124,7 +125,7 @@ fn put_kind(
     block: usize,
     next: usize,
 ) -> usize
-    requires { ⌜ length (now line) ≡ 7 ⌝ }
+    requires { ⌜ length (now line) ≡ line-words ⌝ }
     ensures { λ r. ⌜ Put (now (out .entry)) (now (out .exit)) at (kindBytes (now (line .entry)) kind block next) r ⌝ }
 {
     if kind == ATOM_KIND {
@@ -145,7 +146,7 @@ fn put_line(
     block: usize,
     next: usize,
 ) -> usize
-    requires { ⌜ length (now line) ≡ 7 ⌝ }
+    requires { ⌜ length (now line) ≡ line-words ⌝ }
     ensures { λ r. ⌜ Put (now (out .entry)) (now (out .exit)) at (lineBytes (now (line .entry)) kind block next) r ⌝ }
 {
     let n = put_kind(out, at, line, kind, block, next);

@@ -21,6 +21,7 @@ use Rattle.sheet_format.proofs.LineLaws.{line-shown, bytes-length}
 use Rattle.sheet_format.proofs.ScanLaws.{accepted-scan}
 use Rattle.sheet_format.proofs.RoundTrip.{bytes-clean}
 use Rattle.query_meaning.specs.Blocks.{asTerm, blocks}
+use Rattle.query_meaning.specs.Evaluate.{answer-words}
 use Rattle.query_blocks.proofs.Accepted.{Clean, scan-first}
 use Rattle.case_verdicts.specs.Sheets.{isQuestion, sheetOf}
 use Rattle.judge.specs.Judged.{least-room, Judged, Sent}
@@ -42,7 +43,7 @@ value-below {n} h = rw (toZ-pos w32 n (omega arith), lt-ltb n field-end h)
 pub value-beyond : {n : ℕ} → field-end ≤ n → pos 0 ≡ valueWord n
 value-beyond {n} h = rw (le-ltb n field-end h)
 
-four-values : (m : List ℕ) → length m ≡ 4 → valueWord (getD m 0 0) ∷ valueWord (getD m 1 0) ∷ valueWord (getD m 2 0) ∷ valueWord (getD m 3 0) ∷ [] ≡ map valueWord m
+four-values : (m : List ℕ) → length m ≡ answer-words → valueWord (getD m 0 0) ∷ valueWord (getD m 1 0) ∷ valueWord (getD m 2 0) ∷ valueWord (getD m 3 0) ∷ [] ≡ map valueWord m
 four-values [] e = absurd (omega arith)
 four-values (a ∷ []) e = absurd (omega arith)
 four-values (a ∷ b ∷ []) e = absurd (omega arith)
@@ -51,7 +52,7 @@ four-values (a ∷ b ∷ c ∷ d ∷ []) e = refl
 four-values (a ∷ b ∷ c ∷ d ∷ f ∷ m) e = absurd (omega arith)
 
 -- the first of four words that are the values
-pub some-values : (columns some : ℕ) (m : List ℕ) {a b c d : ℤ} → length m ≡ 4 → some ≡ min columns 4
+pub some-values : (columns some : ℕ) (m : List ℕ) {a b c d : ℤ} → length m ≡ answer-words → some ≡ min columns answer-words
     → a ≡ valueWord (getD m 0 0) → b ≡ valueWord (getD m 1 0) → c ≡ valueWord (getD m 2 0) → d ≡ valueWord (getD m 3 0)
     → take (some - 0) (a ∷ b ∷ c ∷ d ∷ []) ≡ take columns (map valueWord m)
 some-values columns some m l e f g h i =
@@ -101,7 +102,7 @@ asked-is s clean = go (closed s) (null (openFrom [] s)) (bytes-clean s clean)
 
 -- ---- what is said
 
-case-few : (columns : ℕ) (missing : List ℕ) (count : ℕ) (facts : List ℤ) → length missing ≡ 4 → length facts ≡ least-room → length (caseBytes columns missing count facts) ≤ text-room
+case-few : (columns : ℕ) (missing : List ℕ) (count : ℕ) (facts : List ℤ) → length missing ≡ answer-words → length facts ≡ least-room → length (caseBytes columns missing count facts) ≤ text-room
 unfolding caseBytes
 case-few columns missing count facts m l =
     let vs = map valueWord missing in
@@ -131,7 +132,7 @@ module _ (s out : List ℕ) (room : text-room ≤ length out) (after : List ℤ)
   accepted : (j .verdict ≡ 9 → ⊥) → sheetRefusal s .number ≡ 0
   accepted n = ⊎-elim (λ (d : Sent s lent after j). absurd (n (ap (λ (q : Judgement). q .verdict) (d .result)))) (λ d. d .0) judged
 
-  pub case : (j .verdict ≡ 0 → ⊥) → (j .verdict ≡ 2 → ⊥) → (j .verdict ≡ 9 → ⊥) → length (j .missing) ≡ 4 → length after ≡ least-room
+  pub case : (j .verdict ≡ 0 → ⊥) → (j .verdict ≡ 2 → ⊥) → (j .verdict ≡ 9 → ⊥) → length (j .missing) ≡ answer-words → length after ≡ least-room
       → (columns : ℕ) → columns ≡ length (lineAt s 1) / field-bytes - 1 → Put out new 0 (caseBytes columns (j .missing) (j .count) after) r → Verdict s out new r
   unfolding verdictBytes
   case a b c m l columns e p =

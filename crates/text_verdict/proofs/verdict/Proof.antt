@@ -5,6 +5,7 @@ use Prim.Native.Nat.{ℕ}
 use native.Mathlib.Omega.{arith}
 use borrow.Author.Needs.{needs, length-unmapped}
 use lib.ListN.{length}
+use Rattle.query_meaning.specs.Evaluate.{answer-words}
 use Rattle.text_verdict.proofs.Calls.{covered, no-log, refused, case}
 use Rattle.text_verdict.proofs.verdict.Statement.{statement}
 use Rattle.text_verdict.proofs.verdict.Tie as tie
@@ -87,7 +88,7 @@ returns-5 c =
     let a = judge .before .before .before .before .before .args in
     let j = judge .judge in
     let p = put .put-case in
-    let m : length (j .result .missing) ≡ 4 = length-unmapped ℕ (j .result .missing) 4 (j .ok .1 .1 .1 .1 .1 .1 .0 .1 .0 .1) in
+    let m : length (j .result .missing) ≡ answer-words = length-unmapped ℕ (j .result .missing) answer-words (j .ok .1 .1 .1 .1 .1 .1 .0 .1 .0 .1) in
     case (a .sheet .now) (a .out .now) (omega arith) (j .last .1 .0) (j .result) (j .ensures) (p .last .0) (p .result) (fourth .before .before .if2 .left) (fourth .before .if3 .left) (fourth .if4 .left) m (j .kept .1 .0) (columns .columns .result) (columns .columns .ensures) (p .ensures)
 
 pub verdict-spec : {M : Type 1} → statement M
