@@ -10,13 +10,15 @@ use borrow.Author.Tests.{lt-ltb, le-ltb}
 use lib.Dec.{ltb}
 use lib.ListN.{length, getD, take, drop, length-append, length-drop, List·getD-append}
 use lib.Seq.{ext-getD, getD-take, getD-drop, getD-append-add, length-take-le}
+use Rattle.tableau_layout.specs.Layout.{view-block}
+use Rattle.sheet_format.specs.Limits.{most-atoms}
 use Rattle.list_laws.specs.Kept.{Filled}
 use Rattle.query_join.specs.Joins.{AtomMet, Given}
 use Rattle.tableau_plan.specs.Plan.{rowCount, blockNumbers, blockSize}
 use Rattle.tableau_parts.specs.Views.{NoStray, Missing, MissingBy}
 use Rattle.tableau_parts.specs.Walks.{GivenTo}
-use Rattle.case_minimization.specs.Shrink.{IsCase, CaseBy, without, Part, Shrunk}
-use Rattle.case_minimization.specs.Parts.{Tried}
+use Rattle.case_minimization.specs.Minimization.{IsCase, CaseBy, without, SubFacts, Shrunk}
+use Rattle.case_minimization.specs.Parts.{TriedFact}
 
 -- ---- cases
 
@@ -51,10 +53,10 @@ without-above ns n i y l lt h =
 
 -- ---- parts
 
-pub part-all : (ns : List ℕ) (n : ℕ) → Part ns n ns n
+pub part-all : (ns : List ℕ) (n : ℕ) → SubFacts ns n ns n
 part-all ns n = record { from = λ i. i; inside = λ i h. h; rising = λ i j h k. h; same = λ i h c k. refl }
 
-pub part-part : (a b c : List ℕ) (n m k : ℕ) → Part a n b m → Part b m c k → Part a n c k
+pub part-part : (a b c : List ℕ) (n m k : ℕ) → SubFacts a n b m → SubFacts b m c k → SubFacts a n c k
 part-part a b c n m k x y = record {
   from = λ i. x .from (y .from i);
   inside = λ i h. x .inside (y .from i) (y .inside i h);
@@ -74,7 +76,7 @@ skip-above : (i j : ℕ) → i ≤ j → skip i j ≡ suc j
 unfolding skip
 skip-above i j h = rw (le-ltb j i h)
 
-pub part-without : (ns : List ℕ) (n i : ℕ) → length ns ≡ n * 5 → i < n → Part ns n (without ns i) (n - 1)
+pub part-without : (ns : List ℕ) (n i : ℕ) → length ns ≡ n * 5 → i < n → SubFacts ns n (without ns i) (n - 1)
 part-without ns n i l lt = record { from = skip i; inside = inside; rising = rising; same = same }
   where
     inside : (j : ℕ) → j < n - 1 → skip i j < n
@@ -105,7 +107,7 @@ part-without ns n i l lt = record { from = skip i; inside = inside; rising = ris
             without-above ns n i (j * 5 + c) l lt (omega arith) ∙ ap (λ y. getD ns y 0) e
 
 -- what a part of the facts gives, the facts give too
-pub given-part : (blk : List ℕ) (k : ℕ) (ns : List ℕ) (n : ℕ) (ms : List ℕ) (m : ℕ) (w : List ℕ) → length ns ≡ n * 5 → length ms ≡ m * 5 → Part ns n ms m → Given blk k ms w → Given blk k ns w
+pub given-part : (blk : List ℕ) (k : ℕ) (ns : List ℕ) (n : ℕ) (ms : List ℕ) (m : ℕ) (w : List ℕ) → length ns ≡ n * 5 → length ms ≡ m * 5 → SubFacts ns n ms m → Given blk k ms w → Given blk k ns w
 given-part blk k ns n ms m w l l′ q g = record { val = g .val; met = λ j lt. move j (g .met j lt); gives = g .gives }
   where
     move : (j : ℕ) → AtomMet blk ms (g .val) j → AtomMet blk ns (g .val) j
@@ -127,7 +129,7 @@ given-part blk k ns n ms m w l l′ q g = record { val = g .val; met = λ j lt. 
 pub no-stray-without : (p ns : List ℕ) (n i : ℕ) → length ns ≡ n * 5 → i < n → NoStray p ns → NoStray p (without ns i)
 no-stray-without p ns n i l lt s v h u g =
     s v h u
-    (given-part (blockNumbers p (2 + v)) (min (blockSize p (2 + v)) 6) ns n (without ns i) (n - 1) u l (length-without ns n i l lt) (part-without ns n i l lt) g)
+    (given-part (blockNumbers p (view-block v)) (min (blockSize p (view-block v)) most-atoms) ns n (without ns i) (n - 1) u l (length-without ns n i l lt) (part-without ns n i l lt) g)
 
 -- whether a case is left without fact i, asked of the same facts in another place
 pub left-without : (b : Bool) (p ms ks : List ℕ) (m i : ℕ) → length ms ≡ m * 5 → i < m → ks ≡ without ms i → NoStray p ms → (NoStray p ks → CaseBy b p ks) → CaseBy b p (without ms i)
@@ -178,14 +180,14 @@ patched-all xs ys zs n i y lt lx ly at m e =
 
 -- ---- facts tried
 
-pub tried-none : (p ns : List ℕ) (n before : ℕ) → IsCase p ns → Tried p ns n ns n before 0
+pub tried-none : (p ns : List ℕ) (n before : ℕ) → IsCase p ns → TriedFact p ns n ns n before 0
 tried-none p ns n before c = record { part = part-all ns n; still = c; needed = λ e j h. absurd (omega arith) }
 
-pub tried-kept : (p ns : List ℕ) (n : ℕ) (ms : List ℕ) (m before i : ℕ) → (IsCase p (without ms i) → ⊥) → Tried p ns n ms m before i → Tried p ns n ms m before (i + 1)
+pub tried-kept : (p ns : List ℕ) (n : ℕ) (ms : List ℕ) (m before i : ℕ) → (IsCase p (without ms i) → ⊥) → TriedFact p ns n ms m before i → TriedFact p ns n ms m before (i + 1)
 tried-kept p ns n ms m before i f t = record { part = t .part; still = t .still; needed = λ e. below-more (λ j. IsCase p (without ms j) → ⊥) i (t .needed e) f }
 
 -- fact i has been dropped
-pub tried-dropped : (p ns : List ℕ) (n : ℕ) (ms : List ℕ) (m i : ℕ) → length ms ≡ m * 5 → i < m → m ≤ n → IsCase p (without ms i) → Tried p ns n ms m n i → Tried p ns n (without ms i) (m - 1) n i
+pub tried-dropped : (p ns : List ℕ) (n : ℕ) (ms : List ℕ) (m i : ℕ) → length ms ≡ m * 5 → i < m → m ≤ n → IsCase p (without ms i) → TriedFact p ns n ms m n i → TriedFact p ns n (without ms i) (m - 1) n i
 tried-dropped p ns n ms m i l lt few c t = record {
   part = part-part ns ms (without ms i) n m (m - 1) (t .part) (part-without ms m i l lt);
   still = c;
@@ -193,12 +195,12 @@ tried-dropped p ns n ms m i l lt few c t = record {
 }
 
 -- no pass yet
-pub tried-start : (p ns : List ℕ) (n before : ℕ) → n < before → IsCase p ns → Tried p ns n ns n before n
+pub tried-start : (p ns : List ℕ) (n before : ℕ) → n < before → IsCase p ns → TriedFact p ns n ns n before n
 tried-start p ns n before lt c = record { part = part-all ns n; still = c; needed = λ e. absurd (omega arith) }
 
 -- one more pass
-pub tried-again : (p ns : List ℕ) (n : ℕ) (ms : List ℕ) (m before i : ℕ) (ks : List ℕ) (k : ℕ) → Tried p ns n ms m before i → Tried p ms m ks k m k → Tried p ns n ks k m k
+pub tried-again : (p ns : List ℕ) (n : ℕ) (ms : List ℕ) (m before i : ℕ) (ks : List ℕ) (k : ℕ) → TriedFact p ns n ms m before i → TriedFact p ms m ks k m k → TriedFact p ns n ks k m k
 tried-again p ns n ms m before i ks k t u = record { part = part-part ns ms ks n m k (t .part) (u .part); still = u .still; needed = u .needed }
 
-pub shrunk : (p ns : List ℕ) (n : ℕ) (ms : List ℕ) (m before : ℕ) → length ms ≡ m * 5 → m ≡ before → Tried p ns n ms m before m → Shrunk p ns n ms m
+pub shrunk : (p ns : List ℕ) (n : ℕ) (ms : List ℕ) (m before : ℕ) → length ms ≡ m * 5 → m ≡ before → TriedFact p ns n ms m before m → Shrunk p ns n ms m
 shrunk p ns n ms m before l e t = record { count = l; part = t .part; still = t .still; spare-free = t .needed e }

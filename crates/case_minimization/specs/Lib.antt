@@ -1,2 +1,2 @@
-pub mod Shrink
+pub mod Minimization
 pub mod Parts

@@ -1,31 +1,31 @@
 // Dropping facts from a case until none is to spare.
+use query_layout::FACT_NUMBERS;
+use sheet_format::MOST_ATOMS;
+use sheet_format::MOST_LISTS;
+use sheet_format::MOST_ROWS;
+use tableau_layout::PLAN_NUMBERS;
+use tableau_layout::TABLEAU_ATOMS;
+use tableau_layout::TABLEAU_NUMBERS;
 ghost use mathlib.Core.Path.{_≡_};
 ghost use mathlib.Core.Bool.{true};
 ghost use Prim.Native.Nat.{_+_, _-_, _*_, _<_, _≤_};
 ghost use lib.ListN.{length, take};
+ghost use Rattle.tableau_layout.specs.Layout.{tableau-atoms};
+ghost use Rattle.sheet_format.specs.Limits.{most-rows};
 ghost use Rattle.tableau_plan.specs.Plan.{rowCount};
 ghost use Rattle.tableau_parts.specs.Walks as walks;
 ghost use Rattle.tableau_parts.specs.Views.{NoStray, Missing};
-ghost use Rattle.case_minimization.specs.Shrink.{IsCase, CaseBy, without, Shrunk};
-ghost use Rattle.case_minimization.specs.Parts.{Tried};
-
-// A fact's numbers: its relation and four values.
-const WIDTH: usize = 5;
-
-const MOST_FACTS: usize = 126;
-
-const MOST_NUMBERS: usize = MOST_FACTS * WIDTH;
+ghost use Rattle.case_minimization.specs.Minimization.{IsCase, CaseBy, without, Shrunk};
+ghost use Rattle.case_minimization.specs.Parts.{TriedFact};
 
 // A listed row's places of facts, one for each atom of its view; and those of forty rows.
-const PLACES: usize = 6;
-
-const MOST_PLACES: usize = 240;
+const MOST_PLACES: usize = MOST_ROWS * MOST_ATOMS;
 
 // The places kept for listed row r.
-fn kept(by: &[usize; 240], r: usize) -> [usize; 6]
-    requires { ⌜ r < 40 ⌝ }
+fn kept(by: &[usize; MOST_PLACES], r: usize) -> [usize; MOST_ATOMS]
+    requires { ⌜ r < most-rows ⌝ }
 {
-    let at = r * PLACES;
+    let at = r * MOST_ATOMS;
     [
         by[at],
         by[at + 1],
@@ -37,26 +37,26 @@ fn kept(by: &[usize; 240], r: usize) -> [usize; 6]
 }
 
 // Keeps places for listed row r.
-fn keep(by: &mut [usize; 240], r: usize, at: [usize; 6])
-    requires { ⌜ r < 40 ⌝ }
+fn keep(by: &mut [usize; MOST_PLACES], r: usize, at: [usize; MOST_ATOMS])
+    requires { ⌜ r < most-rows ⌝ }
 {
     let mut j = 0;
-    while j < PLACES {
-        by[r * PLACES + j] = at[j];
+    while j < MOST_ATOMS {
+        by[r * MOST_ATOMS + j] = at[j];
         j += 1;
     }
 }
 
 // Whether fact i is at one of the places.
-fn uses(at: [usize; 6], i: usize) -> bool {
+fn uses(at: [usize; MOST_ATOMS], i: usize) -> bool {
     at[0] == i || at[1] == i || at[2] == i || at[3] == i || at[4] == i || at[5] == i
 }
 
 // The places where fact i is left out: those after it are one lower.
-fn lowered(at: [usize; 6], i: usize) -> [usize; 6] {
+fn lowered(at: [usize; MOST_ATOMS], i: usize) -> [usize; MOST_ATOMS] {
     let mut low = at;
     let mut j = 0;
-    while j < PLACES {
+    while j < MOST_ATOMS {
         if i < low[j] {
             low[j] -= 1;
         }
@@ -66,15 +66,15 @@ fn lowered(at: [usize; 6], i: usize) -> [usize; 6] {
 }
 
 // Places of facts by which listed row r is given.
-fn places_of(p: &[usize; 1184], facts: &[usize], n: usize, r: usize) -> [usize; 6]
-    requires { ⌜ (n ≤ 126) × (n * 5 ≤ length (now facts)) ⌝ }
+fn places_of(p: &[usize; PLAN_NUMBERS], facts: &[usize], n: usize, r: usize) -> [usize; MOST_ATOMS]
+    requires { ⌜ (n ≤ tableau-atoms) × (n * 5 ≤ length (now facts)) ⌝ }
 {
-    tableau_witness::row_witness(p, &facts[..n * WIDTH], r)
+    tableau_witness::row_witness(p, &facts[..n * FACT_NUMBERS], r)
 }
 
 // Places of facts by which the listed rows are given.
-fn places(p: &[usize; 1184], facts: &[usize], n: usize) -> [usize; 240]
-    requires { ⌜ (n ≤ 126) × (n * 5 ≤ length (now facts)) ⌝ }
+fn places(p: &[usize; PLAN_NUMBERS], facts: &[usize], n: usize) -> [usize; MOST_PLACES]
+    requires { ⌜ (n ≤ tableau-atoms) × (n * 5 ≤ length (now facts)) ⌝ }
 {
     let rows = tableau_parts::row_count(p);
     let mut by = [usize::MAX; MOST_PLACES];
@@ -88,8 +88,14 @@ fn places(p: &[usize; 1184], facts: &[usize], n: usize) -> [usize; 240]
 }
 
 // The places after fact i has been dropped, of which n are left: where it was used, others.
-fn renew(p: &[usize; 1184], facts: &[usize], n: usize, by: &mut [usize; 240], i: usize)
-    requires { ⌜ (n ≤ 126) × (n * 5 ≤ length (now facts)) ⌝ }
+fn renew(
+    p: &[usize; PLAN_NUMBERS],
+    facts: &[usize],
+    n: usize,
+    by: &mut [usize; MOST_PLACES],
+    i: usize,
+)
+    requires { ⌜ (n ≤ tableau-atoms) × (n * 5 ≤ length (now facts)) ⌝ }
 {
     let rows = tableau_parts::row_count(p);
     let mut r = 0;
@@ -106,11 +112,11 @@ fn renew(p: &[usize; 1184], facts: &[usize], n: usize, by: &mut [usize; 240], i:
 }
 
 // Whether a row that fact i was used for is not given where it is left out.
-fn loses(p: &[usize; 1184], facts: &[usize], by: &[usize; 240], i: usize) -> bool
-    ensures { λ r. ⌜ (walks.Ready (now (p .entry)) → r ≡ true → walks.GivenTo (now (p .entry)) (now (facts .entry)) (rowCount (now (p .entry))) → ⊥) ⌝ }
+fn loses(p: &[usize; PLAN_NUMBERS], facts: &[usize], by: &[usize; MOST_PLACES], i: usize) -> bool
+    ensures { λ r. ⌜ (walks.FormedPlan (now (p .entry)) → r ≡ true → walks.GivenTo (now (p .entry)) (now (facts .entry)) (rowCount (now (p .entry))) → ⊥) ⌝ }
 {
     let rows = tableau_parts::row_count(p);
-    let nowhere = [usize::MAX; PLACES];
+    let nowhere = [usize::MAX; MOST_ATOMS];
     let mut r = 0;
     while r < rows {
         let at = kept(by, r);
@@ -125,8 +131,8 @@ fn loses(p: &[usize; 1184], facts: &[usize], by: &[usize; 240], i: usize) -> boo
 }
 
 // Whether all listed rows are given where fact i is left out. The places kept are asked first.
-fn keeps(p: &[usize; 1184], facts: &[usize], by: &[usize; 240], i: usize) -> bool
-    ensures { λ r. ⌜ (walks.Ready (now (p .entry)) → walks.GivenToBy r (now (p .entry)) (now (facts .entry)) (rowCount (now (p .entry)))) ⌝ }
+fn keeps(p: &[usize; PLAN_NUMBERS], facts: &[usize], by: &[usize; MOST_PLACES], i: usize) -> bool
+    ensures { λ r. ⌜ (walks.FormedPlan (now (p .entry)) → walks.GivenToBy r (now (p .entry)) (now (facts .entry)) (rowCount (now (p .entry)))) ⌝ }
 {
     let rows = tableau_parts::row_count(p);
     let mut r = 0;
@@ -142,8 +148,13 @@ fn keeps(p: &[usize; 1184], facts: &[usize], by: &[usize; 240], i: usize) -> boo
 }
 
 // Whether all listed rows are given where fact i is left out. The rows that it was used for are asked first.
-fn all_given(p: &[usize; 1184], facts: &[usize], by: &[usize; 240], i: usize) -> bool
-    ensures { λ r. ⌜ (walks.Ready (now (p .entry)) → walks.GivenToBy r (now (p .entry)) (now (facts .entry)) (rowCount (now (p .entry)))) ⌝ }
+fn all_given(
+    p: &[usize; PLAN_NUMBERS],
+    facts: &[usize],
+    by: &[usize; MOST_PLACES],
+    i: usize,
+) -> bool
+    ensures { λ r. ⌜ (walks.FormedPlan (now (p .entry)) → walks.GivenToBy r (now (p .entry)) (now (facts .entry)) (rowCount (now (p .entry)))) ⌝ }
 {
     if loses(p, facts, by, i) {
         return false;
@@ -151,26 +162,26 @@ fn all_given(p: &[usize; 1184], facts: &[usize], by: &[usize; 240], i: usize) ->
     keeps(p, facts, by, i)
 }
 
-// Whether the question is given a row and the list is not.
-fn lacks(p: &[usize; 1184], facts: &[usize], row: [usize; 4]) -> bool
-    ensures { λ r. ⌜ (walks.Ready (now (p .entry)) → r ≡ true → Missing (now (p .entry)) (now (facts .entry)) row) ⌝ }
+// Whether the question is given a row and no list is.
+fn lacks(p: &[usize; PLAN_NUMBERS], facts: &[usize], row: [usize; 4]) -> bool
+    ensures { λ r. ⌜ (walks.FormedPlan (now (p .entry)) → r ≡ true → Missing (now (p .entry)) (now (facts .entry)) row) ⌝ }
 {
     if !tableau_answers::question_gives(p, facts, row) {
         return false;
     }
-    !tableau_answers::list_gives(p, facts, row)
+    MOST_LISTS <= tableau_answers::giving_list(p, facts, row)
 }
 
-// Whether facts without fact i that give no stray row are a case, and then an answer that the list lacks. The places kept and the row seen are
+// Whether facts without fact i that give no stray row are a case, and then an answer that the lists lack. The places kept and the row seen are
 // tried first, whatever they are.
 fn is_left(
-    p: &[usize; 1184],
+    p: &[usize; PLAN_NUMBERS],
     facts: &[usize],
-    by: &[usize; 240],
+    by: &[usize; MOST_PLACES],
     i: usize,
     seen: [usize; 4],
 ) -> query_rows::Row
-    ensures { λ r. ⌜ (walks.Ready (now (p .entry)) → NoStray (now (p .entry)) (now (facts .entry)) → CaseBy (r .some) (now (p .entry)) (now (facts .entry))) ⌝ }
+    ensures { λ r. ⌜ (walks.FormedPlan (now (p .entry)) → NoStray (now (p .entry)) (now (facts .entry)) → CaseBy (r .some) (now (p .entry)) (now (facts .entry))) ⌝ }
 {
     if !all_given(p, facts, by, i) {
         return query_rows::Row {
@@ -201,20 +212,20 @@ fn copy(facts: &[usize], count: usize, out: &mut [usize])
 
 // Moves what follows fact i down by a fact.
 fn close_gap(facts: &mut [usize], n: usize, i: usize)
-    requires { ⌜ (i < n) × (n ≤ 126) × (n * 5 ≤ length (now facts)) ⌝ }
+    requires { ⌜ (i < n) × (n ≤ tableau-atoms) × (n * 5 ≤ length (now facts)) ⌝ }
     ensures { λ r. ⌜ take ((n - 1) * 5) (now (facts .exit)) ≡ without (take (n * 5) (now (facts .entry))) i ⌝ }
 {
-    let end = (n - 1) * WIDTH;
-    let mut y = i * WIDTH;
+    let end = (n - 1) * FACT_NUMBERS;
+    let mut y = i * FACT_NUMBERS;
     while y < end {
-        facts[y] = facts[y + WIDTH];
+        facts[y] = facts[y + FACT_NUMBERS];
         y += 1;
     }
 }
 
 // Moves what follows fact i down by a fact, if there is a fact i.
 fn leave_out(facts: &mut [usize], n: usize, i: usize)
-    requires { ⌜ (n ≤ 126) × (n * 5 ≤ length (now facts)) ⌝ }
+    requires { ⌜ (n ≤ tableau-atoms) × (n * 5 ≤ length (now facts)) ⌝ }
     ensures { λ r. ⌜ (i < n → take ((n - 1) * 5) (now (facts .exit)) ≡ without (take (n * 5) (now (facts .entry))) i) ⌝ }
 {
     if i < n {
@@ -224,48 +235,53 @@ fn leave_out(facts: &mut [usize], n: usize, i: usize)
 
 // Copies the facts but the first.
 fn copy_rest(facts: &[usize], n: usize, room: &mut [usize])
-    requires { ⌜ (n ≤ 126) × (n * 5 ≤ length (now facts)) × (n * 5 ≤ length (now room)) ⌝ }
+    requires { ⌜ (n ≤ tableau-atoms) × (n * 5 ≤ length (now facts)) × (n * 5 ≤ length (now room)) ⌝ }
     ensures { λ r. ⌜ (0 < n → take ((n - 1) * 5) (now (room .exit)) ≡ without (take (n * 5) (now (facts .entry))) 0) ⌝ }
 {
-    copy(facts, n * WIDTH, room);
+    copy(facts, n * FACT_NUMBERS, room);
     leave_out(room, n, 0);
 }
 
 // Puts fact i back into the room that lacks it, where the next one stands: the room lacks the next one then.
 fn put_back(facts: &[usize], n: usize, i: usize, room: &mut [usize])
-    requires { ⌜ (i < n) × (n ≤ 126) × (n * 5 ≤ length (now facts)) × (n * 5 ≤ length (now room)) ⌝ }
+    requires { ⌜ (i < n) × (n ≤ tableau-atoms) × (n * 5 ≤ length (now facts)) × (n * 5 ≤ length (now room)) ⌝ }
     ensures { λ r. ⌜ (take ((n - 1) * 5) (now (room .entry)) ≡ without (take (n * 5) (now (facts .entry))) i → i + 1 < n → take ((n - 1) * 5) (now (room .exit)) ≡ without (take (n * 5) (now (facts .entry))) (i + 1)) ⌝ }
 {
-    let end = i * WIDTH + WIDTH;
-    let mut y = i * WIDTH;
+    let end = i * FACT_NUMBERS + FACT_NUMBERS;
+    let mut y = i * FACT_NUMBERS;
     while y < end {
         room[y] = facts[y];
         y += 1;
     }
 }
 
-// Whether a case is left of n facts in the room that lacks fact i, and then an answer that the list lacks.
+// Whether a case is left of n facts in the room that lacks fact i, and then an answer that the lists lack.
 fn drops(
-    p: &[usize; 1184],
+    p: &[usize; PLAN_NUMBERS],
     room: &[usize],
     n: usize,
-    by: &[usize; 240],
+    by: &[usize; MOST_PLACES],
     i: usize,
     seen: [usize; 4],
 ) -> query_rows::Row
-    requires { ⌜ (0 < n) × (n ≤ 126) × (n * 5 ≤ length (now room)) ⌝ }
-    ensures { λ r. ⌜ (walks.Ready (now (p .entry)) → NoStray (now (p .entry)) (take ((n - 1) * 5) (now (room .entry))) → CaseBy (r .some) (now (p .entry)) (take ((n - 1) * 5) (now (room .entry)))) ⌝ }
+    requires { ⌜ (0 < n) × (n ≤ tableau-atoms) × (n * 5 ≤ length (now room)) ⌝ }
+    ensures { λ r. ⌜ (walks.FormedPlan (now (p .entry)) → NoStray (now (p .entry)) (take ((n - 1) * 5) (now (room .entry))) → CaseBy (r .some) (now (p .entry)) (take ((n - 1) * 5) (now (room .entry)))) ⌝ }
 {
-    is_left(p, &room[..(n - 1) * WIDTH], by, i, seen)
+    is_left(p, &room[..(n - 1) * FACT_NUMBERS], by, i, seen)
 }
 
 // Tries each fact once, and drops it where a case is left without it; how many facts are left.
-fn pass(p: &[usize; 1184], facts: &mut [usize], n: usize, by: &mut [usize; 240]) -> usize
-    requires { ⌜ (n ≤ 126) × (n * 5 ≤ length (now facts)) ⌝ }
+fn pass(
+    p: &[usize; PLAN_NUMBERS],
+    facts: &mut [usize],
+    n: usize,
+    by: &mut [usize; MOST_PLACES],
+) -> usize
+    requires { ⌜ (n ≤ tableau-atoms) × (n * 5 ≤ length (now facts)) ⌝ }
     ensures { λ m. ⌜ m ≤ n ⌝ }
-    ensures { λ m. ⌜ (walks.Ready (now (p .entry)) → IsCase (now (p .entry)) (take (n * 5) (now (facts .entry))) → Tried (now (p .entry)) (take (n * 5) (now (facts .entry))) n (take (m * 5) (now (facts .exit))) m n m) ⌝ }
+    ensures { λ m. ⌜ (walks.FormedPlan (now (p .entry)) → IsCase (now (p .entry)) (take (n * 5) (now (facts .entry))) → TriedFact (now (p .entry)) (take (n * 5) (now (facts .entry))) n (take (m * 5) (now (facts .exit))) m n m) ⌝ }
 {
-    let mut room = [0; MOST_NUMBERS];
+    let mut room = [0; TABLEAU_NUMBERS];
     copy_rest(facts, n, &mut room);
     let mut seen = [0; 4];
     let mut m = n;
@@ -287,13 +303,13 @@ fn pass(p: &[usize; 1184], facts: &mut [usize], n: usize, by: &mut [usize; 240])
 }
 
 // Drops facts, one after the other, as long as a case is left; how many facts are left.
-pub fn shrink(p: &[usize; 1184], facts: &mut [usize], n: usize) -> usize
-    ensures { λ m. ⌜ (walks.Ready (now (p .entry)) → n ≤ 126 → n * 5 ≤ length (now (facts .entry)) → IsCase (now (p .entry)) (take (n * 5) (now (facts .entry))) → Shrunk (now (p .entry)) (take (n * 5) (now (facts .entry))) n (take (m * 5) (now (facts .exit))) m) ⌝ }
+pub fn shrink(p: &[usize; PLAN_NUMBERS], facts: &mut [usize], n: usize) -> usize
+    ensures { λ m. ⌜ (walks.FormedPlan (now (p .entry)) → n ≤ tableau-atoms → n * 5 ≤ length (now (facts .entry)) → IsCase (now (p .entry)) (take (n * 5) (now (facts .entry))) → Shrunk (now (p .entry)) (take (n * 5) (now (facts .entry))) n (take (m * 5) (now (facts .exit))) m) ⌝ }
 {
-    if MOST_FACTS < n {
+    if TABLEAU_ATOMS < n {
         return n;
     }
-    if facts.len() < n * WIDTH {
+    if facts.len() < n * FACT_NUMBERS {
         return n;
     }
     let mut by = places(p, facts, n);

@@ -7,24 +7,28 @@ use Prim.Native.Nat.{ℕ, _+_, _<_, min}
 use native.Mathlib.Omega.{arith}
 use lib.IntN.{pos}
 use lib.ListN.{length}
+use Rattle.case_verdicts.proofs.Plain.{no-keys, no-parents}
+use Rattle.tableau_layout.specs.Layout.{question-block, list-block, view-block}
+use Rattle.sheet_format.specs.Limits.{most-atoms}
 use Rattle.list_laws.specs.Order.{_⊏_}
 use Rattle.sheet_format.specs.Relations.{columnsOf}
 use Rattle.query_meaning.specs.Meaning.{Fact, Log, Block, In, Answer}
 use Rattle.query_meaning.specs.Blocks.{View, nth}
 use Rattle.query_meaning.specs.Evaluate.{_≺_}
 use Rattle.query_join.specs.Joins.{Given}
-use Rattle.query_encoding.specs.Numbers.{BlockNumbers, FactNumbers, Shaped, ShapedLog, padded}
+use Rattle.query_encoding.specs.Encoding.{BlockNumbers, FactNumbers, Shaped, ShapedLog, padded}
 use Rattle.query_encoding.proofs.Bridge.{answer-given, given-answer, head-length}
 use Rattle.query_encoding.proofs.Order.{pad-more, pad-same}
 use Rattle.case_verdicts.specs.Table.{relation, parents, Lawful}
 use Rattle.case_verdicts.specs.Verdict.{Sheet, Agreeing, Case}
-use Rattle.tableau_plan.specs.Plan.{rowAt, rowValues, viewCount, blockNumbers, blockSize}
+use Rattle.tableau_plan.specs.Plan.{rowAt, rowValues, listAt, viewCount, blockNumbers, blockSize}
 use Rattle.tableau_parts.specs.Views.{GivenAt, NoStray, AllGiven, Agree, Missing, LeastMissing}
-use Rattle.case_minimization.specs.Shrink.{IsCase}
-use Rattle.search_chase.specs.Parts.{Ready}
-use Rattle.search_chase.proofs.Node.{in-nth, no-keys, no-parents, none-stray, nth-in, ten-columns}
+use Rattle.case_minimization.specs.Minimization.{IsCase}
+use Rattle.search_chase.specs.Parts.{ReadyPlan}
+use Rattle.search_chase.proofs.Node.{in-nth, none-stray, nth-in}
 use Rattle.search_chase.proofs.ReadyLaws.{ready-task}
-use Rattle.search_chase.proofs.NodeLaws.{only-saved, saved-in}
+use Rattle.search_chase.proofs.NodeLaws.{list-in, list-index, list-shaped}
+use Rattle.search_chase.specs.declared.Goal.the-variants.{Counterexample}
 
 -- each relation is one of the ten
 abbrev pub KnownLog : Log → Type 0
@@ -33,7 +37,7 @@ KnownLog log = (f : Fact) → In f log → 0 < columnsOf (pos (f .rel))
 -- ---- a block's answers and the rows that it is given
 
 module _ (p : List ℕ) (b : ℕ) {blk : Block} (bn : BlockNumbers (blockNumbers p b) (blockSize p b) blk) (sb : Shaped blk) {ns : List ℕ} {log : Log} (fn : FactNumbers ns log) where
-  six : min (blockSize p b) 6 ≡ blockSize p b
+  six : min (blockSize p b) most-atoms ≡ blockSize p b
   six = let f = bn .few in omega arith
 
   given-at : (t : List ℕ) → Answer log blk t → GivenAt p b ns (padded t)
@@ -47,7 +51,7 @@ module _ (p : List ℕ) (b : ℕ) {blk : Block} (bn : BlockNumbers (blockNumbers
       let (s, e, a) = answer-at sl (padded t) g in
       subst (Answer log blk) (sym (pad-same t s (len ∙ sym (head-length a)) e)) a
 
-module _ (p : List ℕ) (x : Sheet) (r : Ready p x) {ns : List ℕ} {log : Log} (fn : FactNumbers ns log) (sh : ShapedLog log) where
+module _ (p : List ℕ) (x : Sheet) (r : ReadyPlan p x) {ns : List ℕ} {log : Log} (fn : FactNumbers ns log) (sh : ShapedLog log) where
   -- ---- agreeing
 
   agree : Agreeing x log → Agree p ns
@@ -60,30 +64,30 @@ module _ (p : List ℕ) (x : Sheet) (r : Ready p x) {ns : List ℕ} {log : Log} 
       all-given i lt =
           let o = r .plan .rows i lt in
           let v = rowAt p i 0 in
-          subst (GivenAt p (2 + v) ns) (sym (o .values))
-          (given-at p (2 + v) (r .plan .view v (o .view)) (r .views v (o .view)) fn (o .row)
+          subst (GivenAt p (view-block v) ns) (sym (o .values))
+          (given-at p (view-block v) (r .plan .view v (o .view)) (r .views v (o .view)) fn (o .row)
           (a .agrees (nth (x .views) v) (view-in v (o .view)) .none-missing (o .row) (o .listed)))
 
       no-stray : NoStray p ns
       no-stray v lt u g =
-          let (t, e, b) = answer-at p (2 + v) (r .plan .view v lt) (r .views v lt) fn sh u g in
+          let (t, e, b) = answer-at p (view-block v) (r .plan .view v lt) (r .views v lt) fn sh u g in
           let (i, li, f, q) = r .plan .every-row v lt t (a .agrees (nth (x .views) v) (view-in v lt) .none-more t b) in
           (i, li, f, q ∙ sym e)
 
   lawful : KnownLog log → Lawful (x .table) log
   lawful known = record {
     formed = λ f m. record { known = subst (λ k. 0 < k) (sym (columns f)) (known f m); full = sh f m .0 ∙ sym (columns f) };
-    parented = λ f m g n. absurd (subst (In g) (ap (λ t. parents t f) (r .plain) ∙ no-parents f) n);
-    keyed = λ f g m n k. no-keys x (r .plain) f g k;
+    parented = λ f m g n. absurd (subst (In g) (no-parents (r .plain) f) n);
+    keyed = λ f g m n k. no-keys (r .plain) f g k;
   }
     where
       columns : (f : Fact) → relation (x .table) (f .rel) .columns ≡ columnsOf (pos (f .rel))
-      columns f = ap (λ t. relation t (f .rel) .columns) (r .plain) ∙ ten-columns (f .rel)
+      columns f = r .plain .columns (f .rel)
 
   agreeing : KnownLog log → Agree p ns → Agreeing x log
   agreeing known (all, none) = record {
     lawful = lawful known;
-    agrees = λ w m. record { none-more = none-stray p x x (r .plan) (ready-task p x r true) log ns fn none w m; none-missing = given w m };
+    agrees = λ w m. record { none-more = none-stray p x x (r .plan) (ready-task p x r Counterexample) log ns fn none w m; none-missing = given w m };
   }
     where
       given : (w : View) → In w (x .views) → (t : List ℕ) → In t (w .rows) → Answer log (w .block) t
@@ -92,9 +96,9 @@ module _ (p : List ℕ) (x : Sheet) (r : Ready p x) {ns : List ℕ} {log : Log} 
           let c = r .plan .views in
           let k : v < viewCount p = omega arith in
           let (j, lj, f, q) = r .plan .every-row v k t (subst (λ (u : View). In t (u .rows)) e i) in
-          let g = subst (λ n. GivenAt p (2 + n) ns (rowValues p j)) f (all j lj) in
+          let g = subst (λ n. GivenAt p (view-block n) ns (rowValues p j)) f (all j lj) in
           subst (λ (u : View). Answer log (u .block) t) (sym e)
-          (answer-of p (2 + v) (r .plan .view v k) (r .views v k) fn sh t (r .accepted .lengths w m t i ∙ ap (λ (u : View). length (u .block .head)) e) (subst (GivenAt p (2 + v) ns) q g))
+          (answer-of p (view-block v) (r .plan .view v k) (r .views v k) fn sh t (r .accepted .lengths w m t i ∙ ap (λ (u : View). length (u .block .head)) e) (subst (GivenAt p (view-block v) ns) q g))
 
   -- ---- missing
 
@@ -102,14 +106,13 @@ module _ (p : List ℕ) (x : Sheet) (r : Ready p x) {ns : List ℕ} {log : Log} 
   case-length a c = head-length (c .asked)
 
   missing : (a : List ℕ) → Case x log a → Missing p ns (padded a)
-  missing a c =
-      let l = r .plan .saved in
-      let m = saved-in p x r in
-      let (sl, e) = r .lists l m in
-      record {
-        asked = given-at p 0 (r .plan .question) (r .question) fn a (c .asked);
-        lacked = λ g. c .missing l m (answer-of p 1 (r .plan .list) sl fn sh a (case-length a c ∙ sym e) g);
-      }
+  missing a c = record {
+    asked = given-at p question-block (r .plan .question) (r .question) fn a (c .asked);
+    lacked = λ o.
+        let (i, lt, g) = o in
+        let m = list-in p x r i lt in
+        c .missing (listAt x i) m (answer-of p (list-block i) (r .plan .list i lt) (list-shaped p x r i lt) fn sh a (case-length a c ∙ sym (r .lists (listAt x i) m .1)) g);
+  }
 
   -- the numbers of a case
   pub case-numbers : (a : List ℕ) → Case x log a → IsCase p ns
@@ -125,8 +128,8 @@ module _ (p : List ℕ) (x : Sheet) (r : Ready p x) {ns : List ℕ} {log : Log} 
             agreeing = agreeing known ag;
             asked = b;
             missing = λ l i c.
-                m .lacked (subst (GivenAt p 1 ns) (sym e)
-                (given-at p 1 (r .plan .list) (r .lists (r .plan .saved) (saved-in p x r) .0) fn a (subst (λ k. Answer log k a) (only-saved p x r l i) c)));
+                let (j, lt, f) = list-index p x r l i in
+                m .lacked (j, lt, subst (GivenAt p (list-block j) ns) (sym e) (given-at p (list-block j) (r .plan .list j lt) (list-shaped p x r j lt) fn a (subst (λ k. Answer log k a) (sym f) c)));
           },
         )
 

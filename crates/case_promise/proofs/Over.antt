@@ -8,12 +8,13 @@ use native.Mathlib.Omega.{arith}
 use lib.IntN.{pos}
 use lib.ListN.{length, getD, take, drop}
 use lib.Seq.{getD-take, length-take-le}
+use Rattle.tableau_layout.specs.Layout.{tableau-atoms}
 use Rattle.list_laws.specs.Order.{_⊏_}
 use Rattle.sheet_format.specs.Relations.{relations, columnsOf}
 use Rattle.query_meaning.specs.Meaning.{Fact, Log, In, fact}
-use Rattle.query_meaning.specs.Facts.{factsRefusal, logOf, value-end}
-use Rattle.query_encoding.specs.Numbers as numbers
-use Rattle.query_encoding.specs.Numbers.{FactNumbers, ShapedLog, padded}
+use Rattle.query_meaning.specs.Facts.{factsRefusal, logOf, value-end, most-facts}
+use Rattle.query_encoding.specs.Encoding as numbers
+use Rattle.query_encoding.specs.Encoding.{FactNumbers, ShapedLog, padded}
 use Rattle.query_encoding.proofs.Lists.{at-in, in-at}
 use Rattle.query_facts.proofs.Laws.{shaped-log}
 use Rattle.case_verdicts.specs.Verdict.{Sheet, Case}
@@ -26,8 +27,8 @@ use Rattle.case_verdicts.proofs.Check as check
 use Rattle.case_verdicts.proofs.Check.{MadeUp}
 use Rattle.tableau_parts.specs.Views.{LeastMissing}
 use Rattle.case_order.specs.Order.{factAt, Rising, Among, Ordered}
-use Rattle.case_minimization.specs.Shrink.{IsCase, Part, Shrunk}
-use Rattle.search_chase.specs.Parts.{Ready}
+use Rattle.case_minimization.specs.Minimization.{IsCase, SubFacts, Shrunk}
+use Rattle.search_chase.specs.Parts.{ReadyPlan}
 use Rattle.case_promise.proofs.Words.{FineFact, dropped-numbers, fine-fact, fine-same, rising-far, same-fact, same-five, words-accepted, words-count, words-distinct, words-numbers}
 use Rattle.case_promise.proofs.Cases.{KnownLog, case-numbers, least-case}
 
@@ -40,7 +41,7 @@ pub record HandedNumbers (x : Sheet) (ks : List ℕ) (k : ℕ) (u : List ℕ) : 
   pub facts : length (handed .log) ≡ k
   pub answer-is : u ≡ padded (handed .answer)
   -- the numbers fit words
-  pub few : k ≤ 126
+  pub few : k ≤ tableau-atoms
   pub small : (j : ℕ) → j < length ks → getD ks j 0 < 2147483648
 
 -- ---- facts picked from others
@@ -48,7 +49,7 @@ pub record HandedNumbers (x : Sheet) (ks : List ℕ) (k : ℕ) (u : List ℕ) : 
 -- the k facts of `ks` are some of the first n facts of `ns`, ascending
 record Picked (ns : List ℕ) (n : ℕ) (ks : List ℕ) (k : ℕ) : Type 0 where
   count : length ks ≡ k * 5
-  few : k ≤ 126
+  few : k ≤ tableau-atoms
   rising : Rising ks k
   only : (i : ℕ) → i < k → Among ns n (factAt ks i)
 
@@ -56,7 +57,7 @@ pub taken-fact : (ms : List ℕ) (m i : ℕ) → i < m → factAt (take (m * 5) 
 taken-fact ms m i h = same-five (take (m * 5) ms) ms i i
     (getD-take (m * 5) ms (i * 5) 0 (omega arith)) (λ c o. getD-take (m * 5) ms (i * 5 + 1 + c) 0 (omega arith))
 
-picked-ordered : {ns : List ℕ} {n : ℕ} {ms : List ℕ} {m : ℕ} → n ≤ 126 → Ordered ns n ms m → m * 5 ≤ length ms → Picked ns n (take (m * 5) ms) m
+picked-ordered : {ns : List ℕ} {n : ℕ} {ms : List ℕ} {m : ℕ} → n ≤ tableau-atoms → Ordered ns n ms m → m * 5 ≤ length ms → Picked ns n (take (m * 5) ms) m
 picked-ordered {ns} {n} {ms} {m} small o room = record {
   count = length-take-le (m * 5) ms room;
   few = let f = o .few in omega arith;
@@ -66,7 +67,7 @@ picked-ordered {ns} {n} {ms} {m} small o room = record {
   only = λ i h. let (j, lt, e) = o .only i h in (j, lt, e ∙ sym (taken-fact ms m i h));
 }
 
-module _ {ms : List ℕ} {m : ℕ} {ks : List ℕ} {k : ℕ} (t : Part ms m ks k) where
+module _ {ms : List ℕ} {m : ℕ} {ks : List ℕ} {k : ℕ} (t : SubFacts ms m ks k) where
   part-fact : (i : ℕ) → i < k → factAt ms (t .from i) ≡ factAt ks i
   part-fact i h = same-five ms ks (t .from i) i
       (ap (λ n. getD ms n 0) (sym (add-zero (t .from i * 5))) ∙ sym (t .same i h 0 (omega arith)) ∙ ap (λ n. getD ks n 0) (add-zero (i * 5)))
@@ -92,7 +93,7 @@ module _ {ms : List ℕ} {m : ℕ} {ks : List ℕ} {k : ℕ} (t : Part ms m ks k
           let u = t .inside i (omega arith) in
           omega arith
 
-picked-part : {ns : List ℕ} {n : ℕ} {ms : List ℕ} {m : ℕ} {ks : List ℕ} {k : ℕ} → Picked ns n ms m → Part ms m ks k → length ks ≡ k * 5 → Picked ns n ks k
+picked-part : {ns : List ℕ} {n : ℕ} {ms : List ℕ} {m : ℕ} {ks : List ℕ} {k : ℕ} → Picked ns n ms m → SubFacts ms m ks k → length ks ≡ k * 5 → Picked ns n ks k
 picked-part {ns} {n} {ms} {m} {ks} {k} q t size = record {
   count = size;
   few = let a = q .few in let b = part-few t in omega arith;
@@ -129,7 +130,7 @@ module _ {ns : List ℕ} {log : Log} (fn : FactNumbers ns log) (sh : ShapedLog l
   picked-fine : (i : ℕ) → i < k → FineFact ks i
   picked-fine i h = let (j, lt, e) = q .only i h in fine-same ns ks j i e (fine j lt)
 
-  most : k ≤ 128
+  most : k ≤ most-facts
   most = let f = q .few in omega arith
 
   picked-accepted : factsRefusal (map pos ks) .number ≡ 0
@@ -195,8 +196,8 @@ spare-free-places x l d none f m rest z t c =
 
 -- ---- in order, and shrunk
 
-module _ (p : List ℕ) (x : Sheet) (r : Ready p x) {ns : List ℕ} {log : Log} (fn : FactNumbers ns log) (sh : ShapedLog log) (known : KnownLog log)
-    (few : length log ≤ 126) (made : MadeUp top value-end x log) {ms : List ℕ} {m : ℕ} (o : Ordered ns (length log) ms m) (room : m * 5 ≤ length ms) where
+module _ (p : List ℕ) (x : Sheet) (r : ReadyPlan p x) {ns : List ℕ} {log : Log} (fn : FactNumbers ns log) (sh : ShapedLog log) (known : KnownLog log)
+    (few : length log ≤ tableau-atoms) (made : MadeUp top value-end x log) {ms : List ℕ} {m : ℕ} (o : Ordered ns (length log) ms m) (room : m * 5 ≤ length ms) where
   fine : (i : ℕ) → i < length log → FineFact ns i
   fine = fine-fact fn sh known (λ f i n j. ⊎-elim (λ s. let h = stands-small x (r .accepted) n s in omega arith) (λ s. s .1) (made f i n j))
 

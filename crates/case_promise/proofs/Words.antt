@@ -21,15 +21,15 @@ use Rattle.sheet_format.specs.Line.{all, isZero, natural, null}
 use Rattle.sheet_format.specs.Relations.{columnsOf}
 use Rattle.sheet_format.specs.declared.Refusal.{Refusal}
 use Rattle.query_meaning.specs.Meaning.{Fact, Log, In, fact}
-use Rattle.query_meaning.specs.Facts.{factByFact, factsIn, factsRefusal, isValue, logOf, value-end, wrongFact}
-use Rattle.query_encoding.specs.Numbers as numbers
-use Rattle.query_encoding.specs.Numbers.{FactNumbers, ShapedLog}
+use Rattle.query_meaning.specs.Facts.{factByFact, factsIn, factsRefusal, isValue, logOf, value-end, wrongFact, most-facts}
+use Rattle.query_encoding.specs.Encoding as numbers
+use Rattle.query_encoding.specs.Encoding.{FactNumbers, ShapedLog}
 use Rattle.query_encoding.proofs.Lists.{at-in, in-at}
 use Rattle.query_facts.proofs.Words.{not-either}
 use Rattle.query_facts.proofs.Laws.{count-right, fact-words, facts-length, logOf-length, numbers-read}
 use Rattle.case_verdicts.specs.Handed.{Distinct}
 use Rattle.case_order.specs.Order.{factAt}
-use Rattle.case_minimization.specs.Shrink.{without}
+use Rattle.case_minimization.specs.Minimization.{without}
 
 -- a fact that words can hold
 pub record FineFact (ns : List ℕ) (i : ℕ) : Type 0 where
@@ -305,7 +305,7 @@ module _ (ms : List ℕ) (m : ℕ) (rising : (i : ℕ) → suc i < m → factAt 
           let e : j ≡ i = omega arith in
           subst (λ n. factAt ms n ⊏ factAt ms (suc j)) e (rising j k)
 
-module _ (ms : List ℕ) (m : ℕ) (count : length ms ≡ m * 5) (few : m ≤ 128) (fine : (i : ℕ) → i < m → FineFact ms i)
+module _ (ms : List ℕ) (m : ℕ) (count : length ms ≡ m * 5) (few : m ≤ most-facts) (fine : (i : ℕ) → i < m → FineFact ms i)
     (rising : (i : ℕ) → suc i < m → factAt ms i ⊏ factAt ms (suc i)) where
   words-length : length (map pos ms) ≡ m * 5
   words-length = length-map ms pos ∙ count

@@ -24,7 +24,7 @@ use Rattle.query_meaning.specs.Blocks.{View, asTerm, atomOf, blockOf, isRow, ro
 use Rattle.query_blocks.proofs.Accepted.{neither, Clean, scan-first, heads-first, accepted-heads, AtomLine, AtomLines, HeadLine, head-line, front-atoms, no-atoms}
 use Rattle.query_blocks.proofs.Shape.{all-in, some-in, in-map, from-map, atom-in, same-word}
 use Rattle.case_verdicts.specs.Table.{relation}
-use Rattle.case_verdicts.specs.Accepted.{width, FineTerm, Fine, FineAtom, FineBlock, Accepted, variable, Bound, Safe, Evaluable}
+use Rattle.case_verdicts.specs.Accepted.{width, FineTerm, Fine, FineAtom, FineBlock, FineSheet, variable, Bound, Safe, Evaluable}
 use Rattle.case_verdicts.specs.Sheets.{ten, top, isQuestion, isSaved, isView, sheetOf}
 use Rattle.case_verdicts.proofs.Lists.{in-gather}
 use Rattle.case_verdicts.proofs.Tables.{plain-columns, plain-sound}
@@ -307,7 +307,7 @@ module _ (ls : List Line) (ok : refusalOf ls .number ≡ 0) where
   list-read : (l : Block) → In l (sheetOf ls .lists) → (w : View) × BlockRead isSaved w × (l ≡ w .block)
   list-read l m = let (w, i, e) = from-map (λ (w : View). w .block) (blocks isSaved ls) l m in (w, accepted-read isSaved w i, e)
 
-  pub accepted-sheet : Accepted top (sheetOf ls)
+  pub accepted-sheet : FineSheet top (sheetOf ls)
   accepted-sheet = record {
     table = plain-sound relations;
     question = first-block (FineBlock top ten) (record { head = λ t m. absurd m; atoms = λ a m. absurd m; apart = λ d m. absurd m }) (blocks isQuestion ls)

@@ -11,8 +11,8 @@ use Rattle.query_meaning.specs.Evaluate.{_≺_}
 use Rattle.case_verdicts.specs.Table.{Table, relation, parents, Formed, SameKey, Lawful}
 use Rattle.case_verdicts.specs.Verdict.{Sheet, Agrees, Agreeing, Case, Covered, NoLog}
 use Rattle.case_verdicts.specs.Handed.{SpareFree, Distinct, Stands, Handed}
-use Rattle.case_verdicts.specs.Accepted.{width, Accepted, Safe, Evaluable}
-use Rattle.case_verdicts.specs.Tableau.{jobs, logOf, headOf, bare}
+use Rattle.case_verdicts.specs.Accepted.{width, FineSheet, Safe, Evaluable}
+use Rattle.case_verdicts.specs.Tableau.{jobs, tableauLog, headOf, bare}
 use Rattle.case_verdicts.specs.Search.{free}
 use Rattle.case_verdicts.proofs.Distinct.{once, of-once, in-once, once-distinct}
 use Rattle.case_verdicts.proofs.Decide.{same?, less?, fact?, in?, each-or, both-or, or-not, settled-or, _≼_, same-or-below, least-answer, answer?, inside-or}
@@ -85,7 +85,7 @@ abbrev pub MadeUp : ℕ → ℕ → Sheet → Log → Type 0
 MadeUp top end x log = (f : Fact) → In f log → (n : ℕ) → In n (f .row) → Stands x n ⊎ ((top ≤ n) × (n < end))
 
 -- the number of facts need not be shown of a case, the rest is enough to hand it over
-abbrev pub handed : (x : Sheet) {top end : ℕ} → Accepted top x → (log : Log) (a : List ℕ) → Case x log a → ((r : List ℕ) → Case x log r → (a ≡ r) ⊎ (a ≺ r))
+abbrev pub handed : (x : Sheet) {top end : ℕ} → FineSheet top x → (log : Log) (a : List ℕ) → Case x log a → ((r : List ℕ) → Case x log r → (a ≡ r) ⊎ (a ≺ r))
     → SpareFree x log → Distinct log → MadeUp top end x log → Handed top end x
 handed x ok log a k least spare-free distinct values = record {
   log = log;
@@ -100,7 +100,7 @@ handed x ok log a k least spare-free distinct values = record {
 }
 
 -- `room`: there is a made-up value for each slot
-module _ (x : Sheet) {top end : ℕ} (room : top + length (jobs x) * width ≤ end) (ok : Accepted top x) (question : Safe (x .question)) (safe : Evaluable x) where
+module _ (x : Sheet) {top end : ℕ} (room : top + length (jobs x) * width ≤ end) (ok : FineSheet top x) (question : Safe (x .question)) (safe : Evaluable x) where
   -- from any case whose values are in range
   abbrev pub hand-over : (log : Log) (a : List ℕ) → Case x log a → MadeUp top end x log → Handed top end x
   hand-over log a k values =
@@ -110,12 +110,12 @@ module _ (x : Sheet) {top end : ℕ} (room : top + length (jobs x) * width ≤ e
       (λ f m. values f (of-once fact? f log (s .within .at f m))))
       (λ none. absurd (none (s .answer) (s .still))) (case? x question safe (s .rest))
 
-  pub found-made-up : (g : Found x (free top)) → MadeUp top end x (logOf x (g .state))
+  pub found-made-up : (g : Found x (free top)) → MadeUp top end x (tableauLog x (g .state))
   found-made-up g f m n i = ⊎-elim (λ c. inl c) (λ r. inr (r .0, let lt = r .1 in omega arith)) (found-values x ok g f m n i)
 
   -- one of the three
   abbrev pub judged : Covered x ⊎ (Handed top end x ⊎ NoLog x)
   judged = ⊎-elim
-      (λ g. inr (inl (hand-over (logOf x (g .state)) (headOf x (g .state)) (good-case x ok (g .state) (g .good)) (found-made-up g))))
+      (λ g. inr (inl (hand-over (tableauLog x (g .state)) (headOf x (g .state)) (good-case x ok (g .state) (g .good)) (found-made-up g))))
       (λ z. ⊎-elim (λ g. inl (says-covered ok z (g .good))) (λ y. inr (inr (says-no-log ok y))) (decided (bare x) (bare-accepted ok) (bare-safe safe)))
       (decided x ok safe)

@@ -7,7 +7,7 @@ use Rattle.query_meaning.specs.Meaning.{In}
 use Rattle.query_meaning.specs.Blocks.{rows, blocks}
 use Rattle.case_verdicts.specs.Table.{relation}
 use Rattle.case_verdicts.specs.Accepted.{width}
-use Rattle.case_verdicts.specs.Tableau.{logOf}
+use Rattle.case_verdicts.specs.Tableau.{tableauLog}
 use Rattle.case_verdicts.specs.Examples.{Entry, Says, examples}
 use Rattle.case_verdicts.proofs.Measure.{measure}
 use Rattle.case_verdicts.proofs.Run.{search-from}
@@ -15,7 +15,7 @@ use Rattle.case_verdicts.proofs.Tests.{says?, passed, Onlys, each-says}
 use Rattle.case_verdicts.proofs.Shown.{whole-shows, straps-show, ticks-show}
 
 examples-pass : all (λ e. passed (says? e)) examples ≡ true
-unfolding kindOf atoms rows blocks relation width logOf search-from measure
+unfolding kindOf atoms rows blocks relation width tableauLog search-from measure
 examples-pass = refl
 
 -- the three with verdict 1 have more to show

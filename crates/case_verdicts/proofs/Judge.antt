@@ -4,15 +4,15 @@ use mathlib.Core.List.{List, []}
 use Prim.Native.Nat.{ℕ}
 use Rattle.query_meaning.specs.Meaning.{Log}
 use Rattle.case_verdicts.specs.Verdict.{Sheet, Agreeing, Case, Covered, NotCovered, NoLog}
-use Rattle.case_verdicts.specs.Accepted.{Accepted, Evaluable}
-use Rattle.case_verdicts.specs.Tableau.{State, logOf, headOf, Good, bare}
+use Rattle.case_verdicts.specs.Accepted.{FineSheet, Evaluable}
+use Rattle.case_verdicts.specs.Tableau.{State, tableauLog, headOf, Good, bare}
 use Rattle.case_verdicts.specs.Search.{free, Refuted}
 use Rattle.case_verdicts.proofs.Reduce.{good-case}
 use Rattle.case_verdicts.proofs.Refute.{no-case}
 
 -- ---- the bare sheet
 
-pub bare-accepted : {top : ℕ} {x : Sheet} → Accepted top x → Accepted top (bare x)
+pub bare-accepted : {top : ℕ} {x : Sheet} → FineSheet top x → FineSheet top (bare x)
 bare-accepted ok = record {
   table = ok .table;
   question = record { head = λ t m. absurd m; atoms = λ a m. absurd m; apart = λ d m. absurd m };
@@ -39,12 +39,12 @@ module _ (x : Sheet) where
 
 -- ---- verdicts
 
-module _ {top : ℕ} {x : Sheet} (ok : Accepted top x) where
+module _ {top : ℕ} {x : Sheet} (ok : FineSheet top x) where
   pub says-not-covered : {s : State} → Good x s → NotCovered x
-  says-not-covered {s} good = (logOf x s, headOf x s, good-case x ok s good)
+  says-not-covered {s} good = (tableauLog x s, headOf x s, good-case x ok s good)
 
   pub says-covered : {s : State} → Refuted top x (free top) → Good (bare x) s → Covered x
-  says-covered {s} out good = record { some = (logOf (bare x) s, bare-agrees x (good-case (bare x) (bare-accepted ok) s good)); none = no-case x ok out }
+  says-covered {s} out good = record { some = (tableauLog (bare x) s, bare-agrees x (good-case (bare x) (bare-accepted ok) s good)); none = no-case x ok out }
 
   pub says-no-log : Refuted top (bare x) (free top) → NoLog x
   says-no-log out log a = no-case (bare x) (bare-accepted ok) out log [] (bare-case x a)

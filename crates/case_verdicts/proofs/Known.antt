@@ -12,8 +12,8 @@ use Rattle.query_blocks.proofs.Shape.{in-map, from-map}
 use Rattle.case_verdicts.specs.Table.{relation}
 use Rattle.case_verdicts.specs.Verdict.{Sheet}
 use Rattle.case_verdicts.specs.Handed.{BlockOf, TermOf, Stands, in-block, in-row}
-use Rattle.case_verdicts.specs.Accepted.{width, FineTerm, FineBlock, Accepted, Bound, Safe}
-use Rattle.case_verdicts.specs.Tableau.{Job, jobs, Copy, later, numbered, State, copy, logOf}
+use Rattle.case_verdicts.specs.Accepted.{width, FineTerm, FineBlock, FineSheet, Bound, Safe}
+use Rattle.case_verdicts.specs.Tableau.{Job, jobs, Copy, later, numbered, State, copy, tableauLog}
 use Rattle.case_verdicts.specs.Search.{Equation, _≈_, equations, lines}
 use Rattle.case_verdicts.proofs.Lists.{of-gather, in-cases}
 use Rattle.case_verdicts.proofs.Decide.{same?, in-log-values}
@@ -59,7 +59,7 @@ term-stands : (x : Sheet) (b : Block) → BlockOf x b → (u : Term) → TermOf 
 term-stands x b m (con n) i = in-block b m i
 term-stands x b m (var y) i = tt
 
-module _ (x : Sheet) {top : ℕ} (ok : Accepted top x) where
+module _ (x : Sheet) {top : ℕ} (ok : FineSheet top x) where
   block-fine : (b : Block) → BlockOf x b → FineBlock top (x .table) b
   block-fine b (inl e) = subst (FineBlock top (x .table)) (sym e) (ok .question)
   block-fine b (inr (inl m)) = ok .lists b m
@@ -88,7 +88,7 @@ module _ (x : Sheet) {top : ℕ} (ok : Accepted top x) where
 
 -- ---- values
 
-module _ (x : Sheet) {top : ℕ} (ok : Accepted top x) (s : State) where
+module _ (x : Sheet) {top : ℕ} (ok : FineSheet top x) (s : State) where
   abbrev Has : ℕ → Type 0
   Has = Known (Stands x) (slots x) s
 
@@ -105,7 +105,7 @@ module _ (x : Sheet) {top : ℕ} (ok : Accepted top x) (s : State) where
       let (f, k) = fine u j in
       subst Has (sym e) (known-term c m u f k)
 
-  pub known-log : (f : Fact) → In f (logOf x s) → (n : ℕ) → In n (f .row) → Has n
+  pub known-log : (f : Fact) → In f (tableauLog x s) → (n : ℕ) → In n (f .row) → Has n
   known-log f m n i =
       let o = source x s f m n i in
       let c = o .copy-of in
@@ -113,10 +113,10 @@ module _ (x : Sheet) {top : ℕ} (ok : Accepted top x) (s : State) where
       subst Has (sym (o .same)) (known-term c (o .copied) (o .term) (term-fine x ok (c .job .block) (copy-block x ok c (o .copied)) (o .term) t)
       (term-stands x (c .job .block) (job-of x ok (c .job) (numbered-job (jobs x) c (o .copied))) (o .term) t))
 
-  known-bound : (b : Block) → BlockOf x b → (v : ℕ → ℕ) → Holds (logOf x s) v b → (u : Term) → TermOf b u → Bound b u → Has (value v u)
+  known-bound : (b : Block) → BlockOf x b → (v : ℕ → ℕ) → Holds (tableauLog x s) v b → (u : Term) → TermOf b u → Bound b u → Has (value v u)
   known-bound b m v h (con n) i d = inl (in-block b m i)
   known-bound b m v h (var y) i d =
-      let (g, n, j) = of-gather (λ f. f .row) (v y) (logOf x s) (in-log-values (logOf x s) b v h y d) in
+      let (g, n, j) = of-gather (λ f. f .row) (v y) (tableauLog x s) (in-log-values (tableauLog x s) b v h y d) in
       known-log g n (v y) j
 
   -- ---- each alternative changes something
@@ -142,11 +142,11 @@ module _ (x : Sheet) {top : ℕ} (ok : Accepted top x) (s : State) where
           let (w, r, n, k, e) = of-listed x j m in
           subst (λ (k : Job). length (k .block .head) ≡ length (k .is)) (sym e) (sym (ok .lengths w n r k) ∙ sym (length-map r con))
 
-  pub key-open : (f g : Fact) → In f (logOf x s) → In g (logOf x s) → f .rel ≡ g .rel → (f .row ≡ g .row → ⊥) → Open (Stands x) (slots x) s (equations (f .row) (g .row))
+  pub key-open : (f g : Fact) → In f (tableauLog x s) → In g (tableauLog x s) → f .rel ≡ g .rel → (f .row ≡ g .row → ⊥) → Open (Stands x) (slots x) s (equations (f .row) (g .row))
   key-open f g m n e ne = open-rows (Stands x) (slots x) s (f .row) (g .row)
       (log-formed x ok s f m .full ∙ ap (λ k. relation (x .table) k .columns) e ∙ sym (log-formed x ok s g n .full)) ne (known-log f m) (known-log g n)
 
-  pub lines-open : (b : Block) → BlockOf x b → Safe b → (v : ℕ → ℕ) → Holds (logOf x s) v b → Differ v b
+  pub lines-open : (b : Block) → BlockOf x b → Safe b → (v : ℕ → ℕ) → Holds (tableauLog x s) v b → Differ v b
       → (alt : List Equation) → In alt (lines v b) → Open (Stands x) (slots x) s alt
   lines-open b of safe v h differ alt i =
       let (d, m, e) = from-map (λ d. (value v (d .left) ≈ value v (d .right)) ∷ []) (b .apart) alt i in
@@ -157,7 +157,7 @@ module _ (x : Sheet) {top : ℕ} (ok : Accepted top x) (s : State) where
         unmet = ((value v (d .left) ≈ value v (d .right)), inl refl, differ d m);
       })
 
-  pub view-open : (w : View) → In w (x .views) → Safe (w .block) → (v : ℕ → ℕ) → Holds (logOf x s) v (w .block) → Differ v (w .block) → (In (row v (w .block .head)) (w .rows) → ⊥)
+  pub view-open : (w : View) → In w (x .views) → Safe (w .block) → (v : ℕ → ℕ) → Holds (tableauLog x s) v (w .block) → Differ v (w .block) → (In (row v (w .block .head)) (w .rows) → ⊥)
       → (alt : List Equation) → In alt (map (equations (row v (w .block .head))) (w .rows) ++ lines v (w .block)) → Open (Stands x) (slots x) s alt
   view-open w m safe v h differ stray alt i = ⊎-elim listed (lines-open (w .block) (inr (inr (w, m, refl))) safe v h differ alt)
       (in-cases alt (map (equations (row v (w .block .head))) (w .rows)) (lines v (w .block)) i)

@@ -22,3 +22,4 @@ pub mod Order
 pub mod Sizes
 pub mod Verdicts
 pub mod Words
+pub mod Plain

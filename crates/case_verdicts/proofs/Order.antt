@@ -1,18 +1,19 @@
--- Accepted lines have their blocks in order: block 1 is the sheet's question, block 2 its list, and block 2 + n its view n.
+-- FineSheet lines have their blocks in order: block 1 is the sheet's question, and its lists and its views follow. There is one list.
 use mathlib.Core.Path.{_≡_, refl, sym, ap, _∙_}
 use mathlib.Core.Bool.{Bool, true, false, cond}
 use mathlib.Core.List.{List, [], _∷_, map}
-use Prim.Native.Nat.{ℕ, suc, _+_, _≤_}
+use Prim.Native.Nat.{ℕ, zero, suc, _+_, _<_, _≤_}
 use native.Mathlib.Omega.{arith}
 use lib.Dec.{ltb}
-use lib.ListN.{length}
+use lib.ListN.{length, getD}
 use borrow.Author.Tests.{eqb-true, leb-true, ltb-false}
+use Rattle.sheet_format.specs.Limits.{most-lists}
 use Rattle.sheet_format.specs.Line.{Line}
 use Rattle.sheet_format.specs.Cause.{Kind, question, saved, view, atom, row, other, kind, rest, inPlace, missing, start, nextBy, next, refusal, scan, isHead, refusalOf}
 use Rattle.sheet_format.specs.declared.Seen.{Seen}
 use Rattle.sheet_format.proofs.Lists.{no-way, and-left}
 use Rattle.sheet_format.proofs.ScanLaws.{accepted-scan}
-use Rattle.query_meaning.specs.Blocks.{View, viewOf, blocks, allBlocks, nth, blockAt}
+use Rattle.query_meaning.specs.Blocks.{View, viewOf, blocks, allBlocks, nowhere, nth, blockAt}
 use Rattle.query_blocks.proofs.Accepted.{scan-first}
 use Rattle.case_verdicts.specs.Sheets.{isQuestion, isSaved, isView, sheetOf}
 
@@ -112,11 +113,18 @@ module _ (ls : List Line) (ok : refusalOf ls .number ≡ 0) where
   pub block-question : blockAt ls 1 ≡ sheetOf ls .question
   block-question = ap (λ ws. nth ws 0 .block) (ordered .all) ∙ sym (ap (λ ws. nth ws 0 .block) (ordered .one-question))
 
-  pub block-list : sheetOf ls .lists ≡ blockAt ls 2 ∷ []
-  block-list = ap (map (λ (w : View). w .block)) (ordered .one-list) ∙ ap (λ ws. nth ws 1 .block ∷ []) (sym (ordered .all))
+  pub list-count : length (sheetOf ls .lists) ≡ most-lists
+  list-count = ap (λ ws. length (map (λ (w : View). w .block) ws)) (ordered .one-list)
 
-  pub block-view : (n : ℕ) → blockAt ls (suc (suc (suc n))) ≡ nth (sheetOf ls .views) n .block
-  block-view n = ap (λ ws. nth ws (suc (suc n)) .block) (ordered .all)
+  pub block-list : (i : ℕ) → i < length (sheetOf ls .lists) → blockAt ls (suc (suc i)) ≡ getD (sheetOf ls .lists) i (nowhere .block)
+  block-list zero lt = ap (λ ws. nth ws 1 .block) (ordered .all) ∙ sym (ap (λ ws. getD (map (λ (w : View). w .block) ws) 0 (nowhere .block)) (ordered .one-list))
+  block-list (suc i) lt = absurd (let n = list-count in omega arith)
 
-  pub block-count : length (allBlocks ls) ≡ 2 + length (sheetOf ls .views)
-  block-count = ap length (ordered .all) ∙ omega arith
+  pub block-view : (n : ℕ) → blockAt ls (suc (suc (length (sheetOf ls .lists) + n))) ≡ nth (sheetOf ls .views) n .block
+  block-view n =
+      let c = list-count in
+      let e : suc (suc (length (sheetOf ls .lists) + n)) ≡ suc (suc (suc n)) = omega arith in
+      ap (blockAt ls) e ∙ ap (λ ws. nth ws (suc (suc n)) .block) (ordered .all)
+
+  pub block-count : length (allBlocks ls) ≡ 1 + length (sheetOf ls .lists) + length (sheetOf ls .views)
+  block-count = let c = list-count in ap length (ordered .all) ∙ omega arith

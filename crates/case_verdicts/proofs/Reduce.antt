@@ -10,8 +10,8 @@ use Rattle.query_meaning.specs.Meaning.{Term, con, var, Fact, Log, In, value, r
 use Rattle.query_meaning.specs.Blocks.{View}
 use Rattle.query_blocks.proofs.Shape.{from-map}
 use Rattle.case_verdicts.specs.Verdict.{Sheet, Agreeing, Case}
-use Rattle.case_verdicts.specs.Accepted.{width, FineTerm, Fine, Accepted}
-use Rattle.case_verdicts.specs.Tableau.{Job, listed, jobs, Copy, later, numbered, State, copy, withParents, logOf, headOf, Meets, Good}
+use Rattle.case_verdicts.specs.Accepted.{width, FineTerm, Fine, FineSheet}
+use Rattle.case_verdicts.specs.Tableau.{Job, listed, jobs, Copy, later, numbered, State, copy, withParents, tableauLog, headOf, Meets, Good}
 use Rattle.case_verdicts.proofs.Laws.{Within, monotone, same-row}
 use Rattle.case_verdicts.proofs.Tableau.{job-numbered, numbered-job, of-listed, listed-in, Origin, origin, copy-holds, log-parented, job-block, job-is, log-formed}
 
@@ -21,16 +21,16 @@ row-con v (n ∷ r) = ap (λ l. n ∷ l) (row-con v r)
 
 -- ---- a good state makes a case
 
-module _ (x : Sheet) {top : ℕ} (ok : Accepted top x) where
+module _ (x : Sheet) {top : ℕ} (ok : FineSheet top x) where
   -- the copies give the listed rows
   pub rows-given : (t : State) → ((c : Copy) → In c (numbered (jobs x)) → Meets (copy t (c .number)) (c .job))
-      → (w : View) → In w (x .views) → (r : List ℕ) → In r (w .rows) → Answer (logOf x t) (w .block) r
+      → (w : View) → In w (x .views) → (r : List ℕ) → In r (w .rows) → Answer (tableauLog x t) (w .block) r
   rows-given t meets w m r n =
       let (k, i) = job-numbered (jobs x) _ (listed-in x w r m n) in
       let g = meets _ i in
       record { val = copy t k; holds = copy-holds x t _ i; differ = g .differ; gives = g .gives ∙ row-con (copy t k) r }
 
-  pub good-case : (t : State) → Good x t → Case x (logOf x t) (headOf x t)
+  pub good-case : (t : State) → Good x t → Case x (tableauLog x t) (headOf x t)
   good-case t good = record {
     agreeing = record {
       lawful = record { formed = log-formed x ok t; parented = log-parented x t (ok .table); keyed = good .keyed };
@@ -86,10 +86,10 @@ module _ (log : Log) where
 pub record Inside (x : Sheet) (log : Log) (a : List ℕ) : Type 0 where
   pub state : State
   pub good : Good x state
-  pub within : Within (logOf x state) log
+  pub within : Within (tableauLog x state) log
   pub head : headOf x state ≡ a
 
-module _ (x : Sheet) {top : ℕ} (ok : Accepted top x) where
+module _ (x : Sheet) {top : ℕ} (ok : FineSheet top x) where
   serves-slots : (log : Log) (v w : ℕ → ℕ) (j : Job) → In j (jobs x) → ((n : ℕ) → n < width → v n ≡ w n) → Serves log v j → Serves log w j
   serves-slots log v w j m same a =
       let b = job-block x ok j m in
@@ -101,7 +101,7 @@ module _ (x : Sheet) {top : ℕ} (ok : Accepted top x) where
         };
       }
 
-  log-within : (t : State) (log : Log) → Agreeing x log → ((c : Copy) → In c (numbered (jobs x)) → Serves log (copy t (c .number)) (c .job)) → Within (logOf x t) log
+  log-within : (t : State) (log : Log) → Agreeing x log → ((c : Copy) → In c (numbered (jobs x)) → Serves log (copy t (c .number)) (c .job)) → Within (tableauLog x t) log
   log-within t log ag serves = record { at = λ f m. let o = origin x t f m in go f o (o .from) }
     where
       go : (f : Fact) (o : Origin x t f) → In f (withParents (x .table) (factOf (copy t (o .copy-of .number)) (o .atom))) → In f log

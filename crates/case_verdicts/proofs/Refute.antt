@@ -10,8 +10,8 @@ use Rattle.query_meaning.specs.Blocks.{View}
 use Rattle.query_blocks.proofs.Shape.{in-map}
 use Rattle.case_verdicts.specs.Table.{Table, relation, owed, parents, SameKey}
 use Rattle.case_verdicts.specs.Verdict.{Sheet, Case}
-use Rattle.case_verdicts.specs.Accepted.{FineTerm, FineBlock, Fine, Accepted}
-use Rattle.case_verdicts.specs.Tableau.{jobs, Copy, numbered, State, copy, withParents, logOf, headOf}
+use Rattle.case_verdicts.specs.Accepted.{FineTerm, FineBlock, Fine, FineSheet}
+use Rattle.case_verdicts.specs.Tableau.{jobs, Copy, numbered, State, copy, withParents, tableauLog, headOf}
 use Rattle.case_verdicts.specs.Search.{Keeps, Below, free, Refuted, Equation, _≈_, equations, Met, RefutedBy, Alternatives, lines, Unifier, Clash, after}
 use Rattle.case_verdicts.proofs.Lists.{in-left, in-right, in-cases}
 use Rattle.case_verdicts.proofs.Laws.{renamed, row-renamed}
@@ -36,7 +36,7 @@ keep-value : (top : ℕ) (h v : ℕ → ℕ) → Keeps top h → (u : Term) → 
 keep-value top h v k (con c) f = sym (k c f)
 keep-value top h v k (var y) f = refl
 
-module _ (x : Sheet) {top : ℕ} (ok : Accepted top x) {s t : State} (b : Below top s t) where
+module _ (x : Sheet) {top : ℕ} (ok : FineSheet top x) {s t : State} (b : Below top s t) where
   copy-value : (k : ℕ) (u : Term) → FineTerm top u → value (copy t k) u ≡ b .to (value (copy s k) u)
   copy-value k (con c) f = sym (b .keeps c f)
   copy-value k (var y) f = sym (b .at _)
@@ -44,7 +44,7 @@ module _ (x : Sheet) {top : ℕ} (ok : Accepted top x) {s t : State} (b : Below 
   copy-row : (k : ℕ) (ts : List Term) → Fine top ts → row (copy t k) ts ≡ map (b .to) (row (copy s k) ts)
   copy-row k ts fine = row-renamed (b .to) (copy s k) (copy t k) ts (λ u m. copy-value k u (fine u m))
 
-  fact-below : (f : Fact) → In f (logOf x s) → In (renamed (b .to) f) (logOf x t)
+  fact-below : (f : Fact) → In f (tableauLog x s) → In (renamed (b .to) f) (tableauLog x t)
   fact-below f m =
       let o = origin x s f m in
       let e = copy-row (o .copy-of .number) (o .atom .terms) (copy-block x ok (o .copy-of) (o .copied) .atoms (o .atom) (o .standing) .terms) in
@@ -56,11 +56,11 @@ module _ (x : Sheet) {top : ℕ} (ok : Accepted top x) {s t : State} (b : Below 
         from = subst (λ r. In (renamed (b .to) f) (withParents (x .table) (fact (o .atom .rel) r))) (sym e) (renamed-parents (x .table) (b .to) f _ (o .from));
       })
 
-  answer-below : (c : Block) → FineBlock top (x .table) c → (v : ℕ → ℕ) → Holds (logOf x s) v c → Differ (λ n. b .to (v n)) c
-      → Answer (logOf x t) c (map (b .to) (row v (c .head)))
+  answer-below : (c : Block) → FineBlock top (x .table) c → (v : ℕ → ℕ) → Holds (tableauLog x s) v c → Differ (λ n. b .to (v n)) c
+      → Answer (tableauLog x t) c (map (b .to) (row v (c .head)))
   answer-below c fine v holds differ = record {
     val = λ n. b .to (v n);
-    holds = λ a m. subst (λ r. In (fact (a .rel) r) (logOf x t))
+    holds = λ a m. subst (λ r. In (fact (a .rel) r) (tableauLog x t))
         (sym (row-renamed (b .to) v _ (a .terms) (λ u i. keep-value top (b .to) v (b .keeps) u (fine .atoms a m .terms u i)))) (fact-below _ (holds a m));
     differ = differ;
     gives = row-renamed (b .to) v _ (c .head) (λ u i. keep-value top (b .to) v (b .keeps) u (fine .head u i));
@@ -95,10 +95,10 @@ take-map h zero r = refl
 take-map h (suc k) [] = refl
 take-map h (suc k) (n ∷ r) = ap (λ l. h n ∷ l) (take-map h k r)
 
-module _ (x : Sheet) {top : ℕ} (ok : Accepted top x) (s : State) where
+module _ (x : Sheet) {top : ℕ} (ok : FineSheet top x) (s : State) where
   -- the block keeps its answer further down, unless one of its lines breaks there
-  gives-or-breaks : (c : Block) → FineBlock top (x .table) c → (v : ℕ → ℕ) → Holds (logOf x s) v c → {t : State} (b : Below top s t)
-      → Answer (logOf x t) c (map (b .to) (row v (c .head))) ⊎ ((alt : List Equation) × In alt (lines v c) × Met (b .to) alt)
+  gives-or-breaks : (c : Block) → FineBlock top (x .table) c → (v : ℕ → ℕ) → Holds (tableauLog x s) v c → {t : State} (b : Below top s t)
+      → Answer (tableauLog x t) c (map (b .to) (row v (c .head))) ⊎ ((alt : List Equation) × In alt (lines v c) × Met (b .to) alt)
   gives-or-breaks c fine v holds b =
       ⊎-elim (λ differ. inl (answer-below x ok b c fine v holds differ)) (λ z. inr (broken (z .0) (z .1) (z .2))) (differ-or top (b .to) v (b .keeps) c (fine .apart))
     where
@@ -110,15 +110,15 @@ module _ (x : Sheet) {top : ℕ} (ok : Accepted top x) (s : State) where
       )
 
   -- a list gives the missing answer: some line of the list breaks (the base has no lines, so nothing is left)
-  pub list-gives : (l : Block) → In l (x .lists) → (v : ℕ → ℕ) → Holds (logOf x s) v l → row v (l .head) ≡ headOf x s → Alternatives top x s (lines v l)
+  pub list-gives : (l : Block) → In l (x .lists) → (v : ℕ → ℕ) → Holds (tableauLog x s) v l → row v (l .head) ≡ headOf x s → Alternatives top x s (lines v l)
   list-gives l m v holds e = record {
     one = λ t b good.
-        ⊎-elim (λ a. absurd (good .missing l m (subst (Answer (logOf x t) l) (ap (map (b .to)) e ∙ sym (copy-row x ok b 0 (x .question .head) (ok .question .head))) a))) (λ z. z)
+        ⊎-elim (λ a. absurd (good .missing l m (subst (Answer (tableauLog x t) l) (ap (map (b .to)) e ∙ sym (copy-row x ok b 0 (x .question .head) (ok .question .head))) a))) (λ z. z)
         (gives-or-breaks l (ok .lists l m) v holds b);
   }
 
   -- a view gives the row: it becomes one of the listed rows, or some line of the view breaks
-  pub view-gives : (w : View) → In w (x .views) → (v : ℕ → ℕ) → Holds (logOf x s) v (w .block)
+  pub view-gives : (w : View) → In w (x .views) → (v : ℕ → ℕ) → Holds (tableauLog x s) v (w .block)
       → Alternatives top x s (map (equations (row v (w .block .head))) (w .rows) ++ lines v (w .block))
   view-gives w m v holds = record {
     one = λ t b good.
@@ -136,7 +136,7 @@ module _ (x : Sheet) {top : ℕ} (ok : Accepted top x) (s : State) where
           )
 
   -- two facts with one key: their rows become one
-  pub same-key : (f g : Fact) → In f (logOf x s) → In g (logOf x s) → SameKey (x .table) f g → Alternatives top x s (equations (f .row) (g .row) ∷ [])
+  pub same-key : (f g : Fact) → In f (tableauLog x s) → In g (tableauLog x s) → SameKey (x .table) f g → Alternatives top x s (equations (f .row) (g .row) ∷ [])
   same-key f g m n k = record {
     one = λ t b good.
         let n-key = relation (x .table) (f .rel) .key in (
@@ -201,5 +201,5 @@ module _ {top : ℕ} {x : Sheet} {s : State} where
 -- ---- the end of a search
 
 -- no case, whatever its values, where the first state is refuted
-pub no-case : (x : Sheet) {top : ℕ} → Accepted top x → Refuted top x (free top) → (log : Log) (a : List ℕ) → Case x log a → ⊥
+pub no-case : (x : Sheet) {top : ℕ} → FineSheet top x → Refuted top x (free top) → (log : Log) (a : List ℕ) → Case x log a → ⊥
 no-case x {top} ok out log a k = let i = case-good x ok log a k in out .none (i .state) (all-below top (i .state)) (i .good)

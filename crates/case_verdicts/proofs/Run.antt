@@ -12,8 +12,8 @@ use Rattle.query_blocks.proofs.Shape.{from-map}
 use Rattle.case_verdicts.specs.Table.{SameKey}
 use Rattle.case_verdicts.specs.Verdict.{Sheet}
 use Rattle.case_verdicts.specs.Handed.{Stands}
-use Rattle.case_verdicts.specs.Accepted.{width, Accepted, Evaluable}
-use Rattle.case_verdicts.specs.Tableau.{jobs, Copy, numbered, State, copy, logOf, headOf, Meets, Good}
+use Rattle.case_verdicts.specs.Accepted.{width, FineSheet, Evaluable}
+use Rattle.case_verdicts.specs.Tableau.{jobs, Copy, numbered, State, copy, tableauLog, headOf, Meets, Good}
 use Rattle.case_verdicts.specs.Search.{free, Refuted, Equation, _≈_, RefutedBy, Alternatives, Unifier, Clash, after, replace}
 use Rattle.case_verdicts.proofs.Decide.{same?, less?, row?, in?, all-or, candidates, each-answer, settled-or, holds?, differ?}
 use Rattle.case_verdicts.proofs.Unify.{unify-same, unify-left, unify-right, clash, unify-none, unify-more, clash-more, clash-rest}
@@ -35,9 +35,9 @@ abbrev SettledBy : Sheet → State → Fact → Fact → Type 0
 SettledBy x s f g = SameKey (x .table) f g → f .row ≡ g .row
 
 abbrev Fits : Sheet → State → (List ℕ → Type 0) → Block → (ℕ → ℕ) → Type 0
-Fits x s P b v = Holds (logOf x s) v b → Differ v b → P (row v (b .head))
+Fits x s P b v = Holds (tableauLog x s) v b → Differ v b → P (row v (b .head))
 
-module _ (x : Sheet) {top : ℕ} (ok : Accepted top x) (s : State) where
+module _ (x : Sheet) {top : ℕ} (ok : FineSheet top x) (s : State) where
   abbrev copy-meets? : (c : Copy) → In c (numbered (jobs x)) → Meets (copy s (c .number)) (c .job) ⊎ Violation top x s
   copy-meets? c m = go (row? (row (copy s (c .number)) (c .job .block .head)) (row (copy s (c .number)) (c .job .is)))
       (all-or (λ d. value (copy s (c .number)) (d .left) ≡ value (copy s (c .number)) (d .right) → ⊥) (c .job .block .apart) (λ d i. line d i (same? _ _)))
@@ -53,36 +53,36 @@ module _ (x : Sheet) {top : ℕ} (ok : Accepted top x) (s : State) where
       go (yes e) (inr y) = inr y
       go (yes e) (inl d) = inl (record { gives = e; differ = d })
 
-  abbrev keyed? : (f g : Fact) → In f (logOf x s) → In g (logOf x s) → SettledBy x s f g ⊎ Violation top x s
+  abbrev keyed? : (f g : Fact) → In f (tableauLog x s) → In g (tableauLog x s) → SettledBy x s f g ⊎ Violation top x s
   keyed? f g m n = ⊎-elim (λ e. inl e) (λ k. inr (record { alts = _; must = same-key x ok s f g m n (k .0); opens = only _ (key-open x ok s f g m n (k .0 .rel) (k .1)) }))
       (settled-or (x .table) f g)
 
   -- P of every row that the block has by v
-  abbrev fits? : (P : List ℕ → Type 0) (b : Block) → ((v : ℕ → ℕ) → Holds (logOf x s) v b → Differ v b → P (row v (b .head)) ⊎ Violation top x s)
+  abbrev fits? : (P : List ℕ → Type 0) (b : Block) → ((v : ℕ → ℕ) → Holds (tableauLog x s) v b → Differ v b → P (row v (b .head)) ⊎ Violation top x s)
       → (v : ℕ → ℕ) → Fits x s P b v ⊎ Violation top x s
-  fits? P b each v = go (holds? (logOf x s) v b) (differ? v b)
+  fits? P b each v = go (holds? (tableauLog x s) v b) (differ? v b)
     where
-      go : Holds (logOf x s) v b ⊎ (Holds (logOf x s) v b → ⊥) → Differ v b ⊎ (Differ v b → ⊥) → Fits x s P b v ⊎ Violation top x s
+      go : Holds (tableauLog x s) v b ⊎ (Holds (tableauLog x s) v b → ⊥) → Differ v b ⊎ (Differ v b → ⊥) → Fits x s P b v ⊎ Violation top x s
       go (inr out) d = inl (λ h. absurd (out h))
       go (inl h) (inr out) = inl (λ k d. absurd (out d))
       go (inl h) (inl d) = ⊎-elim (λ p. inl (λ k e. p)) (λ y. inr y) (each v h d)
 
-  abbrev view? : Evaluable x → (w : View) → In w (x .views) → ((r : List ℕ) → Answer (logOf x s) (w .block) r → In r (w .rows)) ⊎ Violation top x s
-  view? safe w m = ⊎-elim (λ all. inl (each-answer (logOf x s) (w .block) (safe .views w m) (λ r. In r (w .rows)) all)) (λ y. inr y)
-      (all-or (Fits x s (λ r. In r (w .rows)) (w .block)) (candidates (logOf x s) (w .block)) (λ v i. fits? (λ r. In r (w .rows)) (w .block) each v))
+  abbrev view? : Evaluable x → (w : View) → In w (x .views) → ((r : List ℕ) → Answer (tableauLog x s) (w .block) r → In r (w .rows)) ⊎ Violation top x s
+  view? safe w m = ⊎-elim (λ all. inl (each-answer (tableauLog x s) (w .block) (safe .views w m) (λ r. In r (w .rows)) all)) (λ y. inr y)
+      (all-or (Fits x s (λ r. In r (w .rows)) (w .block)) (candidates (tableauLog x s) (w .block)) (λ v i. fits? (λ r. In r (w .rows)) (w .block) each v))
     where
-      each : (v : ℕ → ℕ) → Holds (logOf x s) v (w .block) → Differ v (w .block) → In (row v (w .block .head)) (w .rows) ⊎ Violation top x s
+      each : (v : ℕ → ℕ) → Holds (tableauLog x s) v (w .block) → Differ v (w .block) → In (row v (w .block .head)) (w .rows) ⊎ Violation top x s
       each v h d = go (in? row? (row v (w .block .head)) (w .rows))
         where
           go : Dec (In (row v (w .block .head)) (w .rows)) → In (row v (w .block .head)) (w .rows) ⊎ Violation top x s
           go (yes i) = inl i
           go (no n) = inr (record { alts = _; must = view-gives x ok s w m v h; opens = view-open x ok s w m (safe .views w m) v h d n })
 
-  abbrev list? : Evaluable x → (l : Block) → In l (x .lists) → (Answer (logOf x s) l (headOf x s) → ⊥) ⊎ Violation top x s
-  list? safe l m = ⊎-elim (λ all. inl (λ a. each-answer (logOf x s) l (safe .lists l m) (λ r. r ≡ headOf x s → ⊥) all (headOf x s) a refl)) (λ y. inr y)
-      (all-or (Fits x s (λ r. r ≡ headOf x s → ⊥) l) (candidates (logOf x s) l) (λ v i. fits? (λ r. r ≡ headOf x s → ⊥) l each v))
+  abbrev list? : Evaluable x → (l : Block) → In l (x .lists) → (Answer (tableauLog x s) l (headOf x s) → ⊥) ⊎ Violation top x s
+  list? safe l m = ⊎-elim (λ all. inl (λ a. each-answer (tableauLog x s) l (safe .lists l m) (λ r. r ≡ headOf x s → ⊥) all (headOf x s) a refl)) (λ y. inr y)
+      (all-or (Fits x s (λ r. r ≡ headOf x s → ⊥) l) (candidates (tableauLog x s) l) (λ v i. fits? (λ r. r ≡ headOf x s → ⊥) l each v))
     where
-      each : (v : ℕ → ℕ) → Holds (logOf x s) v l → Differ v l → (row v (l .head) ≡ headOf x s → ⊥) ⊎ Violation top x s
+      each : (v : ℕ → ℕ) → Holds (tableauLog x s) v l → Differ v l → (row v (l .head) ≡ headOf x s → ⊥) ⊎ Violation top x s
       each v h d = go (row? (row v (l .head)) (headOf x s))
         where
           go : Dec (row v (l .head) ≡ headOf x s) → (row v (l .head) ≡ headOf x s → ⊥) ⊎ Violation top x s
@@ -93,9 +93,9 @@ module _ (x : Sheet) {top : ℕ} (ok : Accepted top x) (s : State) where
   look safe =
       ⊎-elim (λ meets. ⊎-elim (λ missing. ⊎-elim (λ keyed. ⊎-elim (λ none-more.
       inl (record { meets = meets; keyed = λ f g m n. keyed f m g n; none-more = none-more; missing = missing }))
-      (λ y. inr y) (all-or (λ w. (r : List ℕ) → Answer (logOf x s) (w .block) r → In r (w .rows)) (x .views) (view? safe)))
-      (λ y. inr y) (all-or (λ f. (g : Fact) → In g (logOf x s) → SettledBy x s f g) (logOf x s) (λ f m. all-or (SettledBy x s f) (logOf x s) (λ g n. keyed? f g m n))))
-      (λ y. inr y) (all-or (λ l. Answer (logOf x s) l (headOf x s) → ⊥) (x .lists) (list? safe)))
+      (λ y. inr y) (all-or (λ w. (r : List ℕ) → Answer (tableauLog x s) (w .block) r → In r (w .rows)) (x .views) (view? safe)))
+      (λ y. inr y) (all-or (λ f. (g : Fact) → In g (tableauLog x s) → SettledBy x s f g) (tableauLog x s) (λ f m. all-or (SettledBy x s f) (tableauLog x s) (λ g n. keyed? f g m n))))
+      (λ y. inr y) (all-or (λ l. Answer (tableauLog x s) l (headOf x s) → ⊥) (x .lists) (list? safe)))
       (λ y. inr y) (all-or (λ c. Meets (copy s (c .number)) (c .job)) (numbered (jobs x)) copy-meets?)
 
 -- ---- equations are met, or cannot be
@@ -106,7 +106,7 @@ Has x s n = Known (Stands x) (slots x) s n
 abbrev pub Unified : ℕ → Sheet → State → List Equation → Type 0
 Unified top x s es = (r : ℕ → ℕ) × Unifier top r es × Progress top (Stands x) (slots x) s r
 
-module _ {top : ℕ} (x : Sheet) (ok : Accepted top x) where
+module _ {top : ℕ} (x : Sheet) (ok : FineSheet top x) where
   abbrev pub unify-one : (s : State) (a b : ℕ) → Has x s a → Has x s b → Unified top x s ((a ≈ b) ∷ []) ⊎ Clash top ((a ≈ b) ∷ [])
   unify-one s a b ka kb = go (same? a b) (less? a top) (less? b top)
     where
@@ -141,7 +141,7 @@ still-less h l = omega arith
 abbrev pub earlier : {top : ℕ} {x : Sheet} {s : State} {r : ℕ → ℕ} → Progress top (Stands x) (slots x) s r → Found x (after r s) → Found x s
 earlier p f = record { state = f .state; good = f .good; old = λ n i. ⊎-elim (λ c. inl c) (p .old n) (f .old n i) }
 
-module _ {top : ℕ} (x : Sheet) (ok : Accepted top x) (s : State) (n : ℕ) (most : measure top (slots x) s < suc n)
+module _ {top : ℕ} (x : Sheet) (ok : FineSheet top x) (s : State) (n : ℕ) (most : measure top (slots x) s < suc n)
     (next : (t : State) → measure top (slots x) t < n → Outcome top x t) where
   abbrev pub alternative : (es : List Equation) → Open (Stands x) (slots x) s es → RefutedBy top x s es ⊎ Found x s
   alternative es o =
@@ -153,16 +153,16 @@ module _ {top : ℕ} (x : Sheet) (ok : Accepted top x) (s : State) (n : ℕ) (mo
   turn (inr y) = ⊎-elim (λ all. inr (step (y .must) all)) (λ g. inl g) (all-or (RefutedBy top x s) (y .alts) (λ es m. alternative es (y .opens es m)))
 
 -- n bounds the rounds: each round lowers the measure
-unfoldable pub search-from : (x : Sheet) {top : ℕ} → Accepted top x → Evaluable x → (n : ℕ) (s : State) → measure top (slots x) s < n → Outcome top x s
+unfoldable pub search-from : (x : Sheet) {top : ℕ} → FineSheet top x → Evaluable x → (n : ℕ) (s : State) → measure top (slots x) s < n → Outcome top x s
 search-from x ok safe zero s most = absurd (let h = most in omega arith)
 search-from x ok safe (suc n) s most = turn x ok s n most (search-from x ok safe n) (look x ok s safe)
 
 -- from the first state: something good, or nothing
-abbrev pub decided : (x : Sheet) {top : ℕ} → Accepted top x → Evaluable x → Outcome top x (free top)
+abbrev pub decided : (x : Sheet) {top : ℕ} → FineSheet top x → Evaluable x → Outcome top x (free top)
 decided x {top} ok safe = search-from x ok safe (suc (measure top (slots x) (free top))) (free top) (le-refl _)
 
 -- the values of the log that is found
-pub found-values : (x : Sheet) {top : ℕ} → Accepted top x → (g : Found x (free top)) → (f : Fact) → In f (logOf x (g .state)) → (n : ℕ) → In n (f .row)
+pub found-values : (x : Sheet) {top : ℕ} → FineSheet top x → (g : Found x (free top)) → (f : Fact) → In f (tableauLog x (g .state)) → (n : ℕ) → In n (f .row)
     → Stands x n ⊎ ((top ≤ n) × (n < top + length (jobs x) * width))
 found-values x {top} ok g f m n i = ⊎-elim (λ c. inl c) (λ j. ⊎-elim (λ c. inl c) made (g .old n j)) (known-log x ok (g .state) f m n i)
   where

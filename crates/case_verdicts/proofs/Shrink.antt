@@ -11,8 +11,8 @@ use Rattle.query_meaning.specs.Blocks.{View}
 use Rattle.case_verdicts.specs.Table.{Table, relation, owed, parents}
 use Rattle.case_verdicts.specs.Verdict.{Sheet, Case}
 use Rattle.case_verdicts.specs.Handed.{Dropped, SpareFree, Distinct, rowAtoms, size}
-use Rattle.case_verdicts.specs.Accepted.{Accepted}
-use Rattle.case_verdicts.specs.Tableau.{Job, listed, jobs, later, numbered, State, copy, copyFacts, withParents, facts, logOf}
+use Rattle.case_verdicts.specs.Accepted.{FineSheet}
+use Rattle.case_verdicts.specs.Tableau.{Job, listed, jobs, later, numbered, State, copy, copyFacts, withParents, facts, tableauLog}
 use Rattle.case_verdicts.proofs.Lists.{total, total-same, total-each, total-append, total-map, gather-length}
 use Rattle.case_verdicts.proofs.Laws.{Within, monotone}
 use Rattle.case_verdicts.proofs.Distinct.{without, of-without, in-without, without-fewer, without-distinct, at-most, in-or}
@@ -77,9 +77,9 @@ drops x log small a k spare-free sub e f m out unowed = spare-free f m (less f l
           (λ q. unowed g (of-without fact? f g log n .0) (subst (λ z. In z (parents (x .table) g)) q p));
     }))
 
-module _ (x : Sheet) {top : ℕ} (ok : Accepted top x) (log : Log) (a : List ℕ) (k : Case x log a) (spare-free : SpareFree x log) (i : Inside x log a) where
+module _ (x : Sheet) {top : ℕ} (ok : FineSheet top x) (log : Log) (a : List ℕ) (k : Case x log a) (spare-free : SpareFree x log) (i : Inside x log a) where
   abbrev small : Log
-  small = logOf x (i .state)
+  small = tableauLog x (i .state)
 
   small-enough : Enough x small a
   small-enough = let c = good-case x ok (i .state) (i .good) in record { given = λ w m. c .agreeing .agrees w m .none-missing; asked = subst (Answer small (x .question)) (i .head) (c .asked) }
@@ -145,12 +145,12 @@ module _ (table : Table) where
       let r = closed-same none l in
       omega arith
 
-module _ (x : Sheet) {top : ℕ} (ok : Accepted top x) (log : Log) (a : List ℕ) (k : Case x log a) (spare-free : SpareFree x log) (distinct : Distinct log) where
-  fits : length log ≤ length (logOf x (case-good x ok log a k .state))
-  fits = at-most fact? log (logOf x (case-good x ok log a k .state)) distinct (inside x ok log a k spare-free (case-good x ok log a k) .at)
+module _ (x : Sheet) {top : ℕ} (ok : FineSheet top x) (log : Log) (a : List ℕ) (k : Case x log a) (spare-free : SpareFree x log) (distinct : Distinct log) where
+  fits : length log ≤ length (tableauLog x (case-good x ok log a k .state))
+  fits = at-most fact? log (tableauLog x (case-good x ok log a k .state)) distinct (inside x ok log a k spare-free (case-good x ok log a k) .at)
 
   pub at-most-twice : length log ≤ 2 * size x
-  unfolding logOf
+  unfolding tableauLog
   at-most-twice =
       let t = case-good x ok log a k .state in
       let h = fits in
@@ -159,7 +159,7 @@ module _ (x : Sheet) {top : ℕ} (ok : Accepted top x) (log : Log) (a : List ℕ
       omega arith
 
   pub at-most-size : ((n : ℕ) → relation (x .table) n .parent ≡ 0) → length log ≤ size x
-  unfolding logOf
+  unfolding tableauLog
   at-most-size none =
       let t = case-good x ok log a k .state in
       let h = fits in

@@ -11,8 +11,8 @@ use Rattle.query_meaning.specs.Blocks.{View}
 use Rattle.query_blocks.proofs.Shape.{in-map, from-map}
 use Rattle.case_verdicts.specs.Table.{Table, relation, owed, parents, Formed, Sound}
 use Rattle.case_verdicts.specs.Verdict.{Sheet}
-use Rattle.case_verdicts.specs.Accepted.{FineTerm, Fine, FineBlock, Accepted}
-use Rattle.case_verdicts.specs.Tableau.{Job, listed, jobs, Copy, later, numbered, State, copy, copyFacts, withParents, facts, logOf}
+use Rattle.case_verdicts.specs.Accepted.{FineTerm, Fine, FineBlock, FineSheet}
+use Rattle.case_verdicts.specs.Tableau.{Job, listed, jobs, Copy, later, numbered, State, copy, copyFacts, withParents, facts, tableauLog}
 use Rattle.case_verdicts.proofs.Lists.{in-gather, of-gather}
 
 -- ---- rows owed to parents
@@ -69,28 +69,28 @@ module _ (x : Sheet) (t : State) where
     pub standing : In atom (copy-of .job .block .atoms)
     pub from : In f (withParents (x .table) (factOf (copy t (copy-of .number)) atom))
 
-  pub origin : (f : Fact) → In f (logOf x t) → Origin f
-  unfolding logOf
+  pub origin : (f : Fact) → In f (tableauLog x t) → Origin f
+  unfolding tableauLog
   origin f m =
       let (g, n, i) = of-gather (withParents (x .table)) f (facts x t) m in
       let (c, k, h) = of-gather (copyFacts t) g (numbered (jobs x)) n in
       let (a, l, e) = from-map (factOf (copy t (c .number))) (c .job .block .atoms) g h in
       record { copy-of = c; copied = k; atom = a; standing = l; from = subst (λ z. In f (withParents (x .table) z)) e i }
 
-  pub in-log : (f : Fact) → Origin f → In f (logOf x t)
-  unfolding logOf
+  pub in-log : (f : Fact) → Origin f → In f (tableauLog x t)
+  unfolding tableauLog
   in-log f o =
       in-gather (withParents (x .table)) (factOf (copy t (o .copy-of .number)) (o .atom)) f (facts x t)
       (in-gather (copyFacts t) (o .copy-of) _ (numbered (jobs x)) (o .copied) (in-map (factOf (copy t (o .copy-of .number))) (o .copy-of .job .block .atoms) (o .atom) (o .standing)))
       (o .from)
 
-  pub copy-holds : (c : Copy) → In c (numbered (jobs x)) → Holds (logOf x t) (copy t (c .number)) (c .job .block)
+  pub copy-holds : (c : Copy) → In c (numbered (jobs x)) → Holds (tableauLog x t) (copy t (c .number)) (c .job .block)
   copy-holds c m a n = in-log _ (record { copy-of = c; copied = m; atom = a; standing = n; from = inl refl })
 
-  pub log-parented : Sound (x .table) → (f : Fact) → In f (logOf x t) → (g : Fact) → In g (parents (x .table) f) → In g (logOf x t)
+  pub log-parented : Sound (x .table) → (f : Fact) → In f (tableauLog x t) → (g : Fact) → In g (parents (x .table) f) → In g (tableauLog x t)
   log-parented sound f m g n = let o = origin f m in go o (o .from)
     where
-      go : (o : Origin f) → In f (withParents (x .table) (factOf (copy t (o .copy-of .number)) (o .atom))) → In g (logOf x t)
+      go : (o : Origin f) → In f (withParents (x .table) (factOf (copy t (o .copy-of .number)) (o .atom))) → In g (tableauLog x t)
       go o (inl e) = in-log g (record { copy-of = o .copy-of; copied = o .copied; atom = o .atom; standing = o .standing; from = inr (subst (λ z. In g (parents (x .table) z)) e n) })
       go o (inr i) = absurd (no-grandparent (x .table) sound _ f g i n)
 
@@ -106,7 +106,7 @@ pub record Source (x : Sheet) (s : State) (n : ℕ) : Type 0 where
   pub written : In term (atom .terms)
   pub same : n ≡ value (copy s (copy-of .number)) term
 
-pub source : (x : Sheet) (s : State) (f : Fact) → In f (logOf x s) → (n : ℕ) → In n (f .row) → Source x s n
+pub source : (x : Sheet) (s : State) (f : Fact) → In f (tableauLog x s) → (n : ℕ) → In n (f .row) → Source x s n
 source x s f m n i =
     let o = origin x s f m in
     let v = copy s (o .copy-of .number) in
@@ -123,7 +123,7 @@ source x s f m n i =
 pub fine-con : (top : ℕ) (r : List ℕ) → ((n : ℕ) → In n r → n < top) → Fine top (map con r)
 fine-con top r small t m = let (n, i, e) = from-map con r t m in subst (FineTerm top) (sym e) (small n i)
 
-module _ (x : Sheet) {top : ℕ} (ok : Accepted top x) where
+module _ (x : Sheet) {top : ℕ} (ok : FineSheet top x) where
   pub job-block : (j : Job) → In j (jobs x) → FineBlock top (x .table) (j .block)
   job-block j (inl e) = subst (λ (k : Job). FineBlock top (x .table) (k .block)) (sym e) (ok .question)
   job-block j (inr m) = let (w, r, n, k, e) = of-listed x j m in subst (λ (i : Job). FineBlock top (x .table) (i .block)) (sym e) (ok .views w n)
@@ -135,7 +135,7 @@ module _ (x : Sheet) {top : ℕ} (ok : Accepted top x) where
   job-is j (inl e) = subst (λ (k : Job). Fine top (k .is)) (sym e) (ok .question .head)
   job-is j (inr m) = let (w, r, n, k, e) = of-listed x j m in subst (λ (i : Job). Fine top (i .is)) (sym e) (fine-con top r (ok .rows w n r k))
 
-  pub log-formed : (t : State) (f : Fact) → In f (logOf x t) → Formed (x .table) f
+  pub log-formed : (t : State) (f : Fact) → In f (tableauLog x t) → Formed (x .table) f
   log-formed t f m = let o = origin x t f m in go o (o .from)
     where
       formed : (o : Origin x t f) → Formed (x .table) (factOf (copy t (o .copy-of .number)) (o .atom))

@@ -16,7 +16,7 @@ use Rattle.query_blocks.proofs.Shape.{all-in}
 use Rattle.case_verdicts.specs.Table.{Relation, Table, relation}
 use Rattle.case_verdicts.specs.Verdict.{Sheet, Covered, NoLog}
 use Rattle.case_verdicts.specs.Handed.{Handed}
-use Rattle.case_verdicts.specs.Accepted.{width, FineTerm, FineAtom, FineBlock, Accepted, variables, Bound, Safe, Evaluable}
+use Rattle.case_verdicts.specs.Accepted.{width, FineTerm, FineAtom, FineBlock, FineSheet, variables, Bound, Safe, Evaluable}
 use Rattle.case_verdicts.specs.Tableau.{jobs}
 use Rattle.case_verdicts.specs.Sheets.{top}
 use Rattle.case_verdicts.specs.Examples.{Shown, covered, case, no-log, Shows, Entry, judge, judge-any, evaluate, evaluate-any, sheet, SaysOf, Says}
@@ -79,7 +79,7 @@ Rows top w = (r : List ℕ) → In r (w .rows) → (n : ℕ) → In n r → n < 
 abbrev Lengths : View → Type 0
 Lengths w = (r : List ℕ) → In r (w .rows) → length r ≡ length (w .block .head)
 
-abbrev pub accept : (top : ℕ) (x : Sheet) → Or (Accepted top x × Evaluable x)
+abbrev pub accept : (top : ℕ) (x : Sheet) → Or (FineSheet top x × Evaluable x)
 accept top x =
     then (all-or (LineSound (x .table)) (x .table) (λ r m. line? (x .table) r)) (λ t.
     then (block? top (x .table) (x .question)) (λ q.

@@ -5,6 +5,7 @@ use mathlib.Core.Logic.{_⊎_, ⊎-elim}
 use Prim.Native.Nat.{ℕ, zero, suc, _<_, _≤_}
 use native.Mathlib.Omega.{arith}
 use lib.ListN.{length}
+use Rattle.tableau_layout.specs.Layout.{tableau-atoms}
 use Rattle.sheet_format.specs.Relations.{relations}
 use Rattle.sheet_format.specs.Line.{Line}
 use Rattle.sheet_format.specs.Cause.{refusalOf}
@@ -49,7 +50,7 @@ module _ (ls : List Line) (ok : refusalOf ls .number ≡ 0) where
 
   -- ---- what is handed over: at most 126 facts, with values that a fact can have
 
-  pub handed-few : (h : Handed top value-end (sheetOf ls)) → length (h .log) ≤ 126
+  pub handed-few : (h : Handed top value-end (sheetOf ls)) → length (h .log) ≤ tableau-atoms
   handed-few h = let s = accepted-size ls ok in let m = h .most (plain-parentless relations) in omega arith
 
   pub handed-small : (h : Handed top value-end (sheetOf ls)) (f : Fact) → In f (h .log) → (n : ℕ) → In n (f .row) → n < value-end

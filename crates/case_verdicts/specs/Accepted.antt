@@ -1,18 +1,21 @@
--- What the theorems ask of a sheet, and accepted lines bring (proofs/Accepted): constants below a top, few variables, full atoms, rows as
+-- What the theorems ask of a sheet, and accepted lines bring (proofs/FineSheet): constants below a top, few variables, full atoms, rows as
 -- long as their heads, head variables that stand in atoms.
 use mathlib.Core.Path.{_≡_}
 use mathlib.Core.List.{List, [], _∷_}
 use Prim.Native.Nat.{ℕ, _<_}
 use lib.ListN.{length}
+use lib.IntN.{pos}
+use Rattle.sheet_format.specs.Relations.{columnsOf}
+use Rattle.query_layout.specs.Layout.{names}
 use Rattle.sheet_format.specs.Line.{gather}
 use Rattle.query_meaning.specs.Meaning.{Term, con, var, Atom, Apart, Block, In}
 use Rattle.query_meaning.specs.Blocks.{View}
 use Rattle.case_verdicts.specs.Table.{Table, relation, Sound}
 use Rattle.case_verdicts.specs.Verdict.{Sheet}
 
--- a block's variables are below this: 1 to 12. It stays shut, so that the theorems hold for any other number as well.
+-- a block's variables are below this, from 1 on. It stays shut, so that the theorems hold for any other number as well.
 unfoldable pub width : ℕ
-width = 13
+width = names
 
 -- constants lie below `top`; values from `top` on are free to be made up
 abbrev pub FineTerm : ℕ → Term → Type 0
@@ -29,6 +32,12 @@ pub record FineAtom (top : ℕ) (table : Table) (a : Atom) : Type 0 where
   pub known : 0 < relation table (a .rel) .columns
   pub full : length (a .terms) ≡ relation table (a .rel) .columns
 
+-- a table without keys and parents, whose columns are the format's: what the search can work with so far
+pub record PlainTable (table : Table) : Type 0 where
+  pub columns : (n : ℕ) → relation table n .columns ≡ columnsOf (pos n)
+  pub keyless : (n : ℕ) → relation table n .key ≡ 0
+  pub parentless : (n : ℕ) → relation table n .parent ≡ 0
+
 -- so are all terms of the block, and its atoms
 pub record FineBlock (top : ℕ) (table : Table) (b : Block) : Type 0 where
   pub head : Fine top (b .head)
@@ -36,7 +45,7 @@ pub record FineBlock (top : ℕ) (table : Table) (b : Block) : Type 0 where
   pub apart : (d : Apart) → In d (b .apart) → FineTerm top (d .left) × FineTerm top (d .right)
 
 -- all blocks are so; listed rows have constants only, one for each column of their view's head
-pub record Accepted (top : ℕ) (x : Sheet) : Type 0 where
+pub record FineSheet (top : ℕ) (x : Sheet) : Type 0 where
   pub table : Sound (x .table)
   pub question : FineBlock top (x .table) (x .question)
   pub lists : (l : Block) → In l (x .lists) → FineBlock top (x .table) l

@@ -61,8 +61,8 @@ abbrev pub facts : Sheet → State → Log
 facts x t = gather (copyFacts t) (numbered (jobs x))
 
 -- and with them the rows that they owe to parents
-unfoldable pub logOf : Sheet → State → Log
-logOf x t = gather (withParents (x .table)) (facts x t)
+unfoldable pub tableauLog : Sheet → State → Log
+tableauLog x t = gather (withParents (x .table)) (facts x t)
 
 -- the question's head under its copy's valuation
 abbrev pub headOf : Sheet → State → List ℕ
@@ -76,9 +76,9 @@ pub record Meets (v : ℕ → ℕ) (j : Job) : Type 0 where
 -- what makes the state's log a case, with the head as its missing answer
 pub record Good (x : Sheet) (t : State) : Type 0 where
   pub meets : (c : Copy) → In c (numbered (jobs x)) → Meets (copy t (c .number)) (c .job)
-  pub keyed : (f g : Fact) → In f (logOf x t) → In g (logOf x t) → SameKey (x .table) f g → f .row ≡ g .row
-  pub none-more : (w : View) → In w (x .views) → (r : List ℕ) → Answer (logOf x t) (w .block) r → In r (w .rows)
-  pub missing : (l : Block) → In l (x .lists) → Answer (logOf x t) l (headOf x t) → ⊥
+  pub keyed : (f g : Fact) → In f (tableauLog x t) → In g (tableauLog x t) → SameKey (x .table) f g → f .row ≡ g .row
+  pub none-more : (w : View) → In w (x .views) → (r : List ℕ) → Answer (tableauLog x t) (w .block) r → In r (w .rows)
+  pub missing : (l : Block) → In l (x .lists) → Answer (tableauLog x t) l (headOf x t) → ⊥
 
 -- ---- agreeing logs by the same search
 

@@ -8,12 +8,14 @@ use native.Mathlib.Omega.{arith}
 use lib.IntN.{ℤ, pos}
 use lib.ListN.{length, getD, take, drop, length-map}
 use lib.Seq.{length-take-le}
+use Rattle.query_layout.specs.Layout.{names}
+use Rattle.tableau_layout.specs.Layout.{plan-numbers, slot-end, tableau-atoms, tableau-numbers}
 use Rattle.list_laws.proofs.Lists.{inside}
 use Rattle.sheet_format.specs.Relations.{columnsOf}
 use Rattle.query_meaning.specs.Meaning.{Fact, Log, In}
 use Rattle.query_meaning.specs.Facts as facts
 use Rattle.query_meaning.specs.Facts.{value-end}
-use Rattle.query_encoding.specs.Numbers.{FactNumbers, ShapedLog}
+use Rattle.query_encoding.specs.Encoding.{FactNumbers, ShapedLog}
 use Rattle.query_blocks.proofs.Shape.{from-map}
 use Rattle.list_laws.specs.Wrote.{Wrote}
 use Rattle.case_verdicts.specs.Table.{relation}
@@ -21,7 +23,7 @@ use Rattle.case_verdicts.specs.Verdict.{Sheet, Case}
 use Rattle.case_verdicts.specs.Handed.{Stands}
 use Rattle.case_verdicts.specs.Sheets.{top}
 use Rattle.case_verdicts.specs.Accepted.{width}
-use Rattle.case_verdicts.specs.Tableau.{State, jobs, logOf, headOf}
+use Rattle.case_verdicts.specs.Tableau.{State, jobs, tableauLog, headOf}
 use Rattle.case_verdicts.specs.Words.{stateOf}
 use Rattle.case_verdicts.proofs.Tableau.{log-formed}
 use Rattle.case_verdicts.proofs.Reduce.{good-case}
@@ -31,15 +33,15 @@ use Rattle.tableau_plan.specs.Plan.{tableauSize, tableauFacts}
 use Rattle.tableau_parts.specs.Views.{MissingBy}
 use Rattle.tableau_parts.specs.Walks as walks
 use Rattle.case_order.specs.Order.{factAt, Ordered}
-use Rattle.case_minimization.specs.Shrink.{IsCase, Shrunk}
-use Rattle.search_chase.specs.Parts.{Ready, Found}
+use Rattle.case_minimization.specs.Minimization.{IsCase, Shrunk}
+use Rattle.search_chase.specs.Parts.{ReadyPlan, Found}
 use Rattle.search_chase.proofs.Node as node
-use Rattle.search_chase.proofs.Node.{ten-columns}
 use Rattle.search_chase.proofs.ReadyLaws.{ready-task}
 use Rattle.search_chase.proofs.NodeLaws.{facts-by, ready-views}
 use Rattle.case_promise.proofs.Cases.{KnownLog}
 use Rattle.case_promise.proofs.Over.{HandedNumbers, taken-fact, part-few, ordered-case, handed-numbers}
 use Rattle.case_writer.specs.Over.{SpareFreeIn, HandsOver}
+use Rattle.search_chase.specs.declared.Goal.the-variants.{Counterexample}
 
 -- ordered facts are those of the front of the words
 ordered-front : (ns : List ℕ) (n : ℕ) (ms : List ℕ) (m : ℕ) → Ordered ns n ms m → Ordered (take (n * 5) ns) n ms m
@@ -50,12 +52,12 @@ ordered-front ns n ms m o = record {
   every = λ i h. let (j, lt, e) = o .every i h in (j, lt, e ∙ sym (taken-fact ns n i h));
 }
 
-module _ (p : List ℕ) (x : Sheet) (r : Ready p x) (st : List ℕ) (f : Found x x st) where
+module _ (p : List ℕ) (x : Sheet) (r : ReadyPlan p x) (st : List ℕ) (f : Found x x st) where
   abbrev s : State
   s = stateOf top st
 
   abbrev log : Log
-  log = logOf x s
+  log = tableauLog x s
 
   case : Case x log (headOf x s)
   case = good-case x (r .accepted) s (f .good)
@@ -63,7 +65,7 @@ module _ (p : List ℕ) (x : Sheet) (r : Ready p x) (st : List ℕ) (f : Found x
   known : KnownLog log
   known g m =
       let d = log-formed x (r .accepted) s g m .known in
-      let e : relation (x .table) (g .rel) .columns ≡ columnsOf (pos (g .rel)) = ap (λ t. relation t (g .rel) .columns) (r .plain) ∙ ten-columns (g .rel) in
+      let e : relation (x .table) (g .rel) .columns ≡ columnsOf (pos (g .rel)) = r .plain .columns (g .rel) in
       omega arith
 
   -- each value stands in the sheet, or was made up
@@ -74,7 +76,7 @@ module _ (p : List ℕ) (x : Sheet) (r : Ready p x) (st : List ℕ) (f : Found x
       slot : In n (map s (slots x)) → Stands x n ⊎ ((top ≤ n) × (n < value-end))
       slot j =
           let (k, w, e) = from-map s (slots x) n j in
-          let h = of-upto (length (jobs x) * 13) k w in
+          let h = of-upto (length (jobs x) * names) k w in
           let c = r .plan .copies in
           let d = r .plan .rows-few in
           let z = f .size in
@@ -83,29 +85,29 @@ module _ (p : List ℕ) (x : Sheet) (r : Ready p x) (st : List ℕ) (f : Found x
 
   -- ---- the state's facts
 
-  module _ (one : List ℕ) (n : ℕ) (size : n ≡ tableauSize p - 0) (one-length : length one ≡ 630) (told : take (n * 5) one ≡ tableauFacts p s 0 n) where
-    pub facts-few : n ≤ 126
+  module _ (one : List ℕ) (n : ℕ) (size : n ≡ tableauSize p - 0) (one-length : length one ≡ tableau-numbers) (told : take (n * 5) one ≡ tableauFacts p s 0 n) where
+    pub facts-few : n ≤ tableau-atoms
     facts-few = let h = r .plan .few in omega arith
 
     numbers : FactNumbers (take (n * 5) one) log
-    numbers = facts-by p x r true s (take (n * 5) one) 0 n refl size told
+    numbers = facts-by p x r Counterexample s (take (n * 5) one) 0 n refl size told
 
     count : length log ≡ n
     count = let a = numbers .count in let h = facts-few in let b = length-take-le (n * 5) one (omega arith) in omega arith
 
     shaped : ShapedLog log
-    shaped = node.shaped-log p x x (r .plan) (ready-task p x r true) s (take (n * 5) one) numbers
+    shaped = node.shaped-log p x x (r .plan) (ready-task p x r Counterexample) s (take (n * 5) one) numbers
 
     -- ---- in order
 
-    module _ (two : List ℕ) (m : ℕ) (o : Ordered one n two m) (two-length : length two ≡ 630) where
-      pub ordered-few : m ≤ 126
+    module _ (two : List ℕ) (m : ℕ) (o : Ordered one n two m) (two-length : length two ≡ tableau-numbers) where
+      pub ordered-few : m ≤ tableau-atoms
       ordered-few = let a = o .few in let b = facts-few in omega arith
 
       ordered : Ordered (take (n * 5) one) (length log) two m
       ordered = subst (λ k. Ordered (take (n * 5) one) k two m) (sym count) (ordered-front one n two m o)
 
-      few : length log ≤ 126
+      few : length log ≤ tableau-atoms
       few = let a = facts-few in let b = count in omega arith
 
       room : m * 5 ≤ length two
@@ -117,7 +119,7 @@ module _ (p : List ℕ) (x : Sheet) (r : Ready p x) (st : List ℕ) (f : Found x
       -- ---- shrunk
 
       module _ (three : List ℕ) (k : ℕ) (shrunk : Shrunk p (take (m * 5) two) m (take (k * 5) three) k) where
-        pub shrunk-few : k ≤ 126
+        pub shrunk-few : k ≤ tableau-atoms
         shrunk-few = let a = ordered-few in let b = part-few (shrunk .part) in omega arith
 
         pub handed : (some : Bool) (u : List ℕ) → MissingBy some p (take (k * 5) three) u → HandedNumbers x (take (k * 5) three) k u
@@ -125,16 +127,16 @@ module _ (p : List ℕ) (x : Sheet) (r : Ready p x) (st : List ℕ) (f : Found x
         handed false u lacking = absurd (lacking (shrunk .still .1 .0) (shrunk .still .1 .1))
 
 -- what state::facts, order::arrange and shrink::shrink ensure, together
-pub spare-free-in : (p : List ℕ) (x : Sheet) (r : Ready p x) (st : List ℕ) (f : Found x x st) (none one two three : List ℕ) (n m k : ℕ) → length none ≡ 630 → length one ≡ length none → length two ≡ length one
-    → (length p ≡ 1184 → 0 ≤ tableauSize p → tableauSize p ≤ 126 → 533 ≤ length st → 630 ≤ length none → (n ≡ tableauSize p - 0) × (take (n * 5) one ≡ tableauFacts p (stateOf top st) 0 n))
+pub spare-free-in : (p : List ℕ) (x : Sheet) (r : ReadyPlan p x) (st : List ℕ) (f : Found x x st) (none one two three : List ℕ) (n m k : ℕ) → length none ≡ tableau-numbers → length one ≡ length none → length two ≡ length one
+    → (length p ≡ plan-numbers → 0 ≤ tableauSize p → tableauSize p ≤ tableau-atoms → slot-end ≤ length st → tableau-numbers ≤ length none → (n ≡ tableauSize p - 0) × (take (n * 5) one ≡ tableauFacts p (stateOf top st) 0 n))
     → (n * 5 ≤ length one → Ordered one n two m × (length two ≡ length one))
-    → (walks.Ready p → m ≤ 126 → m * 5 ≤ length two → IsCase p (take (m * 5) two) → Shrunk p (take (m * 5) two) m (take (k * 5) three) k)
-    → (k ≤ 126) × SpareFreeIn p x (take (k * 5) three) k
+    → (walks.FormedPlan p → m ≤ tableau-atoms → m * 5 ≤ length two → IsCase p (take (m * 5) two) → Shrunk p (take (m * 5) two) m (take (k * 5) three) k)
+    → (k ≤ tableau-atoms) × SpareFreeIn p x (take (k * 5) three) k
 spare-free-in p x r st f none one two three n m k l-none l-one l-two state-facts arrange shrink =
     let z = f .size in
     let (size, told) = state-facts (r .plan .size) (omega arith) (r .plan .few) (omega arith) (omega arith) in
-    let a : length one ≡ 630 = omega arith in
-    let b : length two ≡ 630 = omega arith in
+    let a : length one ≡ tableau-numbers = omega arith in
+    let b : length two ≡ tableau-numbers = omega arith in
     let few = facts-few p x r st f one n size a told in
     let (o, same) = arrange (omega arith) in
     let m-few = ordered-few p x r st f one n size a told two m o b in

@@ -6,7 +6,7 @@ use Prim.Native.Nat.{ℕ, _*_}
 use lib.IntN.{ℤ}
 use lib.ListN.{length, take, drop}
 use Rattle.query_meaning.specs.Facts.{fact-words, value-end, logOf, factsRefusal}
-use Rattle.query_encoding.specs.Numbers.{padded}
+use Rattle.query_encoding.specs.Encoding.{padded}
 use Rattle.case_verdicts.specs.Verdict.{Sheet}
 use Rattle.case_verdicts.specs.Handed.{Handed}
 use Rattle.case_verdicts.specs.Sheets.{top}

@@ -1,12 +1,17 @@
 // Hands the case of a good state over: its facts in order and without any to spare, and the least missing answer.
+use query_layout::FACT_NUMBERS;
+use tableau_layout::PLAN_NUMBERS;
+use tableau_layout::TABLEAU_ATOMS;
+use tableau_layout::TABLEAU_NUMBERS;
 ghost use mathlib.Core.Path.{_≡_};
 ghost use mathlib.Core.List.{map};
 ghost use Prim.Native.Nat.{ℕ, _*_, _≤_, _<_};
 ghost use lib.IntN.{pos};
 ghost use lib.ListN.{length, getD, take};
+ghost use Rattle.tableau_layout.specs.Layout.{tableau-atoms, tableau-numbers};
 ghost use Rattle.list_laws.specs.Wrote.{Wrote};
 ghost use Rattle.case_verdicts.specs.Verdict.{Sheet};
-ghost use Rattle.search_chase.specs.Parts.{Ready, Found};
+ghost use Rattle.search_chase.specs.Parts.{ReadyPlan, Found};
 ghost use Rattle.case_writer.specs.Over.{SpareFreeIn, HandsOver};
 
 // How many facts stand in the lent words, and the missing answer.
@@ -14,13 +19,6 @@ pub struct HandedCase {
     pub count: usize,
     pub missing: [usize; 4],
 }
-
-// The facts of the largest case, and their numbers, five each.
-const MOST_FACTS: usize = 126;
-
-const NUMBERS: usize = 630;
-
-const FACT: usize = 5;
 
 // A number as a word; 0 where it fits none.
 fn word(n: usize) -> i32
@@ -45,9 +43,9 @@ fn put_facts(out: &mut [i32], facts: &[usize])
 }
 
 // The facts of a good state, in order and without any to spare, in front of the room; how many.
-fn spare_free(p: &[usize; 1184], st: &[usize], room: &mut [usize]) -> usize
-    requires { ⌜ length (now room) ≡ 630 ⌝ }
-    ensures { λ k. ⌜ ((x : Sheet) → Ready (now (p .entry)) x → Found x x (now (st .entry)) → (k ≤ 126) × SpareFreeIn (now (p .entry)) x (take (k * 5) (now (room .exit))) k) ⌝ }
+fn spare_free(p: &[usize; PLAN_NUMBERS], st: &[usize], room: &mut [usize]) -> usize
+    requires { ⌜ length (now room) ≡ tableau-numbers ⌝ }
+    ensures { λ k. ⌜ ((x : Sheet) → ReadyPlan (now (p .entry)) x → Found x x (now (st .entry)) → (k ≤ tableau-atoms) × SpareFreeIn (now (p .entry)) x (take (k * 5) (now (room .exit))) k) ⌝ }
 {
     let n = search_state::facts(p, st, 0, room);
     let m = case_order::arrange(room, n);
@@ -55,26 +53,26 @@ fn spare_free(p: &[usize; 1184], st: &[usize], room: &mut [usize]) -> usize
 }
 
 // Hands the case of a good state over, with its least missing answer. Nothing is written where there is too little room.
-pub fn hand_over(p: &[usize; 1184], st: &[usize], out: &mut [i32]) -> HandedCase
-    ensures { λ r. ⌜ ((x : Sheet) → Ready (now (p .entry)) x → Found x x (now (st .entry)) → 630 ≤ length (now (out .entry)) → HandsOver x (now (out .entry)) (now (out .exit)) (r .count) (r .missing)) ⌝ }
-    ensures { λ r. ⌜ (length (now (out .entry)) < 630 → now (out .exit) ≡ now (out .entry)) ⌝ }
+pub fn hand_over(p: &[usize; PLAN_NUMBERS], st: &[usize], out: &mut [i32]) -> HandedCase
+    ensures { λ r. ⌜ ((x : Sheet) → ReadyPlan (now (p .entry)) x → Found x x (now (st .entry)) → tableau-numbers ≤ length (now (out .entry)) → HandsOver x (now (out .entry)) (now (out .exit)) (r .count) (r .missing)) ⌝ }
+    ensures { λ r. ⌜ (length (now (out .entry)) < tableau-numbers → now (out .exit) ≡ now (out .entry)) ⌝ }
 {
-    if out.len() < NUMBERS {
+    if out.len() < TABLEAU_NUMBERS {
         return HandedCase {
             count: 0,
             missing: [0; 4],
         };
     }
-    let mut room = [0usize; NUMBERS];
+    let mut room = [0usize; TABLEAU_NUMBERS];
     let count = spare_free(p, st, &mut room);
-    if MOST_FACTS < count {
+    if TABLEAU_ATOMS < count {
         return HandedCase {
             count: 0,
             missing: [0; 4],
         };
     }
-    let row = case_missing_answer::missing(p, &room[..count * FACT]);
-    put_facts(out, &room[..count * FACT]);
+    let row = case_missing_answer::missing(p, &room[..count * FACT_NUMBERS]);
+    put_facts(out, &room[..count * FACT_NUMBERS]);
     let missing = row.values;
     HandedCase { count, missing }
 }

@@ -6,20 +6,20 @@
 //     6, a value for each column of the question's head       the missing answer
 //     7, relation, a value for each column of it              a fact of the case, a line for each
 use judge::Judgement;
+use judge::LEAST_ROOM;
 use libc::STDIN_FILENO;
 use libc::STDOUT_FILENO;
+use query_meaning::FACT_WORDS;
 use sheet_format::FIELD_BYTES;
+use sheet_format::FIELD_END;
 use sheet_format::MOST_SHEET_BYTES;
 ghost use mathlib.Core.Path.{_≡_};
 ghost use Prim.Native.Nat.{_+_, _*_, _≤_};
 ghost use lib.ListN.{length};
+ghost use Rattle.judge.specs.Judged.{least-room};
 
-// What is read: one byte more than a sheet may have, so that a longer one is refused. The words that a verdict wants, and those of a fact.
+// What is read: one byte more than a sheet may have, so that a longer one is refused.
 const READ: usize = MOST_SHEET_BYTES + 1;
-
-const LENT: usize = 640;
-
-const FACT: usize = 5;
 
 fn main() {
     let mut given = [0u8; READ];
@@ -29,7 +29,7 @@ fn main() {
 
 // Judges a sheet, and prints what comes out.
 fn cover(sheet: &[u8]) {
-    let mut facts = [0i32; LENT];
+    let mut facts = [0i32; LEAST_ROOM];
     let j = judged(sheet, &mut facts);
     let verdict = j.verdict;
     let count = j.count;
@@ -49,8 +49,8 @@ fn cover(sheet: &[u8]) {
 
 // Judges a sheet into the words that a verdict wants: the facts of its case are among them.
 fn judged(sheet: &[u8], facts: &mut [i32]) -> Judgement
-    requires { ⌜ length (now facts) ≡ 640 ⌝ }
-    ensures { λ r. ⌜ r .count * 5 ≤ 640 ⌝ }
+    requires { ⌜ length (now facts) ≡ least-room ⌝ }
+    ensures { λ r. ⌜ r .count * 5 ≤ least-room ⌝ }
 {
     judge::judge(sheet, facts)
 }
@@ -104,8 +104,8 @@ fn print_facts(facts: &[i32], count: usize)
 {
     let mut i = 0;
     while i < count {
-        let at = i * FACT;
-        print_fact(&facts[at..at + FACT]);
+        let at = i * FACT_WORDS;
+        print_fact(&facts[at..at + FACT_WORDS]);
         i += 1;
     }
 }
@@ -132,7 +132,7 @@ fn least(a: usize, b: usize) -> usize
 
 // A number that fits a field, as all numbers of a judgement do.
 fn print_number(n: usize) {
-    if n < 100000000 {
+    if n < FIELD_END as usize {
         print_word(n as i32);
     }
 }

@@ -1,7 +1,7 @@
 // Judges the sheet of standard input, given as a sheet or as its text, and prints the verdict in words.
 use libc::STDIN_FILENO;
 use libc::STDOUT_FILENO;
-use text_reader::MOST_TEXT;
+use text_begins::MOST_TEXT;
 use text_writer::TEXT_ROOM;
 
 // What is read: one byte more than a text may have, so that a longer one is refused.

@@ -13,7 +13,7 @@ use Rattle.query_facts.proofs.Laws.{logOf-length}
 use Rattle.case_verdicts.specs.Verdict.{Sheet, HasVerdict}
 use Rattle.case_verdicts.specs.Sheets.{sheetOf}
 use Rattle.case_verdicts.proofs.Verdicts.{exclusive}
-use Rattle.judge.specs.Judged.{least-room, judgement, Sent, Short, Said, HandedOver, Decided, Judged}
+use Rattle.judge.specs.Judged.{least-room, judgement, SheetSent, Short, Said, HandedOver, Decided, Judged}
 use Rattle.judge.specs.declared.Judgement.{Judgement}
 
 module _ (x : Sheet) (out after : List ℤ) (r : Judgement) (room : least-room ≤ length out) where
@@ -28,7 +28,7 @@ module _ (s : List ℕ) (out after : List ℤ) (r : Judgement) (judged : Judged 
   -- a sheet without cause, and words enough: the verdict returned is v exactly when v holds of the sheet
   module _ (clean : sheetRefusal s .number ≡ 0) (room : least-room ≤ length out) where
     verdict-holds : HasVerdict (sheetOf (byteLines s)) (r .verdict)
-    verdict-holds = ⊎-elim (λ (d : Sent s out after r). absurd (d .cause clean)) (λ d. decided-holds (sheetOf (byteLines s)) out after r room (d .1)) judged
+    verdict-holds = ⊎-elim (λ (d : SheetSent s out after r). absurd (d .cause clean)) (λ d. decided-holds (sheetOf (byteLines s)) out after r room (d .1)) judged
 
     pub verdict-only-when : (v : ℕ) → r .verdict ≡ v → HasVerdict (sheetOf (byteLines s)) v
     verdict-only-when v e = subst (HasVerdict (sheetOf (byteLines s))) e verdict-holds
@@ -37,13 +37,13 @@ module _ (s : List ℕ) (out after : List ℤ) (r : Judgement) (judged : Judged 
     verdict-when v h = exclusive (sheetOf (byteLines s)) (r .verdict) v verdict-holds h
 
   -- the facts of a case fit the words
-  pub count-fits : length out ≡ 640 → r .count * 5 ≤ 640
-  count-fits size = ⊎-elim (λ (d : Sent s out after r). nothing (d .result)) (λ d. decided (d .1)) judged
+  pub count-fits : length out ≡ least-room → r .count * 5 ≤ least-room
+  count-fits size = ⊎-elim (λ (d : SheetSent s out after r). nothing (d .result)) (λ d. decided (d .1)) judged
     where
-      nothing : {v n l : ℕ} → r ≡ judgement v n l 0 [] → r .count * 5 ≤ 640
+      nothing : {v n l : ℕ} → r ≡ judgement v n l 0 [] → r .count * 5 ≤ least-room
       nothing e = let z : r .count ≡ 0 = ap (λ (q : Judgement). q .count) e in omega arith
 
-      case : HandedOver (sheetOf (byteLines s)) out after r → r .count * 5 ≤ 640
+      case : HandedOver (sheetOf (byteLines s)) out after r → r .count * 5 ≤ least-room
       case d =
           let z : r .count ≡ length (d .handed .log) = ap (λ (q : Judgement). q .count) (d .result) in
           let l : length (d .handed .log) ≡ length (take (5 * r .count) after) / 5 = sym (ap length (d .read)) ∙ logOf-length (take (5 * r .count) after) in
@@ -51,7 +51,7 @@ module _ (s : List ℕ) (out after : List ℤ) (r : Judgement) (judged : Judged 
           let a = d .same in
           omega arith
 
-      decided : Decided (sheetOf (byteLines s)) out after r → r .count * 5 ≤ 640
+      decided : Decided (sheetOf (byteLines s)) out after r → r .count * 5 ≤ least-room
       decided (inl d) = nothing (d .result)
       decided (inr (inl d)) = nothing (d .result)
       decided (inr (inr (inl d))) = case d

@@ -1,7 +1,7 @@
 -- What the call gives, way by way.
 use mathlib.Core.Path.{_≡_, refl, sym, ap, _∙_, subst}
 use mathlib.Core.Bool.{Bool, true, false, true≢false}
-use mathlib.Core.List.{List, [], _∷_}
+use mathlib.Core.List.{List, []}
 use mathlib.Core.Logic.{_⊎_, inl, inr}
 use Prim.Native.Nat.{ℕ, zero, suc, _+_, _<_, _≤_}
 use native.Mathlib.Omega.{arith}
@@ -9,6 +9,7 @@ use borrow.Author.Tests.{ne-eqb, le-ltb}
 use lib.Dec.{eqb, ltb}
 use lib.IntN.{ℤ}
 use lib.ListN.{length}
+use Rattle.case_verdicts.proofs.Plain.{ten-plain}
 use Rattle.sheet_format.specs.Limits.{most-words}
 use Rattle.sheet_format.specs.Line.{Line, byteLines}
 use Rattle.sheet_format.specs.Cause.{refusal, refusalOf}
@@ -16,9 +17,9 @@ use Rattle.sheet_format.specs.Sheet.{sheetRefusal, readEnding}
 use Rattle.sheet_format.specs.declared.Refusal.{Refusal}
 use Rattle.sheet_format.specs.declared.Ending.{Ending}
 use Rattle.sheet_format.specs.declared.Ending.the-variants.{Done, Refused}
-use Rattle.query_meaning.specs.Meaning.{Block, In}
-use Rattle.query_meaning.specs.Blocks.{View, nth, allBlocks, blockAt}
-use Rattle.query_encoding.specs.Numbers.{Shaped, isBlock}
+use Rattle.query_meaning.specs.Blocks.{nowhere, allBlocks, blockAt}
+use Rattle.query_encoding.specs.Encoding.{Shaped, isBlock}
+use Rattle.query_encoding.proofs.Lists.{in-at}
 use Rattle.query_blocks.proofs.Shape.{accepted-shaped}
 use Rattle.sheet.proofs.Calls.{refused-by, clean-sheet}
 use Rattle.case_verdicts.specs.Verdict.{Sheet}
@@ -28,38 +29,34 @@ use Rattle.case_verdicts.specs.Search.{free, Refuted}
 use Rattle.case_verdicts.proofs.Accepted.{accepted-sheet, accepted-lists}
 use Rattle.case_verdicts.proofs.Order.{block-question, block-list, block-view, block-count}
 use Rattle.case_verdicts.proofs.Judge.{says-covered, says-no-log}
-use Rattle.tableau_plan.specs.Plan.{Plan, viewCount}
-use Rattle.search_chase.specs.Parts.{Ready, Found, FoundBy}
+use Rattle.tableau_plan.specs.Plan.{Plan}
+use Rattle.search_chase.specs.Parts.{ReadyPlan, Found, FoundBy}
 use Rattle.case_writer.specs.Over.{HandsOver}
-use Rattle.judge.specs.Judged.{judgement, Sent, Short, Said, HandedOver, Decided, Judged}
+use Rattle.judge.specs.Judged.{judgement, SheetSent, Short, Said, HandedOver, Decided, Judged, least-room}
 use Rattle.judge.specs.declared.Judgement.{Judgement}
 
 -- ---- a plan of accepted lines is ready for a search
 
 module _ (ls : List Line) (ok : refusalOf ls .number ≡ 0) where
-  is-block : (k : ℕ) → k < 2 + length (sheetOf ls .views) → isBlock ls (suc k) ≡ true
+  is-block : (k : ℕ) → k < 1 + length (sheetOf ls .lists) + length (sheetOf ls .views) → isBlock ls (suc k) ≡ true
   is-block k lt = let c = block-count ls ok in rw (ne-eqb (suc k) 0 (λ e. omega arith), le-ltb (length (allBlocks ls)) (suc k) (omega arith)) refl
 
-  shaped : (k : ℕ) → k < 2 + length (sheetOf ls .views) → Shaped (blockAt ls (suc k))
+  shaped : (k : ℕ) → k < 1 + length (sheetOf ls .lists) + length (sheetOf ls .views) → Shaped (blockAt ls (suc k))
   shaped k lt = accepted-shaped ls ok (suc k) (is-block k lt)
 
-  pub ready-plan : (p : List ℕ) → Plan p (sheetOf ls) → Ready p (sheetOf ls)
+  pub ready-plan : (p : List ℕ) → Plan p (sheetOf ls) → ReadyPlan p (sheetOf ls)
   ready-plan p plan = record {
     plan = plan;
     accepted = accepted-sheet ls ok;
-    plain = refl;
+    plain = ten-plain;
     question = subst Shaped (block-question ls ok) (shaped 0 (omega arith));
-    lists = λ l m. (subst Shaped (sym (only (subst (λ bs. In l bs) (block-list ls ok) m))) (shaped 1 (omega arith)), accepted-lists ls ok l m);
-    views = λ v lt. let c = plan .views in subst Shaped (block-view ls ok v) (shaped (suc (suc v)) (omega arith));
+    lists = λ l m. let (i, lt, e) = in-at (nowhere .block) l (sheetOf ls .lists) m in (subst Shaped (block-list ls ok i lt ∙ e) (shaped (suc i) (omega arith)), accepted-lists ls ok l m);
+    views = λ v lt. let c = plan .views in subst Shaped (block-view ls ok v) (shaped (suc (length (sheetOf ls .lists) + v)) (omega arith));
   }
-    where
-      only : {l b : Block} → In l (b ∷ []) → l ≡ b
-      only (inl e) = e
-      only (inr m) = absurd m
 
 -- ---- the verdict from the two searches
 
-module _ (p : List ℕ) (x : Sheet) (r : Ready p x) (out : List ℤ) (room : 640 ≤ length out) where
+module _ (p : List ℕ) (x : Sheet) (r : ReadyPlan p x) (out : List ℤ) (room : least-room ≤ length out) where
   pub found-case : (b : Bool) (ws : List ℕ) → b ≡ true → FoundBy b x x ws → Found x x ws
   found-case true ws e f = f
   found-case false ws e f = absurd (true≢false (sym e))
@@ -89,7 +86,7 @@ module _ (p : List ℕ) (x : Sheet) (r : Ready p x) (out : List ℤ) (room : 640
 
 -- ---- refusals
 
-pub decided-short : (x : Sheet) (out : List ℤ) → length out < 640 → (q : Judgement) → q ≡ judgement 9 13 0 0 [] → Decided x out out q
+pub decided-short : (x : Sheet) (out : List ℤ) → length out < least-room → (q : Judgement) → q ≡ judgement 9 13 0 0 [] → Decided x out out q
 decided-short x out few q is = inl (record { few = few; result = is; lent = refl })
 
 pub judged-sent : (s : List ℕ) (out : List ℤ) (c l : ℕ) (r : Ending) → r ≡ readEnding s most-words → r ≡ Refused c l → (q : Judgement) → q ≡ judgement 9 c l 0 [] → Judged s out out q

@@ -27,7 +27,7 @@ abbrev pub judgement : ℕ → ℕ → ℕ → ℕ → List ℕ → Judgement
 judgement v n l k t = record { verdict = v; number = n; line = l; count = k; missing = answerNumbers t }
 
 -- Causes, 1 to 9: the sheet is sent back
-pub record Sent (s : List ℕ) (out after : List ℤ) (r : Judgement) : Type 0 where
+pub record SheetSent (s : List ℕ) (out after : List ℤ) (r : Judgement) : Type 0 where
   pub cause : sheetRefusal s .number ≡ 0 → ⊥
   pub result : r ≡ judgement 9 (sheetRefusal s .number) (sheetRefusal s .line) 0 []
   pub lent : after ≡ out
@@ -62,4 +62,4 @@ Decided x out after r = Short out after r ⊎ (Said x 0 out after r ⊎ (HandedO
 
 -- any sheet's
 abbrev pub Judged : List ℕ → List ℤ → List ℤ → Judgement → Type 0
-Judged s out after r = Sent s out after r ⊎ ((sheetRefusal s .number ≡ 0) × Decided (sheetOf (byteLines s)) out after r)
+Judged s out after r = SheetSent s out after r ⊎ ((sheetRefusal s .number ≡ 0) × Decided (sheetOf (byteLines s)) out after r)

@@ -1,8 +1,11 @@
 // Whether a saved list covers its question, judged from the rows of the views alone.
+use search_chase::Goal;
 use sheet_format::Ending;
 use sheet_format::LINE_WORDS;
 use sheet_format::MOST_WORDS;
 use sheet_format::NO_ROOM;
+use tableau_layout::PLAN_NUMBERS;
+use tableau_layout::SLOTS;
 ghost use mathlib.Core.Path.{_≡_};
 ghost use mathlib.Core.List.{[]};
 ghost use Prim.Native.Nat.{_≤_};
@@ -11,8 +14,8 @@ ghost use Rattle.sheet_format.specs.Line.{wordLines};
 ghost use Rattle.sheet_format.specs.Cause.{refusalOf};
 ghost use Rattle.case_verdicts.specs.Verdict.{Sheet};
 ghost use Rattle.case_verdicts.specs.Sheets.{sheetOf};
-ghost use Rattle.search_chase.specs.Parts.{Ready};
-ghost use Rattle.judge.specs.Judged.{judgement, Decided, Judged};
+ghost use Rattle.search_chase.specs.Parts.{ReadyPlan};
+ghost use Rattle.judge.specs.Judged.{judgement, Decided, Judged, least-room};
 
 // The verdict, and with a refusal its number and line. Not covered: how many facts the case in the lent words has, and the missing answer.
 pub struct Judgement {
@@ -34,11 +37,6 @@ pub const REFUSED: usize = 9;
 // So many words must be lent.
 pub const LEAST_ROOM: usize = 640;
 
-// The numbers of a plan, and the slots of a state.
-const PLAN_NUMBERS: usize = 1184;
-
-const SLOTS: usize = 533;
-
 // A judgement that hands nothing over.
 fn plain(verdict: usize, number: usize, line: usize) -> Judgement
     ensures { λ r. ⌜ r ≡ judgement verdict number line 0 [] ⌝ }
@@ -53,12 +51,12 @@ fn plain(verdict: usize, number: usize, line: usize) -> Judgement
 }
 
 // The verdict of an accepted sheet: a case, else an agreeing log, else neither.
-fn decide(p: &[usize; 1184], out: &mut [i32]) -> Judgement
-    requires { ⌜ 640 ≤ length (now out) ⌝ }
-    ensures { λ r. ⌜ ((x : Sheet) → Ready (now (p .entry)) x → Decided x (now (out .entry)) (now (out .exit)) r) ⌝ }
+fn decide(p: &[usize; PLAN_NUMBERS], out: &mut [i32]) -> Judgement
+    requires { ⌜ least-room ≤ length (now out) ⌝ }
+    ensures { λ r. ⌜ ((x : Sheet) → ReadyPlan (now (p .entry)) x → Decided x (now (out .entry)) (now (out .exit)) r) ⌝ }
 {
     let mut words = [0usize; SLOTS];
-    if search_chase::find(p, true, &mut words) {
+    if search_chase::find(p, Goal::Counterexample, &mut words) {
         let handed = case_writer::hand_over(p, &words, out);
         let missing = handed.missing;
         return Judgement {
@@ -69,7 +67,7 @@ fn decide(p: &[usize; 1184], out: &mut [i32]) -> Judgement
             missing,
         };
     }
-    if search_chase::find(p, false, &mut words) {
+    if search_chase::find(p, Goal::Agreement, &mut words) {
         return plain(COVERED, 0, 0);
     }
     plain(NO_LOG, 0, 0)

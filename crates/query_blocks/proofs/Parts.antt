@@ -8,36 +8,38 @@ use lib.IntN.{ℤ, pos}
 use lib.ListN.{length, drop, getD, drop-of-length-le, length-drop, length-map, List·getD-map}
 use lib.Seq.{getD-drop}
 use borrow.Author.Tests.{lt-ltb, le-ltb, eq-eqb, ne-eqb}
+use Rattle.query_layout.specs.Layout.{block-head, block-width}
+use Rattle.sheet_format.specs.Limits.{most-atoms}
 use Rattle.list_laws.proofs.Lists.{drop-next}
 use Rattle.sheet_format.proofs.WordLines.{lines-length}
 use Rattle.sheet_format.specs.Line.{Line, null, natural, wordLines}
 use Rattle.sheet_format.specs.Cause.{kindOf, kind, rest, second, terms, isHead, isAtom, atoms}
 use Rattle.query_meaning.specs.Blocks.{View, asTerm, atomOf, blockOf, viewOf, blocks, allBlocks, nth, blockAt}
-use Rattle.query_encoding.specs.Numbers.{number, termAt, atomAt, BlockNumbers, isBlock, BlockFound}
+use Rattle.query_encoding.specs.Encoding.{number, termAt, atomAt, BlockNumbers, isBlock, BlockFound}
 use Rattle.sheet_format.proofs.Lists.{no-way}
 use Rattle.query_blocks.proofs.Accepted.{accepted-clean}
 use Rattle.query_blocks.proofs.Shape.{isNth, blockNth, block-of, blocks-head, blocks-other, nth-first, nth-past, no-nth, accepted-fine, accepted-shaped}
 use Rattle.query_blocks.proofs.Words.{kind-word, second-word, rest-word, term-word}
-use Rattle.query_blocks.specs.Parts.{Accepted, HeadAt, numberAt, entryOf}
+use Rattle.query_blocks.specs.Parts.{AcceptedLines, HeadAt, numberAt, entryOf}
 
 -- ---- a number by its place
 
 module _ (ws : List ℤ) (h x : ℕ) where
-  pub entry-relation : x < 30 → x % 5 ≡ 0 → natural (getD ws (7 * (h + 1 + x / 5) + 2) (pos 0)) ≡ entryOf ws h x
+  pub entry-relation : x < block-head → x % 5 ≡ 0 → natural (getD ws (7 * (h + 1 + x / 5) + 2) (pos 0)) ≡ entryOf ws h x
   unfolding entryOf
-  entry-relation lt e = rw (lt-ltb x 30 lt, eq-eqb (x % 5) 0 e) refl
+  entry-relation lt e = rw (lt-ltb x block-head lt, eq-eqb (x % 5) 0 e) refl
 
-  pub entry-term : x < 30 → (x % 5 ≡ 0 → ⊥) → numberAt ws (7 * (h + 1 + x / 5) + 2 + x % 5) ≡ entryOf ws h x
+  pub entry-term : x < block-head → (x % 5 ≡ 0 → ⊥) → numberAt ws (7 * (h + 1 + x / 5) + 2 + x % 5) ≡ entryOf ws h x
   unfolding entryOf
-  entry-term lt e = rw (lt-ltb x 30 lt, ne-eqb (x % 5) 0 e) refl
+  entry-term lt e = rw (lt-ltb x block-head lt, ne-eqb (x % 5) 0 e) refl
 
-  pub entry-head : 30 ≤ x → numberAt ws (7 * h + 2 + (x - 30)) ≡ entryOf ws h x
+  pub entry-head : block-head ≤ x → numberAt ws (7 * h + 2 + (x - block-head)) ≡ entryOf ws h x
   unfolding entryOf
-  entry-head le = rw (le-ltb x 30 le) refl
+  entry-head le = rw (le-ltb x block-head le) refl
 
 -- ---- lines
 
-module _ (ws : List ℤ) (i : ℕ) (lt : i < length ws / 7) (a : Accepted (wordLines ws)) where
+module _ (ws : List ℤ) (i : ℕ) (lt : i < length ws / 7) (a : AcceptedLines (wordLines ws)) where
   pub inside : i < length (wordLines ws)
   inside = let e = lines-length ws in omega arith
 
@@ -156,7 +158,7 @@ after ws h = atoms (drop (h + 1) (wordLines ws))
 term-at : (ts : List ℤ) (c : ℕ) → number (asTerm (getD ts c (pos 0))) ≡ number (termAt (map asTerm ts) c)
 term-at ts c = ap number (sym (List·getD-map asTerm ts c (pos 0)))
 
-module _ (ws : List ℤ) (h : ℕ) (lt : h < length ws / 7) (a : Accepted (wordLines ws)) (blk : List ℕ) (each : (x : ℕ) → x < 34 → getD blk x 0 ≡ entryOf ws h x) where
+module _ (ws : List ℤ) (h : ℕ) (lt : h < length ws / 7) (a : AcceptedLines (wordLines ws)) (blk : List ℕ) (each : (x : ℕ) → x < block-width → getD blk x 0 ≡ entryOf ws h x) where
   -- atom j is line h + 1 + j
   atom-inside : (j : ℕ) → j < length (after ws h) → h + 1 + j < length ws / 7
   unfolding after
@@ -172,7 +174,7 @@ module _ (ws : List ℤ) (h : ℕ) (lt : h < length ws / 7) (a : Accepted (wordL
       ap atomOf (sym (atoms-get (drop (h + 1) (wordLines ws)) j k .1 ∙ getD-drop (h + 1) (wordLines ws) j []))
       ∙ sym (List·getD-map atomOf (after ws h) j [])
 
-  relation-word : (j : ℕ) → j < 6 → h + 1 + j < length ws / 7 → getD blk (j * 5) 0 ≡ natural (second (getD (wordLines ws) (h + 1 + j) []))
+  relation-word : (j : ℕ) → j < most-atoms → h + 1 + j < length ws / 7 → getD blk (j * 5) 0 ≡ natural (second (getD (wordLines ws) (h + 1 + j) []))
   relation-word j few p =
       let e : j * 5 / 5 ≡ j = omega arith in
       each (j * 5) (omega arith)
@@ -180,7 +182,7 @@ module _ (ws : List ℤ) (h : ℕ) (lt : h < length ws / 7) (a : Accepted (wordL
       ∙ ap (λ n. natural (getD ws (7 * (h + 1 + n) + 2) (pos 0))) e
       ∙ ap natural (sym (second-word ws (h + 1 + j) p (formed ws (h + 1 + j) p a)))
 
-  term-place : (j : ℕ) → j < 6 → h + 1 + j < length ws / 7 → (c : ℕ) → c < 4 → getD blk (j * 5 + 1 + c) 0 ≡ number (termAt (map asTerm (terms (getD (wordLines ws) (h + 1 + j) []))) c)
+  term-place : (j : ℕ) → j < most-atoms → h + 1 + j < length ws / 7 → (c : ℕ) → c < 4 → getD blk (j * 5 + 1 + c) 0 ≡ number (termAt (map asTerm (terms (getD (wordLines ws) (h + 1 + j) []))) c)
   term-place j few p c four =
       let e : 7 * (h + 1 + (j * 5 + 1 + c) / 5) + 2 + (j * 5 + 1 + c) % 5 ≡ 7 * (h + 1 + j) + 3 + c = omega arith in
       each (j * 5 + 1 + c) (omega arith)
@@ -189,16 +191,16 @@ module _ (ws : List ℤ) (h : ℕ) (lt : h < length ws / 7) (a : Accepted (wordL
       ∙ ap (λ z. number (asTerm z)) (sym (term-word ws (h + 1 + j) p (formed ws (h + 1 + j) p a) c four))
       ∙ term-at (terms (getD (wordLines ws) (h + 1 + j) [])) c
 
-  head-place : (p : ℕ) → p < 4 → getD blk (30 + p) 0 ≡ number (termAt (map asTerm (rest (getD (wordLines ws) h []))) p)
+  head-place : (p : ℕ) → p < 4 → getD blk (block-head + p) 0 ≡ number (termAt (map asTerm (rest (getD (wordLines ws) h []))) p)
   head-place p four =
-      let e : 7 * h + 2 + (30 + p - 30) ≡ 7 * h + 2 + p = omega arith in
-      each (30 + p) (omega arith)
-      ∙ sym (entry-head ws h (30 + p) (omega arith))
+      let e : 7 * h + 2 + (block-head + p - block-head) ≡ 7 * h + 2 + p = omega arith in
+      each (block-head + p) (omega arith)
+      ∙ sym (entry-head ws h (block-head + p) (omega arith))
       ∙ ap (numberAt ws) e
       ∙ ap (λ z. number (asTerm z)) (sym (rest-word ws h lt (formed ws h lt a) p (omega arith)))
       ∙ term-at (rest (getD (wordLines ws) h [])) p
 
-  pub block-numbers : (n : ℕ) → length blk ≡ 34 → length (atoms (drop (h + 1) (wordLines ws))) ≤ 6 → n ≡ length (atoms (drop (h + 1) (wordLines ws)))
+  pub block-numbers : (n : ℕ) → length blk ≡ block-width → length (atoms (drop (h + 1) (wordLines ws))) ≤ most-atoms → n ≡ length (atoms (drop (h + 1) (wordLines ws)))
       → BlockNumbers blk n (blockOf (getD (wordLines ws) h []) (drop (h + 1) (wordLines ws)))
   unfolding after
   block-numbers n s few e =
@@ -211,12 +213,12 @@ module _ (ws : List ℤ) (h : ℕ) (lt : h < length ws / 7) (a : Accepted (wordL
         head = head-place;
       }
 
-pub found-block : (ws : List ℤ) (k h n : ℕ) (blk : List ℕ) → Accepted (wordLines ws) → h < length ws / 7 → HeadAt (wordLines ws) k h → length blk ≡ 34 → ((x : ℕ) → x < 34 → getD blk x 0 ≡ entryOf ws h x)
-    → (length (atoms (drop (h + 1) (wordLines ws))) ≤ 6 → n ≡ length (atoms (drop (h + 1) (wordLines ws)))) → BlockFound (wordLines ws) k true n blk
+pub found-block : (ws : List ℤ) (k h n : ℕ) (blk : List ℕ) → AcceptedLines (wordLines ws) → h < length ws / 7 → HeadAt (wordLines ws) k h → length blk ≡ block-width → ((x : ℕ) → x < block-width → getD blk x 0 ≡ entryOf ws h x)
+    → (length (atoms (drop (h + 1) (wordLines ws))) ≤ most-atoms → n ≡ length (atoms (drop (h + 1) (wordLines ws)))) → BlockFound (wordLines ws) k true n blk
 found-block ws k h n blk a lt f s each count =
     let (i, e) = f .here (inside ws h lt a) in
-    let w : length (map atomOf (atoms (drop (h + 1) (wordLines ws)))) ≤ 6 = subst (λ b. length (b .atoms) ≤ 6) e (accepted-fine (wordLines ws) a k i .few) in
-    let few : length (atoms (drop (h + 1) (wordLines ws))) ≤ 6 = simp length-map at w in
+    let w : length (map atomOf (atoms (drop (h + 1) (wordLines ws)))) ≤ most-atoms = subst (λ b. length (b .atoms) ≤ most-atoms) e (accepted-fine (wordLines ws) a k i .few) in
+    let few : length (atoms (drop (h + 1) (wordLines ws))) ≤ most-atoms = simp length-map at w in
     record {
       found = sym i;
       numbers = λ _. subst (BlockNumbers blk n) (sym e) (block-numbers ws h lt a blk each n s few (count few));

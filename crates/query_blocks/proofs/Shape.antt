@@ -9,7 +9,8 @@ use lib.Dec.{eqb, ltb, leb·suc-suc, eqb·suc-zero}
 use lib.IntN.{ℤ, pos, negsuc}
 use lib.ListN.{length, length-map}
 use borrow.Author.Tests.{eqb-true, ltb-true, ltb-false, lt-ltb, le-ltb, not-true, not-false}
-use Rattle.sheet_format.specs.Limits.{constant-end}
+use Rattle.query_layout.specs.Layout.{names}
+use Rattle.sheet_format.specs.Limits.{constant-end, most-atoms}
 use Rattle.sheet_format.specs.Relations.{columnsOf}
 use Rattle.sheet_format.specs.Line.{Line, all, null, natural}
 use Rattle.sheet_format.specs.Cause.{kind, rest, second, terms, term, isTerm, orOut, termOf, scan, start, next, isHead, atoms, same, occurs, bound, unsafe, heads, refusalOf}
@@ -19,7 +20,7 @@ use Rattle.sheet_format.proofs.Lists.{no-way, both, neither}
 use Rattle.sheet_format.proofs.ScanLaws.{accepted-scan, Clean}
 use Rattle.query_meaning.specs.Meaning.{con, var, Atom, Block, In}
 use Rattle.query_meaning.specs.Blocks.{View, asTerm, atomOf, blockOf, viewOf, blocks, allBlocks, nowhere, nth, blockAt}
-use Rattle.query_encoding.specs.Numbers.{Shaped, isBlock}
+use Rattle.query_encoding.specs.Encoding.{Shaped, isBlock}
 use Rattle.query_blocks.proofs.Accepted.{scan-first, heads-first, accepted-heads, AtomLine, AtomLines, HeadLine, head-line, no-atoms, front-atoms}
 
 -- ---- elements
@@ -71,7 +72,7 @@ variable-range n e = go (ltb n 12) refl e
     go true f e = ltb-true n 12 f
     go false f e = no-way e
 
-named-below : (ts : List ℤ) → all term ts ≡ true → (x : ℕ) → In (var x) (map asTerm ts) → x < 13
+named-below : (ts : List ℤ) → all term ts ≡ true → (x : ℕ) → In (var x) (map asTerm ts) → x < names
 named-below ts h x i =
     let (z, j, e) = from-map asTerm ts (var x) i in
     let (n, f, g) = variable-word x z e in
@@ -125,7 +126,7 @@ bound-in ls n h =
 pub record Fine (b : Block) : Type 0 where
   pub shaped : Shaped b
   pub some : 1 ≤ length (b .atoms)
-  pub few : length (b .atoms) ≤ 6
+  pub few : length (b .atoms) ≤ most-atoms
   pub small : (c : ℕ) → In (con c) (b .head) → c < constant-end
 
 atom-columns : (l : Line) → AtomLine l → length (map asTerm (terms l)) ≡ columnsOf (pos (natural (second l)))
@@ -137,7 +138,7 @@ some-lines : (ls : List Line) → null ls ≡ false → 1 ≤ length ls
 some-lines [] e = no-way (sym e)
 some-lines (l ∷ ls) e = omega arith
 
-block-fine : (l : Line) (ls : List Line) → HeadLine l → AtomLines (atoms ls) → length (atoms ls) ≤ 6 → null (atoms ls) ≡ false → all (bound (atoms ls)) (rest l) ≡ true → Fine (blockOf l ls)
+block-fine : (l : Line) (ls : List Line) → HeadLine l → AtomLines (atoms ls) → length (atoms ls) ≤ most-atoms → null (atoms ls) ≡ false → all (bound (atoms ls)) (rest l) ≡ true → Fine (blockOf l ls)
 block-fine l ls d a few n b =
     record {
       shaped = record {

@@ -6,13 +6,14 @@ use Prim.Native.Nat.{ℕ, _+_, _-_, _*_, _/_, _%_, _≤_, _<_}
 use lib.Dec.{eqb, ltb}
 use lib.IntN.{ℤ, pos}
 use lib.ListN.{length, getD, drop}
+use Rattle.query_layout.specs.Layout.{block-head}
 use Rattle.sheet_format.specs.Line.{Line, natural}
 use Rattle.sheet_format.specs.Cause.{refusalOf}
 use Rattle.query_meaning.specs.Blocks.{asTerm, blockOf, blockAt}
-use Rattle.query_encoding.specs.Numbers.{number, isBlock}
+use Rattle.query_encoding.specs.Encoding.{number, isBlock}
 
-abbrev pub Accepted : List Line → Type 0
-Accepted ls = refusalOf ls .number ≡ 0
+abbrev pub AcceptedLines : List Line → Type 0
+AcceptedLines ls = refusalOf ls .number ≡ 0
 
 -- line r is the head of block k; there is no block k where r is past the lines
 pub record HeadAt (ls : List Line) (k r : ℕ) : Type 0 where
@@ -26,6 +27,6 @@ numberAt ws i = number (asTerm (getD ws i (pos 0)))
 -- number x of a block whose head is line h: six lines of five numbers each, a relation and four terms, and then the head's four terms
 unfoldable pub entryOf : List ℤ → ℕ → ℕ → ℕ
 entryOf ws h x =
-    cond (ltb x 30)
+    cond (ltb x block-head)
     (cond (eqb (x % 5) 0) (natural (getD ws (7 * (h + 1 + x / 5) + 2) (pos 0))) (numberAt ws (7 * (h + 1 + x / 5) + 2 + x % 5)))
-    (numberAt ws (7 * h + 2 + (x - 30)))
+    (numberAt ws (7 * h + 2 + (x - block-head)))

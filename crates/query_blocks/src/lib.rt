@@ -1,5 +1,8 @@
 // The blocks of an accepted sheet in plain numbers, read from the number form: seven words a line.
 use query_encoding::BLOCK_NUMBERS;
+use query_layout::FACT_NUMBERS;
+use query_layout::HEAD_AT;
+use query_layout::NAMES;
 use sheet_format::LINE_WORDS;
 use sheet_format::MOST_ATOMS;
 ghost use mathlib.Core.Path.{_≡_};
@@ -7,19 +10,13 @@ ghost use mathlib.Core.Bool.{false};
 ghost use Prim.Native.Nat.{ℕ, _+_, _/_, _<_, _≤_};
 ghost use lib.IntN.{pos};
 ghost use lib.ListN.{length, getD, drop};
+ghost use Rattle.query_layout.specs.Layout.{block-width};
+ghost use Rattle.sheet_format.specs.Limits.{most-atoms};
 ghost use Rattle.sheet_format.specs.Line.{natural, wordLines};
 ghost use Rattle.sheet_format.specs.Cause.{kindOf, isHead, isAtom, atoms, refusalOf};
 ghost use Rattle.query_meaning.specs.Blocks.{asTerm};
-ghost use Rattle.query_encoding.specs.Numbers.{number, BlockFound};
-ghost use Rattle.query_blocks.specs.Parts.{Accepted, HeadAt, entryOf};
-
-// Variables are 1 to 12, and constants follow from this number on.
-const CONSTANTS: usize = 13;
-
-// A block's numbers: five to an atom, a relation and four terms, and then the head's terms.
-const ATOM_NUMBERS: usize = 5;
-
-const HEAD: usize = MOST_ATOMS * ATOM_NUMBERS;
+ghost use Rattle.query_encoding.specs.Encoding.{number, BlockFound};
+ghost use Rattle.query_blocks.specs.Parts.{AcceptedLines, HeadAt, entryOf};
 
 // A block of a sheet in plain numbers: whether there is one, how many atoms it has, its atoms and head.
 pub struct Numbers {
@@ -35,7 +32,7 @@ fn term_number(word: i32) -> usize
     if word < 0 {
         return (0 - (word as i64)) as usize;
     }
-    (word as usize) + CONSTANTS
+    (word as usize) + NAMES
 }
 
 // A word as a relation; 0 where it is negative.
@@ -83,7 +80,7 @@ fn is_atom(word: i32) -> bool
 // The line of the k-th head, counted from 1; the number of lines where there is none.
 fn head_line(ws: &[i32], k: usize) -> usize
     requires { ⌜ 1 ≤ k ⌝ }
-    ensures { λ r. ⌜ (r ≤ length (now (ws .entry)) / 7) × (Accepted (wordLines (now (ws .entry))) → HeadAt (wordLines (now (ws .entry))) k r) ⌝ }
+    ensures { λ r. ⌜ (r ≤ length (now (ws .entry)) / 7) × (AcceptedLines (wordLines (now (ws .entry))) → HeadAt (wordLines (now (ws .entry))) k r) ⌝ }
 {
     let n = ws.len() / LINE_WORDS;
     let mut left = k;
@@ -103,7 +100,7 @@ fn head_line(ws: &[i32], k: usize) -> usize
 // How many atoms there are from a line on, at most six.
 fn atom_count(ws: &[i32], from: usize) -> usize
     requires { ⌜ from ≤ length (now ws) / 7 ⌝ }
-    ensures { λ r. ⌜ (Accepted (wordLines (now (ws .entry))) → length (atoms (drop from (wordLines (now (ws .entry))))) ≤ 6 → r ≡ length (atoms (drop from (wordLines (now (ws .entry)))))) ⌝ }
+    ensures { λ r. ⌜ (AcceptedLines (wordLines (now (ws .entry))) → length (atoms (drop from (wordLines (now (ws .entry))))) ≤ most-atoms → r ≡ length (atoms (drop from (wordLines (now (ws .entry)))))) ⌝ }
 {
     let n = ws.len() / LINE_WORDS;
     let mut j = 0;
@@ -122,23 +119,23 @@ fn atom_count(ws: &[i32], from: usize) -> usize
 
 // Number x of the block whose head is line h.
 fn entry(ws: &[i32], h: usize, x: usize) -> usize
-    requires { ⌜ (h < length (now ws) / 7) × (x < 34) ⌝ }
+    requires { ⌜ (h < length (now ws) / 7) × (x < block-width) ⌝ }
     ensures { λ r. ⌜ r ≡ entryOf (now (ws .entry)) h x ⌝ }
 {
-    if x < HEAD {
-        let at = LINE_WORDS * (h + 1 + x / ATOM_NUMBERS) + 2;
-        if x % ATOM_NUMBERS == 0 {
+    if x < HEAD_AT {
+        let at = LINE_WORDS * (h + 1 + x / FACT_NUMBERS) + 2;
+        if x % FACT_NUMBERS == 0 {
             return relation_number(word_at(ws, at));
         }
-        return term_number(word_at(ws, at + x % ATOM_NUMBERS));
+        return term_number(word_at(ws, at + x % FACT_NUMBERS));
     }
-    term_number(word_at(ws, LINE_WORDS * h + 2 + (x - HEAD)))
+    term_number(word_at(ws, LINE_WORDS * h + 2 + (x - HEAD_AT)))
 }
 
 // All numbers of the block whose head is line h.
 fn entries(ws: &[i32], h: usize) -> [usize; BLOCK_NUMBERS]
     requires { ⌜ h < length (now ws) / 7 ⌝ }
-    ensures { λ r. ⌜ (length r ≡ 34) × ((x : ℕ) → x < 34 → getD r x 0 ≡ entryOf (now (ws .entry)) h x) ⌝ }
+    ensures { λ r. ⌜ (length r ≡ block-width) × ((x : ℕ) → x < block-width → getD r x 0 ≡ entryOf (now (ws .entry)) h x) ⌝ }
 {
     let mut numbers = [0; BLOCK_NUMBERS];
     let mut x = 0;

@@ -11,19 +11,29 @@ use borrow.Author.Tests.{lt-ltb, le-ltb}
 use lib.Dec.{ltb}
 use lib.ListN.{length, getD, set, take, length-set, List·getD-eq-default}
 use lib.Seq.{getD-set-same, getD-set-other, getD-take, length-take-le}
+use Rattle.query_layout.specs.Layout.{block-head, names}
 use Rattle.list_laws.specs.Order.{Agree}
 use Rattle.query_join.specs.Joins.{valueOf, Becomes, AtomMet, headRow, Given}
 use Rattle.query_answers.specs.Answers.{column}
 use Rattle.query_answers.proofs.Laws.{value-variable, value-constant}
 use Rattle.query_answers.proofs.Rows.{given-column, head-at}
-use Rattle.query_containment.specs.Frozen.{Small, Plain, OwnValue, OwnValues, under, atomUnder, Fronted, FactPut, AtomsPut, Covered}
+use Rattle.sheet_format.specs.Limits.{constant-end}
+use Rattle.query_meaning.specs.Facts.{value-end}
+use Rattle.query_containment.specs.Containment.{frozen-at, BelowFrozen, Plain, OwnValue, OwnValues, under, atomUnder, Fronted, FactPut, AtomsPut, Contained}
 
 -- ---- small numbers
 
-pub small-all : (s : List ℕ) (i : ℕ) → length s ≤ i → ((j : ℕ) → j < i → getD s j 0 < 2000000) → Small s
+-- no limit of the format reaches the frozen values: a change of the limits moves them
+pub term-small : (c : ℕ) → c < constant-end → c + names < frozen-at
+term-small c lt = omega arith
+
+pub value-small : (v : ℕ) → v < value-end → v < frozen-at
+value-small v lt = omega arith
+
+pub small-all : (s : List ℕ) (i : ℕ) → length s ≤ i → ((j : ℕ) → j < i → getD s j 0 < frozen-at) → BelowFrozen s
 small-all s i le f = record { all = λ j. side j (decLt j i) }
   where
-    side : (j : ℕ) → Dec (j < i) → getD s j 0 < 2000000
+    side : (j : ℕ) → Dec (j < i) → getD s j 0 < frozen-at
     side j (yes lt) = f j lt
     side j (no ge) = let e = List·getD-eq-default s 0 {n = j} (omega arith) in omega arith
 
@@ -31,40 +41,40 @@ small-all s i le f = record { all = λ j. side j (decLt j i) }
 
 -- a value that stands for a variable becomes what v says of it
 unfoldable pub thaw : (ℕ → ℕ) → ℕ → ℕ
-thaw v z = cond (ltb z 2000000) z (v (z - 2000000))
+thaw v z = cond (ltb z frozen-at) z (v (z - frozen-at))
 
-pub thaw-small : (v : ℕ → ℕ) (z : ℕ) → z < 2000000 → thaw v z ≡ z
+pub thaw-small : (v : ℕ → ℕ) (z : ℕ) → z < frozen-at → thaw v z ≡ z
 unfolding thaw
-thaw-small v z lt = rw (lt-ltb z 2000000 lt)
+thaw-small v z lt = rw (lt-ltb z frozen-at lt)
 
-pub thaw-own : (v : ℕ → ℕ) (x : ℕ) → thaw v (2000000 + x) ≡ v x
+pub thaw-own : (v : ℕ → ℕ) (x : ℕ) → thaw v (frozen-at + x) ≡ v x
 unfolding thaw
-thaw-own v x = rw (le-ltb (2000000 + x) 2000000 (omega arith)) (ap v (let e : 2000000 + x - 2000000 ≡ x = omega arith in e))
+thaw-own v x = rw (le-ltb (frozen-at + x) frozen-at (omega arith)) (ap v (let e : frozen-at + x - frozen-at ≡ x = omega arith in e))
 
 -- a term's value, thawed, is its value under the thawed valuation
-pub thaw-term : (v u : ℕ → ℕ) (t : ℕ) → t < 2000000 → thaw v (valueOf u t) ≡ valueOf (λ x. thaw v (u x)) t
-thaw-term v u t lt = side (decLt t 13)
+pub thaw-term : (v u : ℕ → ℕ) (t : ℕ) → t < frozen-at → thaw v (valueOf u t) ≡ valueOf (λ x. thaw v (u x)) t
+thaw-term v u t lt = side (decLt t names)
   where
-    side : Dec (t < 13) → thaw v (valueOf u t) ≡ valueOf (λ x. thaw v (u x)) t
+    side : Dec (t < names) → thaw v (valueOf u t) ≡ valueOf (λ x. thaw v (u x)) t
     side (yes h) = ap (thaw v) (value-variable u t h) ∙ sym (value-variable (λ x. thaw v (u x)) t h)
     side (no h) =
-        ap (thaw v) (value-constant u t (omega arith)) ∙ thaw-small v (t - 13) (omega arith) ∙ sym (value-constant (λ x. thaw v (u x)) t (omega arith))
+        ap (thaw v) (value-constant u t (omega arith)) ∙ thaw-small v (t - names) (omega arith) ∙ sym (value-constant (λ x. thaw v (u x)) t (omega arith))
 
 -- two valuations that say the same of the variables give a term the same value
-pub value-same : (u v : ℕ → ℕ) → ((x : ℕ) → x < 13 → u x ≡ v x) → (t : ℕ) → valueOf u t ≡ valueOf v t
-value-same u v e t = side (decLt t 13)
+pub value-same : (u v : ℕ → ℕ) → ((x : ℕ) → x < names → u x ≡ v x) → (t : ℕ) → valueOf u t ≡ valueOf v t
+value-same u v e t = side (decLt t names)
   where
-    side : Dec (t < 13) → valueOf u t ≡ valueOf v t
+    side : Dec (t < names) → valueOf u t ≡ valueOf v t
     side (yes h) = value-variable u t h ∙ e t h ∙ sym (value-variable v t h)
     side (no h) = value-constant u t (omega arith) ∙ sym (value-constant v t (omega arith))
 
 -- what a variable became, thawed, is what the valuation says that gives the question a row with the same columns
-pub thaw-value : (q : List ℕ) (n : ℕ) (facts row w : List ℕ) (k x y : ℕ) → Small row → k ≤ 4 → x < 13 → OwnValue q row k x y → (g : Given q n facts w) → Agree k row w
+pub thaw-value : (q : List ℕ) (n : ℕ) (facts row w : List ℕ) (k x y : ℕ) → BelowFrozen row → k ≤ 4 → x < names → OwnValue q row k x y → (g : Given q n facts w) → Agree k row w
     → thaw (g .val) y ≡ g .val x
 thaw-value q n facts row w k x y small le lt own g a =
     ⊎-elim (λ e. ap (thaw (g .val)) e ∙ thaw-own (g .val) x) (λ o. side (o .0) (o .1) (o .2) (o .3)) (own .is)
   where
-    side : (p : ℕ) → p < k → getD q (30 + p) 0 ≡ x → y ≡ getD row p 0 → thaw (g .val) y ≡ g .val x
+    side : (p : ℕ) → p < k → getD q (block-head + p) 0 ≡ x → y ≡ getD row p 0 → thaw (g .val) y ≡ g .val x
     side p p-lt e s =
         ap (thaw (g .val)) s ∙ thaw-small (g .val) (getD row p 0) (small .all p) ∙ a .same p p-lt ∙ sym (given-column q n facts w g p (omega arith))
         ∙ ap (valueOf (g .val)) e ∙ value-variable (g .val) x lt
@@ -78,7 +88,7 @@ abbrev pub AllThaw : (ℕ → ℕ) → List ℕ → List ℕ → Type 0
 AllThaw v F facts = (i : ℕ) → i < length F / 5 → (h : ℕ) × (h < length facts / 5) × Thaws v F facts i h
 
 -- what the list is given by F under u it is given by the facts under u thawed
-pub thaw-met : (v u : ℕ → ℕ) (l F facts : List ℕ) (j : ℕ) → Small l → AllThaw v F facts → AtomMet l F u j → AtomMet l facts (λ x. thaw v (u x)) j
+pub thaw-met : (v u : ℕ → ℕ) (l F facts : List ℕ) (j : ℕ) → BelowFrozen l → AllThaw v F facts → AtomMet l F u j → AtomMet l facts (λ x. thaw v (u x)) j
 thaw-met v u l F facts j small all m =
     let t = all (m .0) (m .1) in (
       t .0,
@@ -153,12 +163,12 @@ module _ (q l facts row : List ℕ) (n ln k m : ℕ) (vals F : List ℕ) (plain 
     where
       same : (p : ℕ) → p < 4 → column l (λ x. thaw (g .val) (f .val x)) p ≡ column q (g .val) p
       same p lt =
-          sym (thaw-term (g .val) (f .val) (getD l (30 + p) 0) (plain .list .all (30 + p)))
+          sym (thaw-term (g .val) (f .val) (getD l (block-head + p) 0) (plain .list .all (block-head + p)))
           ∙ ap (thaw (g .val)) (given-column l ln F (headRow (under vals) q) f p lt ∙ head-at q (under vals) p lt)
-          ∙ thaw-question (30 + p)
+          ∙ thaw-question (block-head + p)
 
 pub covers : (q l facts row : List ℕ) (n ln k m : ℕ) (vals F : List ℕ) → Plain q l facts row → k ≤ 4 → OwnValues q row k vals → Laid q vals n facts F m
-    → Given l ln F (headRow (under vals) q) → Covered q n l ln facts row k
+    → Given l ln F (headRow (under vals) q) → Contained q n l ln facts row k
 covers q l facts row n ln k m vals F plain le own laid f = record { gives = λ w g a. thawed q l facts row n ln k m vals F plain le own laid w g a f }
 
 -- ---- putting facts

@@ -1,1 +1,1 @@
-pub mod Frozen
+pub mod Containment

@@ -19,8 +19,8 @@ use Rattle.sheet_format.specs.Line.{all, isZero, natural, null}
 use Rattle.sheet_format.specs.Relations.{columnsOf, relations}
 use Rattle.query_meaning.specs.Meaning.{Fact, Log, In}
 use Rattle.query_meaning.specs.Facts.{factByFact, factIn, factsIn, factsRefusal, fives, isValue, logOf, relationOf, unused, used, value-end, wrongFact}
-use Rattle.query_encoding.specs.Numbers.{FactNumbers, ShapedLog, factAt}
-use Rattle.query_facts.specs.Parts.{before, inRange}
+use Rattle.query_encoding.specs.Encoding.{FactNumbers, ShapedLog, factAt}
+use Rattle.query_facts.specs.Parts.{before, inRange, most-fact-words}
 use Rattle.query_facts.proofs.Words.{not-either, zero-word, value-range, zero-range, part-slice, all-same}
 
 -- ---- a relation's columns
@@ -90,9 +90,9 @@ module _ (ws : List ℤ) (i : ℕ) (h : i < length ws / 5) where
   pub relation-word : relationOf (getD (factsIn ws) i []) ≡ getD ws (5 * i) (pos 0)
   relation-word = ap relationOf (fact-words ws i h) ∙ word-at ws (5 * i) 0 (omega arith) ∙ ap (λ n. getD ws n (pos 0)) (add-zero (5 * i))
 
-  values-told : (c : ℕ) → c ≤ 4 → all (inRange (pos 1001000)) (slice (5 * i + 1) (5 * i + 1 + c) ws) ≡ all isValue (take c (drop 1 (getD (factsIn ws) i [])))
+  values-told : (c : ℕ) → c ≤ 4 → all (inRange (pos value-end)) (slice (5 * i + 1) (5 * i + 1 + c) ws) ≡ all isValue (take c (drop 1 (getD (factsIn ws) i [])))
   values-told c m =
-      all-same (inRange (pos 1001000)) isValue value-range (slice (5 * i + 1) (5 * i + 1 + c) ws)
+      all-same (inRange (pos value-end)) isValue value-range (slice (5 * i + 1) (5 * i + 1 + c) ws)
       ∙ ap (all isValue) (sym (ap (λ f. take c (drop 1 f)) (fact-words ws i h) ∙ used-words ws (5 * i) c m))
 
   zeros-told : (c : ℕ) → all (inRange (pos 1)) (slice (5 * i + 1 + c) (5 * i + 5) ws) ≡ all isZero (drop c (drop 1 (getD (factsIn ws) i [])))
@@ -102,7 +102,7 @@ module _ (ws : List ℤ) (i : ℕ) (h : i < length ws / 5) where
 
   -- the test by the columns, the values and the unused words
   pub wrong-told : (c : ℕ) (u v : Bool) → c ≡ columnsOf (getD ws (5 * i) (pos 0))
-      → u ≡ all (inRange (pos 1001000)) (slice (5 * i + 1) (5 * i + 1 + c) ws)
+      → u ≡ all (inRange (pos value-end)) (slice (5 * i + 1) (5 * i + 1 + c) ws)
       → v ≡ all (inRange (pos 1)) (slice (5 * i + 1 + c) (5 * i + 5) ws)
       → eqb c 0 || (not u || not v) ≡ wrongFact (getD (factsIn ws) i [])
   wrong-told c u v p q r =
@@ -156,13 +156,13 @@ module _ (ws : List ℤ) where
   unfolding factsRefusal
   count-wrong n = rw (ne-eqb (length ws % 5) 0 n)
 
-  pub count-over : length ws % 5 ≡ 0 → 640 < length ws → refusal 12 0 ≡ factsRefusal ws
+  pub count-over : length ws % 5 ≡ 0 → most-fact-words < length ws → refusal 12 0 ≡ factsRefusal ws
   unfolding factsRefusal
-  count-over e h = rw (eq-eqb (length ws % 5) 0 e, lt-ltb 640 (length ws) h)
+  count-over e h = rw (eq-eqb (length ws % 5) 0 e, lt-ltb most-fact-words (length ws) h)
 
-  pub count-right : length ws % 5 ≡ 0 → length ws ≤ 640 → factByFact [] (factsIn ws) ≡ factsRefusal ws
+  pub count-right : length ws % 5 ≡ 0 → length ws ≤ most-fact-words → factByFact [] (factsIn ws) ≡ factsRefusal ws
   unfolding factsRefusal
-  count-right e h = rw (eq-eqb (length ws % 5) 0 e, le-ltb 640 (length ws) h)
+  count-right e h = rw (eq-eqb (length ws % 5) 0 e, le-ltb most-fact-words (length ws) h)
 
 -- ---- accepted facts
 
@@ -185,7 +185,7 @@ by-fact-right b (f ∷ fs) i e h = go (by-fact-right f fs) (wrongFact f) refl (n
 
 accepted : (ws : List ℤ) → factsRefusal ws .number ≡ 0 → (length ws % 5 ≡ 0) × (factByFact [] (factsIn ws) .number ≡ 0)
 unfolding factsRefusal
-accepted ws e = go (eqb (length ws % 5) 0) refl (ltb 640 (length ws)) e
+accepted ws e = go (eqb (length ws % 5) 0) refl (ltb most-fact-words (length ws)) e
   where
     go : (s : Bool) → eqb (length ws % 5) 0 ≡ s → (t : Bool) → cond (not s) (refusal 11 0) (cond t (refusal 12 0) (factByFact [] (factsIn ws))) .number ≡ 0
         → (length ws % 5 ≡ 0) × (factByFact [] (factsIn ws) .number ≡ 0)

@@ -14,7 +14,7 @@ use borrow.Author.Tests.{eqb-true, leb-true, leb-false, lt-ltb, le-ltb, le-leb, 
 use Rattle.list_laws.proofs.Lists.{map-append}
 use Rattle.sheet_format.proofs.Lists.{no-way}
 use Rattle.sheet_format.specs.Line.{all, isZero, natural}
-use Rattle.query_meaning.specs.Facts.{isValue}
+use Rattle.query_meaning.specs.Facts.{isValue, value-end}
 use Rattle.query_facts.specs.Parts.{inRange}
 
 -- ---- tests
@@ -30,12 +30,12 @@ zero-word (pos n) e = ap pos (eqb-true n 0 e)
 zero-word (negsuc n) e = no-way e
 
 -- a value is in the range of the values, and an unused word in that of 0 alone
-pub value-range : (z : ℤ) → inRange (pos 1001000) z ≡ isValue z
-value-range (pos n) = rw (le-ltb n 0 (omega arith)) (go (leb 1001000 n) refl)
+pub value-range : (z : ℤ) → inRange (pos value-end) z ≡ isValue z
+value-range (pos n) = rw (le-ltb n 0 (omega arith)) (go (leb value-end n) refl)
   where
-    go : (b : Bool) → leb 1001000 n ≡ b → not b ≡ ltb n 1001000
-    go true e = sym (le-ltb n 1001000 (leb-true 1001000 n e))
-    go false e = sym (lt-ltb n 1001000 (leb-false 1001000 n e))
+    go : (b : Bool) → leb value-end n ≡ b → not b ≡ ltb n value-end
+    go true e = sym (le-ltb n value-end (leb-true value-end n e))
+    go false e = sym (lt-ltb n value-end (leb-false value-end n e))
 value-range (negsuc n) = refl
 
 pub zero-range : (z : ℤ) → inRange (pos 1) z ≡ isZero z

@@ -1,4 +1,7 @@
 // Facts in words, five a fact: its relation and its values, filled up with 0. Why they are sent back, and accepted ones as plain numbers.
+use query_meaning::FACT_WORDS;
+use query_meaning::MOST_FACTS;
+use query_meaning::VALUE_END;
 use sheet_format::Refusal;
 ghost use mathlib.Core.Path.{_≡_};
 ghost use mathlib.Core.Bool.{_||_};
@@ -9,19 +12,12 @@ ghost use lib.Seq.{slice};
 ghost use Rattle.sheet_format.specs.Cause.{above};
 ghost use Rattle.sheet_format.specs.Line.{all, natural, null};
 ghost use Rattle.query_meaning.specs.Facts.{fact-words, factByFact, factsIn, factsRefusal, logOf, wrongFact};
-ghost use Rattle.query_encoding.specs.Numbers.{FactNumbers};
+ghost use Rattle.query_encoding.specs.Encoding.{FactNumbers};
 ghost use Rattle.query_facts.specs.Parts.{before, inRange};
-
-// The words of a fact, and the most facts.
-pub const FACT_WORDS: usize = 5;
-
-pub const MOST_FACTS: usize = 128;
 
 const MOST_FACT_WORDS: usize = MOST_FACTS * FACT_WORDS;
 
-// Values are 0 and up, below this: the constants, and the values made up for a case. An unused word is 0.
-pub const VALUE_END: i32 = 1_001_000;
-
+// An unused word is 0.
 const UNUSED_END: i32 = 1;
 
 // The causes for sending back: a wrong word count, relation, value or unused word; too many facts, or a fact not above the one before it.

@@ -7,11 +7,13 @@ use Prim.Native.Nat.{ℕ, zero, suc, _+_, _-_, _*_, _<_, _≤_}
 use native.Mathlib.Omega.{arith}
 use lib.Dec.{ltb}
 use lib.ListN.{length, getD, replicate, length-map}
+use Rattle.query_layout.specs.Layout.{names}
+use Rattle.tableau_layout.specs.Layout.{slot-end, view-block}
 use Rattle.list_laws.proofs.Lists.{inside}
 use Rattle.query_meaning.specs.Meaning.{Term, con, var, Block, In, value, row}
 use Rattle.query_meaning.specs.Blocks.{View, nth}
 use Rattle.query_join.specs.Joins.{headRow}
-use Rattle.query_encoding.specs.Numbers.{padded}
+use Rattle.query_encoding.specs.Encoding.{padded}
 use Rattle.query_encoding.proofs.Bridge.{head-row}
 use Rattle.query_encoding.proofs.Lists.{map-in}
 use Rattle.case_verdicts.specs.Verdict.{Sheet}
@@ -29,12 +31,14 @@ use Rattle.tableau_plan.specs.Plan.{rowAt, rowValues, rowCount, viewCount, bloc
 use Rattle.search_state.specs.State.{made-up, Fresh, Constants, Equated, EquatedBy}
 use Rattle.search_state.specs.Parts.{Own}
 use Rattle.search_state.proofs.Laws.{own-free}
-use Rattle.search_chase.specs.Parts.{Ready, sheetBy, fromBy, Proper, Settled, Stood, Fitting, Heads, HeadsBy, Begins, SoughtBy, Found, FoundBy}
+use Rattle.search_chase.specs.Parts.{ReadyPlan, sheetBy, fromBy, Proper, Settled, Stood, Fitting, Heads, HeadsBy, Started, SoughtBy, Found, FoundBy}
 use Rattle.search_chase.proofs.Fresh.{proper-value, copy-small}
 use Rattle.search_chase.proofs.Node.{Task, nth-in, head-refuted, kept-row, fine-row}
 use Rattle.search_chase.proofs.ReadyLaws.{ready-task, ready-facts}
 use Rattle.search_conflict.proofs.Jumps.{rests-more}
 use Rattle.search_chase.proofs.Levels.{relaxed-all, own-proper, proper-own, zero-small, stood-after, row-constants, job-plain, copy-kept}
+use Rattle.search_chase.specs.declared.Goal.{Goal}
+use Rattle.search_chase.specs.declared.Goal.the-variants.{Counterexample, Agreement}
 
 -- ---- copies by their numbers
 
@@ -51,41 +55,41 @@ same-met h [] (n ∷ ns) k l e w = absurd (omega arith)
 same-met h (m ∷ ms) [] k l e w = absurd (omega arith)
 same-met h (m ∷ ms) (n ∷ ns) k l e w = ap (λ q. q ∷ map h ms) (w (m ≈ n) (inl refl)) ∙ ap (λ q. h n ∷ q) (same-met h ms ns k l (omega arith) (λ f i. w f (inr i)))
 
-module _ (p : List ℕ) (x : Sheet) (r : Ready p x) where
+module _ (p : List ℕ) (x : Sheet) (r : ReadyPlan p x) where
   -- copy i + 1 is that of row i
-  pub copy-job : (asked : Bool) (c : Copy) → In c (numbered (jobs (sheetBy asked x))) → (i : ℕ) → c .number ≡ suc i → (lt : i < rowCount p)
+  pub copy-job : (goal : Goal) (c : Copy) → In c (numbered (jobs (sheetBy goal x))) → (i : ℕ) → c .number ≡ suc i → (lt : i < rowCount p)
       → c .job ≡ record { block = nth (x .views) (rowAt p i 0) .block; is = map con (r .plan .rows i lt .row) }
-  copy-job true c m i e lt = numbered-is (jobs x) c (record { block = x .question; is = [] }) m ∙ ap (λ n. getD (jobs x) n (record { block = x .question; is = [] })) e ∙ r .plan .rows i lt .copy
-  copy-job false c m i e lt = numbered-is (jobs (bare x)) c (record { block = x .question; is = [] }) m ∙ ap (λ n. getD (jobs (bare x)) n (record { block = x .question; is = [] })) e ∙ r .plan .rows i lt .copy
+  copy-job Counterexample c m i e lt = numbered-is (jobs x) c (record { block = x .question; is = [] }) m ∙ ap (λ n. getD (jobs x) n (record { block = x .question; is = [] })) e ∙ r .plan .rows i lt .copy
+  copy-job Agreement c m i e lt = numbered-is (jobs (bare x)) c (record { block = x .question; is = [] }) m ∙ ap (λ n. getD (jobs (bare x)) n (record { block = x .question; is = [] })) e ∙ r .plan .rows i lt .copy
 
   -- the question's copy has its own head
-  pub first-job : (asked : Bool) (c : Copy) → In c (numbered (jobs (sheetBy asked x))) → c .number ≡ 0 → c .job .block .head ≡ c .job .is
-  first-job true c m e =
+  pub first-job : (goal : Goal) (c : Copy) → In c (numbered (jobs (sheetBy goal x))) → c .number ≡ 0 → c .job .block .head ≡ c .job .is
+  first-job Counterexample c m e =
       let q = numbered-is (jobs x) c (record { block = x .question; is = [] }) m ∙ ap (λ n. getD (jobs x) n (record { block = x .question; is = [] })) e in
       subst (λ (j : Job). j .block .head ≡ j .is) (sym q) refl
-  first-job false c m e =
+  first-job Agreement c m e =
       let q = numbered-is (jobs (bare x)) c (record { block = x .question; is = [] }) m ∙ ap (λ n. getD (jobs (bare x)) n (record { block = x .question; is = [] })) e in
       subst (λ (j : Job). j .block .head ≡ j .is) (sym q) refl
 
   -- ---- before the first row
 
-  pub heads-free : (asked : Bool) (ws : List ℕ) → length ws ≡ 533 → stateOf top ws ≡ free top → Heads x (sheetBy asked x) ws 0
-  heads-free asked ws size e = record {
+  pub heads-free : (goal : Goal) (ws : List ℕ) → length ws ≡ slot-end → stateOf top ws ≡ free top → Heads x (sheetBy goal x) ws 0
+  heads-free goal ws size e = record {
     proper = proper-own ws size (own-free ws e);
     stood = record { each = λ n lt. inr (inside ws n 0 (top + n) (omega arith) ∙ (λ i. e i n)) };
     heads = λ c m le. record {
-      gives = ap (row (copy (stateOf top ws) (c .number))) (first-job asked c m (omega arith));
-      differ = λ d i. absurd (subst (λ l. In d l) (job-plain p x r asked (c .job) (job-in asked c m)) i);
+      gives = ap (row (copy (stateOf top ws) (c .number))) (first-job goal c m (omega arith));
+      differ = λ d i. absurd (subst (λ l. In d l) (job-plain p x r goal (c .job) (job-in goal c m)) i);
     };
-    back = λ none. subst (Refuted top (sheetBy asked x)) e none;
+    back = λ none. subst (Refuted top (sheetBy goal x)) e none;
   }
     where
-      job-in : (asked : Bool) (c : Copy) → In c (numbered (jobs (sheetBy asked x))) → In (c .job) (jobs (sheetBy asked x))
-      job-in asked c m = numbered-job (jobs (sheetBy asked x)) c m
+      job-in : (goal : Goal) (c : Copy) → In c (numbered (jobs (sheetBy goal x))) → In (c .job) (jobs (sheetBy goal x))
+      job-in goal c m = numbered-job (jobs (sheetBy goal x)) c m
 
   -- ---- one row
 
-  module _ (asked : Bool) (ws : List ℕ) (i : ℕ) (lt : i < rowCount p) (h : Heads x (sheetBy asked x) ws i) where
+  module _ (goal : Goal) (ws : List ℕ) (i : ℕ) (lt : i < rowCount p) (h : Heads x (sheetBy goal x) ws i) where
     abbrev view : View
     view = nth (x .views) (rowAt p i 0)
 
@@ -99,13 +103,13 @@ module _ (p : List ℕ) (x : Sheet) (r : Ready p x) where
     lengths = length-map (view .block .head) _ ∙ sym (r .accepted .lengths view view-in (r .plan .rows i lt .row) (r .plan .rows i lt .listed))
 
     -- the head in numbers
-    pub head-numbers : (k b : ℕ) → k ≡ suc i → b ≡ 2 + rowAt p i 0 → headRow (λ z. stateOf top ws (k * 13 + z)) (blockNumbers p b) ≡ padded head
+    pub head-numbers : (k b : ℕ) → k ≡ suc i → b ≡ view-block (rowAt p i 0) → headRow (λ z. stateOf top ws (k * names + z)) (blockNumbers p b) ≡ padded head
     unfolding width
     head-numbers k b e f =
         let v = r .plan .rows i lt .view in
-        ap (λ n. headRow (λ z. stateOf top ws (n * 13 + z)) (blockNumbers p b)) e
-        ∙ ap (λ n. headRow (λ z. stateOf top ws (suc i * 13 + z)) (blockNumbers p n)) f
-        ∙ head-row (r .plan .view (rowAt p i 0) v) (r .views (rowAt p i 0) v) (λ z. stateOf top ws (suc i * 13 + z))
+        ap (λ n. headRow (λ z. stateOf top ws (n * names + z)) (blockNumbers p b)) e
+        ∙ ap (λ n. headRow (λ z. stateOf top ws (suc i * names + z)) (blockNumbers p n)) f
+        ∙ head-row (r .plan .view (rowAt p i 0) v) (r .views (rowAt p i 0) v) (λ z. stateOf top ws (suc i * names + z))
 
     fitting : Fitting x (padded head) (rowValues p i)
     fitting = record {
@@ -121,7 +125,7 @@ module _ (p : List ℕ) (x : Sheet) (r : Ready p x) where
     head-value : (t : Term) → FineTerm top t → (n : ℕ) → n ≡ value (copy (stateOf top ws) (suc i)) t → (n < top) ⊎ ((top ≤ n) × (n < top + length ws) × (getD ws (n - top) 0 ≡ n))
     unfolding width
     head-value (con c) fine n e = inl (omega arith)
-    head-value (var z) fine n e = let f = r .plan .rows-few in proper-value ws (h .proper) (suc i * 13 + z) (omega arith) n e
+    head-value (var z) fine n e = let f = r .plan .rows-few in proper-value ws (h .proper) (suc i * names + z) (omega arith) n e
 
     fresh-head : Fresh ws (padded head)
     fresh-head n m = go head (λ v j. let (t, k, e) = map-in (value (copy (stateOf top ws) (suc i))) v (view .block .head) j in head-value t (r .accepted .views view view-in .head t k) v e) m
@@ -133,15 +137,15 @@ module _ (p : List ℕ) (x : Sheet) (r : Ready p x) where
         go (v ∷ l) each (inr j) = go l (λ w k. each w (inr k)) j
 
     -- what refutes the step refutes all
-    refuted-back : RefutedBy top (sheetBy asked x) (stateOf top ws) (equations (padded head) (rowValues p i)) → Refuted top (sheetBy asked x) (free top)
+    refuted-back : RefutedBy top (sheetBy goal x) (stateOf top ws) (equations (padded head) (rowValues p i)) → Refuted top (sheetBy goal x) (free top)
     refuted-back none =
-        h .back (head-refuted p x (sheetBy asked x) (r .plan) (ready-task p x r asked) (stateOf top ws) _ (ready-facts p x r asked (stateOf top ws)) i lt (padded head) refl none)
+        h .back (head-refuted p x (sheetBy goal x) (r .plan) (ready-task p x r goal) (stateOf top ws) _ (ready-facts p x r goal (stateOf top ws)) i lt (padded head) refl none)
 
     -- after the step the head is the row
-    head-met : (out : List ℕ) → Equated ws out (padded head) (rowValues p i) → (c : Copy) → In c (numbered (jobs (sheetBy asked x))) → c .number ≡ suc i → Meets (copy (stateOf top out) (c .number)) (c .job)
+    head-met : (out : List ℕ) → Equated ws out (padded head) (rowValues p i) → (c : Copy) → In c (numbered (jobs (sheetBy goal x))) → c .number ≡ suc i → Meets (copy (stateOf top out) (c .number)) (c .job)
     head-met out q c m e =
         let t = r .plan .rows i lt .row in
-        let j = copy-job asked c m i e lt in
+        let j = copy-job goal c m i e lt in
         let small = r .accepted .rows view view-in t (r .plan .rows i lt .listed) in
         let rows-met = subst (λ l. Met (q .by) (equations (padded head) l)) (r .plan .rows i lt .values) (q .unifier .met) in
         let gives : row (copy (stateOf top out) (suc i)) (view .block .head) ≡ row (copy (stateOf top out) (suc i)) (map con t) =
@@ -153,27 +157,27 @@ module _ (p : List ℕ) (x : Sheet) (r : Ready p x) where
         subst (λ n. Meets (copy (stateOf top out) n) (c .job)) (sym e)
         (subst (λ (k : Job). Meets (copy (stateOf top out) (suc i)) k) (sym j) (record {
           gives = gives;
-          differ = λ d k. absurd (subst (λ l. In d l) (ap (λ (q : Job). q .block .apart) (sym j) ∙ job-plain p x r asked (c .job) (numbered-job (jobs (sheetBy asked x)) c m)) k);
+          differ = λ d k. absurd (subst (λ l. In d l) (ap (λ (q : Job). q .block .apart) (sym j) ∙ job-plain p x r goal (c .job) (numbered-job (jobs (sheetBy goal x)) c m)) k);
         }))
 
-    settled-row : (out : List ℕ) → Equated ws out (padded head) (rowValues p i) → Own out → Heads x (sheetBy asked x) out (i + 1)
+    settled-row : (out : List ℕ) → Equated ws out (padded head) (rowValues p i) → Own out → Heads x (sheetBy goal x) out (i + 1)
     settled-row out q own = record {
       proper = proper-own out (q .same ∙ h .proper .size) own;
       stood = stood-after x ws out (padded head) (rowValues p i) (h .proper .size) (h .stood) fresh-head (row-constants p x r i lt) fitting q;
       heads = λ c m le. go c m le (less? i (c .number));
-      back = λ none. refuted-back (unified (q .unifier) (subst (Refuted top (sheetBy asked x)) (q .state) none));
+      back = λ none. refuted-back (unified (q .unifier) (subst (Refuted top (sheetBy goal x)) (q .state) none));
     }
       where
-        go : (c : Copy) → In c (numbered (jobs (sheetBy asked x))) → c .number ≤ i + 1 → (i < c .number) ⊎ (c .number ≤ i) → Meets (copy (stateOf top out) (c .number)) (c .job)
+        go : (c : Copy) → In c (numbered (jobs (sheetBy goal x))) → c .number ≤ i + 1 → (i < c .number) ⊎ (c .number ≤ i) → Meets (copy (stateOf top out) (c .number)) (c .job)
         go c m le (inl more) = head-met out q c m (omega arith)
-        go c m le (inr less) = subst (λ (s : State). Meets (copy s (c .number)) (c .job)) (sym (q .state)) (copy-kept p x r asked (q .by) (stateOf top ws) c m (q .unifier .keeps) (h .heads c m less))
+        go c m le (inr less) = subst (λ (s : State). Meets (copy s (c .number)) (c .job)) (sym (q .state)) (copy-kept p x r goal (q .by) (stateOf top ws) c m (q .unifier .keeps) (h .heads c m less))
 
     -- the same in the words of the code
-    pub settled-by : (b : Bool) (u out : List ℕ) → u ≡ padded head → (Own ws → Fresh ws u → Constants (rowValues p i) → EquatedBy b ws out u (rowValues p i) × Own out) → HeadsBy b x (sheetBy asked x) out (i + 1)
+    pub settled-by : (b : Bool) (u out : List ℕ) → u ≡ padded head → (Own ws → Fresh ws u → Constants (rowValues p i) → EquatedBy b ws out u (rowValues p i) × Own out) → HeadsBy b x (sheetBy goal x) out (i + 1)
     settled-by b u out e equate =
         by b (subst (λ l. Own ws → Fresh ws l → Constants (rowValues p i) → EquatedBy b ws out l (rowValues p i) × Own out) e equate (own-proper ws (h .proper)) fresh-head (row-constants p x r i lt))
       where
-        by : (b : Bool) → EquatedBy b ws out (padded head) (rowValues p i) × Own out → HeadsBy b x (sheetBy asked x) out (i + 1)
+        by : (b : Bool) → EquatedBy b ws out (padded head) (rowValues p i) × Own out → HeadsBy b x (sheetBy goal x) out (i + 1)
         by true (q, own) = settled-row out q own
         by false ((clash, kept), own) = refuted-back (clashed clash)
 
@@ -188,23 +192,23 @@ module _ (p : List ℕ) (x : Sheet) (r : Ready p x) where
       go true le = omega arith
       go false le = omega arith
 
-  jobs-count : (asked : Bool) → length (jobs (sheetBy asked x)) ≡ suc (rowCount p)
-  jobs-count true = r .plan .copies
-  jobs-count false = r .plan .copies
+  jobs-count : (goal : Goal) → length (jobs (sheetBy goal x)) ≡ suc (rowCount p)
+  jobs-count Counterexample = r .plan .copies
+  jobs-count Agreement = r .plan .copies
 
-  pub heads-begin : (asked : Bool) (ws : List ℕ) (i : ℕ) → rowCount p ≤ i → Heads x (sheetBy asked x) ws i → Begins x (sheetBy asked x) ws 534
-  heads-begin asked ws i le h = record {
+  pub heads-begin : (goal : Goal) (ws : List ℕ) (i : ℕ) → rowCount p ≤ i → Heads x (sheetBy goal x) ws i → Started x (sheetBy goal x) ws (slot-end + 1)
+  heads-begin goal ws i le h = record {
     proper = h .proper;
     stood = h .stood;
-    settled = λ c m. h .heads c m (let a = copy-small (jobs (sheetBy asked x)) c m in let b = jobs-count asked in omega arith);
+    settled = λ c m. h .heads c m (let a = copy-small (jobs (sheetBy goal x)) c m in let b = jobs-count goal in omega arith);
     room = let a = made-up-few ws in let b = h .proper .size in omega arith;
   }
 
   -- what the search below says of all
-  pub found-by : (asked : Bool) (b : Bool) (ws lv out lw : List ℕ) (marks : List Bool) (sl : List ℕ) (sm : List Bool) (i : ℕ) → Heads x (sheetBy asked x) ws i → SoughtBy b x (sheetBy asked x) ws lv out lw marks sl sm → FoundBy b x (sheetBy asked x) out
-  found-by asked true ws lv out lw marks sl sm i h s = s
-  found-by asked false ws lv out lw marks sl sm i h s =
-      h .back (subst (Refuted top (sheetBy asked x)) (relaxed-all ws lv) (rests-more ws lv (h .proper .size) (h .proper .each) (sheetBy asked x) marks [] (λ k e. refl) (s .rests)))
+  pub found-by : (goal : Goal) (b : Bool) (ws lv out lw : List ℕ) (marks : List Bool) (sl : List ℕ) (sm : List Bool) (i : ℕ) → Heads x (sheetBy goal x) ws i → SoughtBy b x (sheetBy goal x) ws lv out lw marks sl sm → FoundBy b x (sheetBy goal x) out
+  found-by goal true ws lv out lw marks sl sm i h s = s
+  found-by goal false ws lv out lw marks sl sm i h s =
+      h .back (subst (Refuted top (sheetBy goal x)) (relaxed-all ws lv) (rests-more ws lv (h .proper .size) (h .proper .each) (sheetBy goal x) marks [] (λ k e. refl) (s .rests)))
 
 -- what a search found is copied, or there is nothing
 pub found-yes : (x y : Sheet) (b : Bool) (ws out : List ℕ) → b ≡ true → out ≡ ws → FoundBy b x y ws → FoundBy true x y out

@@ -8,25 +8,27 @@ use borrow.Author.Tests.{lt-ltb, le-ltb}
 use lib.Dec.{ltb}
 use lib.ListN.{length, getD, take, drop}
 use lib.Seq.{getD-take, getD-drop}
+use Rattle.query_layout.specs.Layout.{block-head, block-width, names}
+use Rattle.tableau_layout.specs.Layout.{blocks-at, most-copies, slot-end}
 use Rattle.list_laws.proofs.Lists.{inside}
-use Rattle.query_join.specs.Joins.{names, valueOf}
+use Rattle.query_join.specs.Joins.{valueOf}
 use Rattle.case_verdicts.specs.Sheets.{top}
 use Rattle.case_verdicts.specs.Words.{stateOf}
 use Rattle.tableau_plan.specs.Plan.{blockNumbers}
 
 -- a number of a block is a number of the plan
-pub block-at : (p : List ℕ) (b j : ℕ) → j < 34 → getD (blockNumbers p b) j 0 ≡ getD p (830 + b * 34 + j) 0
-block-at p b j lt = getD-take 34 (drop (830 + b * 34) p) j 0 lt ∙ getD-drop (830 + b * 34) p j 0
+pub block-at : (p : List ℕ) (b j : ℕ) → j < block-width → getD (blockNumbers p b) j 0 ≡ getD p (blocks-at + b * block-width + j) 0
+block-at p b j lt = getD-take block-width (drop (blocks-at + b * block-width) p) j 0 lt ∙ getD-drop (blocks-at + b * block-width) p j 0
 
-module _ (p st : List ℕ) (b k c : ℕ) (size : length st ≡ 533) (copy : k < 41) (col : c < 4) where
-  place : getD (blockNumbers p b) (30 + c) 0 ≡ getD p (830 + b * 34 + 30 + c) 0
-  place = block-at p b (30 + c) (omega arith) ∙ ap (λ i. getD p i 0) (let e : 830 + b * 34 + (30 + c) ≡ 830 + b * 34 + 30 + c = omega arith in e)
+module _ (p st : List ℕ) (b k c : ℕ) (size : length st ≡ slot-end) (copy : k < most-copies) (col : c < 4) where
+  place : getD (blockNumbers p b) (block-head + c) 0 ≡ getD p (blocks-at + b * block-width + block-head + c) 0
+  place = block-at p b (block-head + c) (omega arith) ∙ ap (λ i. getD p i 0) (let e : blocks-at + b * block-width + (block-head + c) ≡ blocks-at + b * block-width + block-head + c = omega arith in e)
 
-  pub head-variable : getD p (830 + b * 34 + 30 + c) 0 < 13
-      → getD st (k * 13 + getD p (830 + b * 34 + 30 + c) 0) 0 ≡ valueOf (λ x. stateOf top st (k * 13 + x)) (getD (blockNumbers p b) (30 + c) 0)
+  pub head-variable : getD p (blocks-at + b * block-width + block-head + c) 0 < names
+      → getD st (k * names + getD p (blocks-at + b * block-width + block-head + c) 0) 0 ≡ valueOf (λ x. stateOf top st (k * names + x)) (getD (blockNumbers p b) (block-head + c) 0)
   unfolding valueOf
-  head-variable lt = rw (place, lt-ltb (getD p (830 + b * 34 + 30 + c) 0) names lt) (inside st (k * 13 + getD p (830 + b * 34 + 30 + c) 0) 0 (top + (k * 13 + getD p (830 + b * 34 + 30 + c) 0)) (omega arith))
+  head-variable lt = rw (place, lt-ltb (getD p (blocks-at + b * block-width + block-head + c) 0) names lt) (inside st (k * names + getD p (blocks-at + b * block-width + block-head + c) 0) 0 (top + (k * names + getD p (blocks-at + b * block-width + block-head + c) 0)) (omega arith))
 
-  pub head-constant : 13 ≤ getD p (830 + b * 34 + 30 + c) 0 → getD p (830 + b * 34 + 30 + c) 0 - 13 ≡ valueOf (λ x. stateOf top st (k * 13 + x)) (getD (blockNumbers p b) (30 + c) 0)
+  pub head-constant : names ≤ getD p (blocks-at + b * block-width + block-head + c) 0 → getD p (blocks-at + b * block-width + block-head + c) 0 - names ≡ valueOf (λ x. stateOf top st (k * names + x)) (getD (blockNumbers p b) (block-head + c) 0)
   unfolding valueOf
-  head-constant le = rw (place, le-ltb (getD p (830 + b * 34 + 30 + c) 0) names le)
+  head-constant le = rw (place, le-ltb (getD p (blocks-at + b * block-width + block-head + c) 0) names le)

@@ -8,14 +8,15 @@ use native.Mathlib.Omega.{arith}
 use borrow.Author.Count.{below-more}
 use borrow.Author.Tests.{lt-ltb, le-ltb}
 use lib.ListN.{length, getD, replicate, List·getD-eq-default}
+use Rattle.tableau_layout.specs.Layout.{slot-end}
 use Rattle.list_laws.proofs.Lists.{inside}
 use Rattle.query_meaning.specs.Meaning.{Block, In}
 use Rattle.query_meaning.specs.Blocks.{View, nth}
-use Rattle.query_encoding.specs.Numbers.{padded}
+use Rattle.query_encoding.specs.Encoding.{padded}
 use Rattle.case_verdicts.specs.Verdict.{Sheet}
 use Rattle.case_verdicts.specs.Handed.{Stands}
 use Rattle.case_verdicts.specs.Sheets.{top}
-use Rattle.case_verdicts.specs.Accepted.{Fine, Accepted}
+use Rattle.case_verdicts.specs.Accepted.{Fine, FineSheet}
 use Rattle.case_verdicts.specs.Tableau.{Job, Copy, State, jobs, numbered, copy, Meets, bare}
 use Rattle.case_verdicts.specs.Search.{Keeps, Clash, Below, equations, _≈_, Met, after, Refuted, RefutedBy}
 use Rattle.case_verdicts.specs.Words.{stateOf}
@@ -25,23 +26,25 @@ use Rattle.case_verdicts.proofs.Refute.{unified, clashed}
 use Rattle.tableau_plan.specs.Plan.{rowAt, rowValues, rowCount, viewCount}
 use Rattle.search_state.specs.State.{made-up, Fresh, Constants, Equated, EquatedBy}
 use Rattle.search_state.specs.Parts.{Own}
-use Rattle.search_choices.specs.Marks.{Within, MarksAdded, MarksPut}
+use Rattle.search_choices.specs.Choices.{Subset, MarksAdded, MarksPut}
 use Rattle.search_choices.proofs.Laws.{within-same, within-trans}
-use Rattle.search_conflict.specs.Reasons.{kept, relaxed, Rests, Assigned}
+use Rattle.search_conflict.specs.Conflict.{kept, relaxed, Rests, Assigned}
 use Rattle.search_conflict.proofs.Jumps.{below-by, relaxed-plain, relaxed-constant, relaxed-kept, relaxed-back, rests-more, jump, refuted-below}
-use Rattle.search_nogoods.specs.Strikes.{Forgot}
+use Rattle.search_nogoods.specs.Nogoods.{Forgot}
 use Rattle.search_learning.specs.Rows.{Unmarked, Learned}
-use Rattle.search_chase.specs.Parts.{Ready, sheetBy, Proper, Settled, NodeBy, Stood, Fitting, Found, Levelled, SameLevels, Lost, Opened, Taken, Passed, TakenBy, GivenTo, JumpsBy, turned, Tried, Failed, Going, Begins, SoughtBy, Strikes, RefutedAs}
+use Rattle.search_chase.specs.Parts.{ReadyPlan, sheetBy, Proper, Settled, NodeBy, Stood, Fitting, Found, Levelled, SameLevels, Lost, OpenNode, Taken, Passed, TakenBy, AssignedTo, JumpsBy, turned, TriedRows, Failed, Going, Started, SoughtBy, Nogoods, RefutedAs}
 use Rattle.search_chase.proofs.Node.{Task, nth-in, in-nth, meets-kept}
 use Rattle.search_chase.proofs.ReadyLaws.{ready-task}
-use Rattle.search_chase.proofs.Struck.{strikes-under, strikes-back, strikes-learned}
+use Rattle.search_chase.proofs.Nogoods.{strikes-under, strikes-back, strikes-learned}
+use Rattle.search_chase.specs.declared.Goal.{Goal}
+use Rattle.search_chase.specs.declared.Goal.the-variants.{Counterexample, Agreement}
 
 -- ---- words
 
 pub own-proper : (ws : List ℕ) → Proper ws → Own ws
 own-proper ws pr n lt = let s = pr .size in pr .each n (omega arith)
 
-pub proper-own : (ws : List ℕ) → length ws ≡ 533 → Own ws → Proper ws
+pub proper-own : (ws : List ℕ) → length ws ≡ slot-end → Own ws → Proper ws
 proper-own ws size own = record { size = size; each = λ n lt. own n (omega arith) }
 
 pub zero-small : (k n : ℕ) → In n (replicate k 0) → n < top
@@ -69,7 +72,7 @@ in-left v (a ∷ t) k le (inl e) = inl e
 in-left v (a ∷ t) k le (inr m) = inr (in-left v t k le m)
 
 -- the value of a slot whose made-up value stood in u is a number of the row
-taken-value : (x : Sheet) (ws out u r : List ℕ) → length ws ≡ 533 → Fresh ws u → Constants r → (f : Fitting x u r) → Equated ws out u r → (n : ℕ) → n < 533 → In (top + n) u
+taken-value : (x : Sheet) (ws out u r : List ℕ) → length ws ≡ slot-end → Fresh ws u → Constants r → (f : Fitting x u r) → Equated ws out u r → (n : ℕ) → n < slot-end → In (top + n) u
     → (w : ℕ) × In w (f .right) × (w < top) × (getD out n 0 ≡ w)
 taken-value x ws out u r size fresh cs f q n lt m =
     let z = in-left (top + n) (f .left) (4 - length (f .left)) (omega arith) (subst (λ l. In (top + n) l) (f .left-is) m) in
@@ -89,10 +92,10 @@ taken-value x ws out u r size fresh cs f q n lt m =
     own n (inr (a, b, c)) = inside ws n (top + n) 0 (omega arith) ∙ ap (λ k. getD ws k 0) (let e : n ≡ top + n - top = omega arith in e) ∙ c
 
 -- a step leaves numbers of the sheet, or own made-up values
-pub stood-after : (x : Sheet) (ws out u r : List ℕ) → length ws ≡ 533 → Stood x ws → Fresh ws u → Constants r → Fitting x u r → Equated ws out u r → Stood x out
+pub stood-after : (x : Sheet) (ws out u r : List ℕ) → length ws ≡ slot-end → Stood x ws → Fresh ws u → Constants r → Fitting x u r → Equated ws out u r → Stood x out
 stood-after x ws out u r size st fresh cs f q = record { each = λ n lt. go n lt (in? same? (top + n) u) }
   where
-    go : (n : ℕ) → n < 533 → Dec (In (top + n) u) → Stands x (getD out n 0) ⊎ (getD out n 0 ≡ top + n)
+    go : (n : ℕ) → n < slot-end → Dec (In (top + n) u) → Stands x (getD out n 0) ⊎ (getD out n 0 ≡ top + n)
     go n lt (no out-of) = subst (λ w. Stands x w ⊎ (w ≡ top + n)) (sym (q .others n out-of)) (st .each n lt)
     go n lt (yes m) = let (w, i, small, e) = taken-value x ws out u r size fresh cs f q n lt m in inl (subst (Stands x) (sym e) (f .stands w i))
 
@@ -116,7 +119,7 @@ pub relaxed-all : (ws lv : List ℕ) → relaxed ws lv [] ≡ stateOf top ws
 unfolding relaxed
 relaxed-all ws lv = refl
 
-module _ (p : List ℕ) (x : Sheet) (r : Ready p x) where
+module _ (p : List ℕ) (x : Sheet) (r : ReadyPlan p x) where
   -- listed rows are made of constants
   pub row-constants : (i : ℕ) → i < rowCount p → Constants (rowValues p i)
   row-constants i lt =
@@ -134,56 +137,56 @@ module _ (p : List ℕ) (x : Sheet) (r : Ready p x) where
       let c = r .plan .views in
       subst (λ (u : View). u .block .apart ≡ []) (sym e) (r .views v (omega arith) .plain)
 
-  pub job-plain : (asked : Bool) (j : Job) → In j (jobs (sheetBy asked x)) → j .block .apart ≡ []
-  job-plain true j (inl e) = subst (λ (k : Job). k .block .apart ≡ []) (sym e) (r .question .plain)
-  job-plain true j (inr m) = let (w, t, n, k, e) = of-listed x j m in subst (λ (q : Job). q .block .apart ≡ []) (sym e) (view-plain w n)
-  job-plain false j (inl e) = subst (λ (k : Job). k .block .apart ≡ []) (sym e) refl
-  job-plain false j (inr m) = let (w, t, n, k, e) = of-listed (bare x) j m in subst (λ (q : Job). q .block .apart ≡ []) (sym e) (view-plain w n)
+  pub job-plain : (goal : Goal) (j : Job) → In j (jobs (sheetBy goal x)) → j .block .apart ≡ []
+  job-plain Counterexample j (inl e) = subst (λ (k : Job). k .block .apart ≡ []) (sym e) (r .question .plain)
+  job-plain Counterexample j (inr m) = let (w, t, n, k, e) = of-listed x j m in subst (λ (q : Job). q .block .apart ≡ []) (sym e) (view-plain w n)
+  job-plain Agreement j (inl e) = subst (λ (k : Job). k .block .apart ≡ []) (sym e) refl
+  job-plain Agreement j (inr m) = let (w, t, n, k, e) = of-listed (bare x) j m in subst (λ (q : Job). q .block .apart ≡ []) (sym e) (view-plain w n)
 
-  pub copy-kept : (asked : Bool) (h : ℕ → ℕ) (s : State) (c : Copy) → In c (numbered (jobs (sheetBy asked x))) → Keeps top h → Meets (copy s (c .number)) (c .job) → Meets (copy (after h s) (c .number)) (c .job)
-  copy-kept asked h s c m k meets =
-      let y = sheetBy asked x in
-      let ok = ready-task p x r asked .accepted in
+  pub copy-kept : (goal : Goal) (h : ℕ → ℕ) (s : State) (c : Copy) → In c (numbered (jobs (sheetBy goal x))) → Keeps top h → Meets (copy s (c .number)) (c .job) → Meets (copy (after h s) (c .number)) (c .job)
+  copy-kept goal h s c m k meets =
+      let y = sheetBy goal x in
+      let ok = ready-task p x r goal .accepted in
       let j = numbered-job (jobs y) c m in
-      meets-kept h (copy s (c .number)) (c .job) k (copy-block y ok c m .head) (job-is y ok (c .job) j) (job-plain asked (c .job) j) meets
+      meets-kept h (copy s (c .number)) (c .job) k (copy-block y ok c m .head) (job-is y ok (c .job) j) (job-plain goal (c .job) j) meets
 
-  pub settled-after : (asked : Bool) (h : ℕ → ℕ) (s : State) → Keeps top h → Settled (sheetBy asked x) s → Settled (sheetBy asked x) (after h s)
-  settled-after asked h s k st c m = copy-kept asked h s c m k (st c m)
+  pub settled-after : (goal : Goal) (h : ℕ → ℕ) (s : State) → Keeps top h → Settled (sheetBy goal x) s → Settled (sheetBy goal x) (after h s)
+  settled-after goal h s k st c m = copy-kept goal h s c m k (st c m)
 
   -- ---- a stray row, and the rows tried for it
 
-  module _ (asked : Bool) (ws lv : List ℕ) (next left : ℕ) (b : Begins x (sheetBy asked x) ws left) (g : Levelled ws lv next) (view : ℕ) (u st lw : List ℕ) (marks : List Bool) (at : ℕ → ℕ) (n : ℕ) (gone : List Bool) (last : ℕ) (sl : List ℕ) (sm : List Bool)
-      (here : Going p x (sheetBy asked x) ws lv st lw marks view u at n gone last sl sm) (few : at n < rowCount p) where
+  module _ (goal : Goal) (ws lv : List ℕ) (next left : ℕ) (b : Started x (sheetBy goal x) ws left) (g : Levelled ws lv next) (view : ℕ) (u st lw : List ℕ) (marks : List Bool) (at : ℕ → ℕ) (n : ℕ) (gone : List Bool) (last : ℕ) (sl : List ℕ) (sm : List Bool)
+      (here : Going p x (sheetBy goal x) ws lv st lw marks view u at n gone last sl sm) (few : at n < rowCount p) where
     abbrev y : Sheet
-    y = sheetBy asked x
+    y = sheetBy goal x
 
-    abbrev o : Opened p x y ws lv marks view u
+    abbrev o : OpenNode p x y ws lv marks view u
     o = here .opened
 
     -- the words changed are numbers of the row
     taken-stood : (out : List ℕ) → Taken p view (at n) ws out u → Stood x out
     taken-stood out t = stood-after x ws out u (rowValues p (at n)) (b .proper .size) (b .stood) (o .fresh) (row-constants (at n) few) (o .fits (at n) few (t .view-is)) (t .step)
 
-    taken-begins : (out : List ℕ) → Taken p view (at n) ws out u → Begins x y out (left - 1)
+    taken-begins : (out : List ℕ) → Taken p view (at n) ws out u → Started x y out (left - 1)
     taken-begins out t = record {
       proper = proper-own out (t .step .same ∙ b .proper .size) (t .own);
       stood = taken-stood out t;
-      settled = subst (Settled y) (sym (t .step .state)) (settled-after asked (t .step .by) (stateOf top ws) (t .step .unifier .keeps) (b .settled));
+      settled = subst (Settled y) (sym (t .step .state)) (settled-after goal (t .step .by) (stateOf top ws) (t .step .unifier .keeps) (b .settled));
       room = let h = b .room in ⊎-elim (λ e. absurd (o .other (at n) few (t .view-is) e)) (λ f. omega arith) (t .step .fewer);
     }
 
     -- ---- a row that the stray row cannot become
 
-    tried-passed : (out : List ℕ) → Passed p view (at n) ws out u → Tried p y ws lv marks view u at (n + 1)
+    tried-passed : (out : List ℕ) → Passed p view (at n) ws out u → TriedRows p y ws lv marks view u at (n + 1)
     tried-passed out t = record { each = λ s w. below-more _ n (here .tried .each s w) (λ e. clashed (t .clash e)) }
 
     -- ---- one that it becomes: the slots of the stray row belong to choice c
 
-    module _ (out : List ℕ) (t : Taken p view (at n) ws out u) (lx : List ℕ) (c deeper : ℕ) (size : length lw ≡ 533) (a : Assigned lw lx u c) where
-      fresh-slot : (k : ℕ) → In (top + k) u → (k < 533) × (stateOf top ws k ≡ top + k)
+    module _ (out : List ℕ) (t : Taken p view (at n) ws out u) (lx : List ℕ) (c deeper : ℕ) (size : length lw ≡ slot-end) (a : Assigned lw lx u c) where
+      fresh-slot : (k : ℕ) → In (top + k) u → (k < slot-end) × (stateOf top ws k ≡ top + k)
       fresh-slot k m = go (o .fresh (top + k) m)
         where
-          go : (top + k < top) ⊎ ((top ≤ top + k) × (top + k < top + length ws) × (getD ws (top + k - top) 0 ≡ top + k)) → (k < 533) × (stateOf top ws k ≡ top + k)
+          go : (top + k < top) ⊎ ((top ≤ top + k) × (top + k < top + length ws) × (getD ws (top + k - top) 0 ≡ top + k)) → (k < slot-end) × (stateOf top ws k ≡ top + k)
           go (inl lt) = absurd (omega arith)
           go (inr (le, lt, e)) = let z = b .proper .size in (omega arith, inside ws k (top + k) 0 (omega arith) ∙ ap (λ q. getD ws q 0) (let f : k ≡ top + k - top = omega arith in f) ∙ e)
 
@@ -192,7 +195,7 @@ module _ (p : List ℕ) (x : Sheet) (r : Ready p x) where
       other-slot k m = let z = b .proper .size in let w = t .step .same in ⊎-elim
           (λ lt. inside out k (top + k) 0 (omega arith) ∙ t .step .others k m ∙ inside ws k 0 (top + k) (omega arith))
           (λ le. List·getD-eq-default out (top + k) (omega arith) ∙ sym (List·getD-eq-default ws (top + k) (omega arith)))
-          (less? k 533)
+          (less? k slot-end)
 
       levelled : c < deeper → next ≤ deeper → Levelled out lx deeper
       levelled lt le = record { each = λ k bound. go k bound (in? same? (top + k) u) }
@@ -215,10 +218,10 @@ module _ (p : List ℕ) (x : Sheet) (r : Ready p x) where
           go k bound (yes m) = let (small, e) = fresh-slot k m in absurd (omega arith)
           go k bound (no m) = s .each k (subst (λ v. v < top) (sym (other-slot k m)) bound) ∙ a .others k m ∙ here .levels .each k bound
 
-      out-size : length out ≡ 533
+      out-size : length out ≡ slot-end
       out-size = t .step .same ∙ b .proper .size
 
-      out-own : (k : ℕ) → k < 533 → (getD out k 0 < top) ⊎ (getD out k 0 ≡ top + k)
+      out-own : (k : ℕ) → k < slot-end → (getD out k 0 < top) ⊎ (getD out k 0 ≡ top + k)
       out-own k lt = let z = out-size in t .own k (omega arith)
 
       slot-levels : (k : ℕ) → In (top + k) u → getD lx k 0 ≡ c
@@ -247,10 +250,10 @@ module _ (p : List ℕ) (x : Sheet) (r : Ready p x) where
           (λ k m h e. let q = here .levels .each k h in ap (λ j. getD s j true) q ∙ among k h (ap (λ j. getD below j true) (sym q) ∙ e)) bound rests)
 
       -- what was marked below is marked, but for the next choice, to which no slot belongs yet
-      marks-among : (below more : List Bool) → MarksAdded marks below next more → (s : List Bool) → Within more s → (k : ℕ) → stateOf top ws k < top → kept lv below k ≡ true → kept lv s k ≡ true
+      marks-among : (below more : List Bool) → MarksAdded marks below next more → (s : List Bool) → Subset more s → (k : ℕ) → stateOf top ws k < top → kept lv below k ≡ true → kept lv s k ≡ true
       marks-among below more d s w k h e = let z = g .each k h in w (getD lv k 0) (d .added (getD lv k 0) (λ same. omega arith) e)
 
-      tried-taken : (below more : List Bool) → MarksAdded marks below next more → Rests y out lx below → Tried p y ws lv more view u at (n + 1)
+      tried-taken : (below more : List Bool) → MarksAdded marks below next more → Rests y out lx below → TriedRows p y ws lv more view u at (n + 1)
       tried-taken below more d rests = record {
         each = λ s w. below-more _ n (here .tried .each s (within-trans marks more s (d .more) w)) (λ e. row-refuted below s (marks-among below more d s w) rests);
       }
@@ -263,7 +266,7 @@ module _ (p : List ℕ) (x : Sheet) (r : Ready p x) where
       }
 
       -- values that are struck stay so below
-      strikes-taken : Strikes y out lx sl sm
+      strikes-taken : Nogoods y out lx sl sm
       strikes-taken = strikes-under y ws lv out lx sl sm (λ more w d. below-by (relaxed ws lv more) w (relaxed-plain ws lv (b .proper .size) (b .proper .each) more) (λ k lt.
           let (e, f) = relaxed-constant ws lv (b .proper .size) (b .proper .each) more k lt in
           let h : stateOf top ws k < top = subst (λ v. v < top) f lt in
@@ -273,13 +276,13 @@ module _ (p : List ℕ) (x : Sheet) (r : Ready p x) where
           sym (d .at k) ∙ ap (d .to) (same ∙ q ∙ sym f) ∙ d .keeps (relaxed ws lv more k) lt)) (here .strikes)
 
       -- and those that do not rest on the choice stay after it
-      strikes-after : (tl : List ℕ) (tm : List Bool) (rl : List ℕ) (rm : List Bool) → Forgot tl tm c rl rm → Strikes y out lx tl tm → Strikes y ws lv rl rm
+      strikes-after : (tl : List ℕ) (tm : List Bool) (rl : List ℕ) (rm : List Bool) → Forgot tl tm c rl rm → Nogoods y out lx tl tm → Nogoods y ws lv rl rm
       strikes-after tl tm rl rm f all = strikes-back y ws lv out lx tl tm c rl rm (λ more e.
           relaxed-back ws lw (b .proper .size) (b .proper .each) out lx u (rowValues p (at n)) c out-size out-own slot-levels (a .others) (λ k m. fresh-slot k m .1) other-slot more e
           ∙ relaxed-same ws lv lw (b .proper) (here .levels) more) f all
 
     -- more marks
-    opened-more : (from more : List Bool) → Within from more → Opened p x y ws lv from view u → Opened p x y ws lv more view u
+    opened-more : (from more : List Bool) → Subset from more → OpenNode p x y ws lv from view u → OpenNode p x y ws lv more view u
     opened-more from more w k = record {
       fresh = k .fresh;
       fits = k .fits;
@@ -287,7 +290,7 @@ module _ (p : List ℕ) (x : Sheet) (r : Ready p x) where
       refuted = λ s v each. k .refuted s (within-trans from more s w v) each;
     }
 
-    put-within : (old below last : List Bool) → MarksPut old below last → Within below last
+    put-within : (old below last : List Bool) → MarksPut old below last → Subset below last
     put-within old below last put k e = ⊎-elim
         (λ lt. put .each k lt ∙ e)
         (λ far. List·getD-eq-default last true (let z = put .same in omega arith))
@@ -306,20 +309,20 @@ module _ (p : List ℕ) (x : Sheet) (r : Ready p x) where
     took false out take e = absurd (true≢false (sym e))
 
     -- the row was not taken
-    pub going-passed : (res : Bool) (out lx : List ℕ) (c : ℕ) → Take res out → GivenTo res lw lx u c → res ≡ false → Going p x y ws lv out lx marks view u at (n + 1) gone last sl sm
+    pub going-passed : (res : Bool) (out lx : List ℕ) (c : ℕ) → Take res out → AssignedTo res lw lx u c → res ≡ false → Going p x y ws lv out lx marks view u at (n + 1) gone last sl sm
     going-passed true out lx c take to e = absurd (true≢false e)
     going-passed false out lx c take to e =
         let t = at-words false out take in
         record { same = t .kept; levels = subst (SameLevels ws lv) (sym to) (here .levels); opened = o; tried = tried-passed out t; failed = here .failed; strikes = here .strikes }
 
-    given-yes : (res : Bool) (lx : List ℕ) (c : ℕ) → res ≡ true → GivenTo res lw lx u c → Assigned lw lx u c
+    given-yes : (res : Bool) (lx : List ℕ) (c : ℕ) → res ≡ true → AssignedTo res lw lx u c → Assigned lw lx u c
     given-yes true lx c e to = to
     given-yes false lx c e to = absurd (true≢false (sym e))
 
     -- it was, and its slots belong to choice c
-    module _ (res : Bool) (out : List ℕ) (take : Take res out) (yes : res ≡ true) (lx : List ℕ) (c deeper : ℕ) (size : length lw ≡ 533) (to : GivenTo res lw lx u c) (above : c < deeper) (le : next ≤ deeper)
+    module _ (res : Bool) (out : List ℕ) (take : Take res out) (yes : res ≡ true) (lx : List ℕ) (c deeper : ℕ) (size : length lw ≡ slot-end) (to : AssignedTo res lw lx u c) (above : c < deeper) (le : next ≤ deeper)
         (found : Bool) (end ly : List ℕ) (below : List Bool) (tl : List ℕ) (tm : List Bool)
-        (sought : Begins x y out (left - 1) → Levelled out lx deeper → Strikes y out lx sl sm → SoughtBy found x y out lx end ly below tl tm) where
+        (sought : Started x y out (left - 1) → Levelled out lx deeper → Nogoods y out lx sl sm → SoughtBy found x y out lx end ly below tl tm) where
       taken : Taken p view (at n) ws out u
       taken = took res out take yes
 
@@ -413,7 +416,7 @@ going-all p x y ws lv st lw marks view u first rows n le e inside gone last sl s
 }
 
 -- none tried yet
-pub going-first : (p : List ℕ) (x y : Sheet) (ws lv : List ℕ) (marks : List Bool) (view : ℕ) (u : List ℕ) (at : ℕ → ℕ) → Opened p x y ws lv marks view u → (gone : List Bool) (last : ℕ) → rowCount p ≤ last → (sl : List ℕ) (sm : List Bool) → Strikes y ws lv sl sm → Going p x y ws lv ws lv marks view u at 0 gone last sl sm
+pub going-first : (p : List ℕ) (x y : Sheet) (ws lv : List ℕ) (marks : List Bool) (view : ℕ) (u : List ℕ) (at : ℕ → ℕ) → OpenNode p x y ws lv marks view u → (gone : List Bool) (last : ℕ) → rowCount p ≤ last → (sl : List ℕ) (sm : List Bool) → Nogoods y ws lv sl sm → Going p x y ws lv ws lv marks view u at 0 gone last sl sm
 going-first p x y ws lv marks view u at o gone last far sl sm strikes = record {
   failed = λ lt. absurd (omega arith);
   strikes = strikes;
@@ -434,13 +437,13 @@ passed-other p view i ws u ne = record { clash = λ e. absurd (ne e); kept = ref
 
 -- ---- what a state was found to be
 
-pub done-by : (p : List ℕ) (x y : Sheet) (ws lv : List ℕ) (marks : List Bool) (view : ℕ) (u : List ℕ) (left : ℕ) (done good : Bool) → done ≡ true → Begins x y ws left → NodeBy done good p x y ws lv marks view u
-    → (sl : List ℕ) (sm : List Bool) → Strikes y ws lv sl sm → SoughtBy good x y ws lv ws lv marks sl sm
+pub done-by : (p : List ℕ) (x y : Sheet) (ws lv : List ℕ) (marks : List Bool) (view : ℕ) (u : List ℕ) (left : ℕ) (done good : Bool) → done ≡ true → Started x y ws left → NodeBy done good p x y ws lv marks view u
+    → (sl : List ℕ) (sm : List Bool) → Nogoods y ws lv sl sm → SoughtBy good x y ws lv ws lv marks sl sm
 done-by p x y ws lv marks view u left true true e b n sl sm all = record { good = n (b .settled); size = b .proper .size; stood = b .stood }
 done-by p x y ws lv marks view u left true false e b n sl sm all = record { strikes = all; rests = n; kept = refl; levels = record { each = λ k lt. refl } }
 done-by p x y ws lv marks view u left false good e b n sl sm all = absurd (true≢false (sym e))
 
-pub open-by : (p : List ℕ) (x y : Sheet) (ws lv : List ℕ) (marks : List Bool) (view : ℕ) (u : List ℕ) (done good : Bool) → done ≡ false → NodeBy done good p x y ws lv marks view u → Opened p x y ws lv marks view u
+pub open-by : (p : List ℕ) (x y : Sheet) (ws lv : List ℕ) (marks : List Bool) (view : ℕ) (u : List ℕ) (done good : Bool) → done ≡ false → NodeBy done good p x y ws lv marks view u → OpenNode p x y ws lv marks view u
 open-by p x y ws lv marks view u true good e n = absurd (true≢false e)
 open-by p x y ws lv marks view u false good e n = n
 

@@ -5,9 +5,9 @@ pub mod Fresh
 pub mod ReadyLaws
 pub mod NodeLaws
 pub mod Columns
-pub mod Struck
+pub mod Nogoods
 pub mod Levels
 pub mod Copies
-pub mod Marks
-pub mod Mirror
+pub mod Conflicts
+pub mod Symmetry
 pub mod Tries

@@ -6,13 +6,16 @@ use Prim.Native.Nat.{ℕ, zero, suc, _+_, _-_, _<_, _≤_, min}
 use native.Mathlib.Omega.{arith}
 use lib.IntN.{pos}
 use lib.ListN.{length, getD, length-map}
+use Rattle.case_verdicts.proofs.Plain.{no-keys}
+use Rattle.tableau_layout.specs.Layout.{list-block, view-block}
+use Rattle.sheet_format.specs.Limits.{most-atoms}
 use Rattle.sheet_format.specs.Relations.{relations, columnsAt, columnsOf}
 use Rattle.sheet_format.specs.Line.{gather}
 use Rattle.sheet_format.proofs.Lists.{append-nil}
 use Rattle.query_meaning.specs.Meaning.{Term, con, var, Fact, Log, Block, In, row, Holds, Answer}
 use Rattle.query_meaning.specs.Blocks.{View, nth, nowhere}
 use Rattle.query_join.specs.Joins.{Given}
-use Rattle.query_encoding.specs.Numbers.{BlockNumbers, FactNumbers, Shaped, ShapedLog, padded}
+use Rattle.query_encoding.specs.Encoding.{BlockNumbers, FactNumbers, Shaped, ShapedLog, padded}
 use Rattle.query_encoding.proofs.Bridge.{answer-given, head-length, holds-by, head-row}
 use Rattle.query_encoding.proofs.Order.{pad-same}
 use Rattle.query_facts.proofs.Laws.{columns-most}
@@ -20,59 +23,21 @@ use Rattle.query_blocks.proofs.Shape.{from-map}
 use Rattle.case_verdicts.specs.Table.{Table, relation, unknown, parents, owed, SameKey, Formed}
 use Rattle.case_verdicts.specs.Verdict.{Sheet}
 use Rattle.case_verdicts.specs.Sheets.{plain, ten, top}
-use Rattle.case_verdicts.specs.Accepted.{Fine, Accepted}
-use Rattle.case_verdicts.specs.Tableau.{Job, State, Copy, jobs, numbered, copy, facts, logOf, withParents, headOf, Meets, Good}
+use Rattle.case_verdicts.specs.Accepted.{Fine, FineSheet, PlainTable}
+use Rattle.case_verdicts.specs.Tableau.{Job, State, Copy, jobs, numbered, copy, facts, tableauLog, withParents, headOf, Meets, Good}
 use Rattle.case_verdicts.specs.Search.{Keeps, equations, lines, Refuted, RefutedBy, Alternatives}
 use Rattle.case_verdicts.proofs.Tableau.{log-formed}
 use Rattle.case_verdicts.proofs.Reduce.{row-con}
 use Rattle.case_verdicts.proofs.Refute.{list-gives, view-gives, copy-gives, step, none-left}
 use Rattle.tableau_plan.specs.Plan.{rowAt, rowValues, rowCount, viewCount, blockNumbers, blockSize, Plan}
-use Rattle.tableau_parts.specs.Views.{GivenAt, Listed, StrayAt, NoStray}
+use Rattle.tableau_parts.specs.Views.{GivenAt, ListedRow, StrayAt, NoStray}
 use Rattle.search_chase.proofs.Padded.{refuted-padded}
-
--- ---- the ten relations are plain
-
-line-plain : (cs : List ℕ) (n : ℕ) → (getD (map plain cs) n unknown .columns ≡ getD cs n 0) × (getD (map plain cs) n unknown .key ≡ 0) × (getD (map plain cs) n unknown .parent ≡ 0)
-line-plain [] n = (refl, refl, refl)
-line-plain (c ∷ cs) zero = (refl, refl, refl)
-line-plain (c ∷ cs) (suc n) = line-plain cs n
-
-pub ten-columns : (n : ℕ) → relation ten n .columns ≡ columnsOf (pos n)
-unfolding relation columnsOf
-ten-columns zero = refl
-ten-columns (suc n) = line-plain relations n .0
-
-ten-key : (n : ℕ) → relation ten n .key ≡ 0
-unfolding relation
-ten-key zero = refl
-ten-key (suc n) = line-plain relations n .1
-
-ten-parent : (n : ℕ) → relation ten n .parent ≡ 0
-unfolding relation
-ten-parent zero = refl
-ten-parent (suc n) = line-plain relations n .2
-
-pub no-parents : (f : Fact) → parents ten f ≡ []
-no-parents f = ap (λ k. owed k (f .row)) (ten-parent (f .rel))
-
-gather-alone : (l : Log) → gather (withParents ten) l ≡ l
-gather-alone [] = refl
-gather-alone (f ∷ l) = ap (λ q. (f ∷ q) ++ gather (withParents ten) l) (no-parents f) ∙ ap (λ q. f ∷ q) (gather-alone l)
-
--- a plain sheet's log is its facts
-pub log-plain : (y : Sheet) (s : State) → y .table ≡ ten → logOf y s ≡ facts y s
-unfolding logOf
-log-plain y s e = ap (λ t. gather (withParents t) (facts y s)) e ∙ gather-alone (facts y s)
-
--- no fact is settled by another
-pub no-keys : (y : Sheet) → y .table ≡ ten → (f g : Fact) → SameKey (y .table) f g → f .row ≡ g .row
-no-keys y e f g k = let h = k .some in let z : relation (y .table) (f .rel) .key ≡ 0 = ap (λ t. relation t (f .rel) .key) e ∙ ten-key (f .rel) in absurd (omega arith)
 
 -- ---- a task: the sheet itself, or the bare sheet, whose cases are the agreeing logs
 
 pub record Task (p : List ℕ) (x y : Sheet) : Type 0 where
-  pub accepted : Accepted top y
-  pub plain : y .table ≡ ten
+  pub accepted : FineSheet top y
+  pub plain : PlainTable (y .table)
   pub same : y .views ≡ x .views
   pub shaped : (v : ℕ) → v < viewCount p → Shaped (nth (x .views) v .block)
   -- row i is copy i + 1
@@ -88,19 +53,19 @@ pub in-nth : (ws : List View) (w : View) → In w ws → (v : ℕ) × (v < lengt
 in-nth (u ∷ ws) w (inl e) = (0, omega arith, e)
 in-nth (u ∷ ws) w (inr m) = let (v, lt, e) = in-nth ws w m in (suc v, omega arith, e)
 
-six : (n : ℕ) → n ≤ 6 → min n 6 ≡ n
+six : (n : ℕ) → n ≤ most-atoms → min n most-atoms ≡ n
 six n le = omega arith
 
 -- any log in numbers
 module _ (p : List ℕ) (x y : Sheet) (plan : Plan p x) (task : Task p x y) (log : Log) (ns : List ℕ) (fn : FactNumbers ns log) where
   -- a view's answer in numbers
-  view-given : (v : ℕ) → v < viewCount p → (r : List ℕ) → Answer log (nth (x .views) v .block) r → GivenAt p (2 + v) ns (padded r)
+  view-given : (v : ℕ) → v < viewCount p → (r : List ℕ) → Answer log (nth (x .views) v .block) r → GivenAt p (view-block v) ns (padded r)
   view-given v lt r a =
       let bn = plan .view v lt in
-      subst (λ n. Given (blockNumbers p (2 + v)) n ns (padded r)) (sym (six (blockSize p (2 + v)) (bn .few))) (answer-given bn (task .shaped v lt) fn a)
+      subst (λ n. Given (blockNumbers p (view-block v)) n ns (padded r)) (sym (six (blockSize p (view-block v)) (bn .few))) (answer-given bn (task .shaped v lt) fn a)
 
   -- a row that is listed in the plan is listed in the sheet
-  listed-row : (v : ℕ) → v < viewCount p → (r : List ℕ) → length r ≡ length (nth (x .views) v .block .head) → Listed p v (padded r) → In r (nth (x .views) v .rows)
+  listed-row : (v : ℕ) → v < viewCount p → (r : List ℕ) → length r ≡ length (nth (x .views) v .block .head) → ListedRow p v (padded r) → In r (nth (x .views) v .rows)
   listed-row v lt r len (i, li, e, f) =
       let o = plan .rows i li in
       let c = plan .views in
@@ -117,11 +82,11 @@ module _ (p : List ℕ) (x y : Sheet) (plan : Plan p x) (task : Task p x y) (log
       subst (λ u. In r (u .rows)) (sym e) (listed-row v (omega arith) r (head-length a') (none v (omega arith) (padded r) (view-given v (omega arith) r a')))
 
 -- a state's log
-module _ (p : List ℕ) (x y : Sheet) (plan : Plan p x) (task : Task p x y) (s : State) (ns : List ℕ) (fn : FactNumbers ns (logOf y s)) where
-  pub shaped-log : ShapedLog (logOf y s)
+module _ (p : List ℕ) (x y : Sheet) (plan : Plan p x) (task : Task p x y) (s : State) (ns : List ℕ) (fn : FactNumbers ns (tableauLog y s)) where
+  pub shaped-log : ShapedLog (tableauLog y s)
   shaped-log f m =
       let d = log-formed y (task .accepted) s f m in
-      let e : length (f .row) ≡ columnsOf (pos (f .rel)) = d .full ∙ ap (λ t. relation t (f .rel) .columns) (task .plain) ∙ ten-columns (f .rel) in
+      let e : length (f .row) ≡ columnsOf (pos (f .rel)) = d .full ∙ task .plain .columns (f .rel) in
       let k = columns-most (pos (f .rel)) in
       (e, omega arith)
 
@@ -134,7 +99,7 @@ module _ (p : List ℕ) (x y : Sheet) (plan : Plan p x) (task : Task p x y) (s :
       let bn = plan .view v lt in
       let sh = task .shaped v lt in
       let w = nth (x .views) v in
-      let g = subst (λ n. Given (blockNumbers p (2 + v)) n ns u) (six (blockSize p (2 + v)) (bn .few)) (st .given) in
+      let g = subst (λ n. Given (blockNumbers p (view-block v)) n ns u) (six (blockSize p (view-block v)) (bn .few)) (st .given) in
       let holds = holds-by bn sh fn shaped-log (g .val) (g .met) in
       let e : u ≡ padded (row (g .val) (w .block .head)) = sym (g .gives) ∙ head-row bn sh (g .val) in
       let m = subst (λ ws. In w ws) (sym (task .same)) (nth-in (x .views) v (omega arith)) in
@@ -146,17 +111,17 @@ module _ (p : List ℕ) (x y : Sheet) (plan : Plan p x) (task : Task p x y) (s :
       subst (λ t. RefutedBy top y s t) (sym q) (refuted-padded top y s (row (g .val) (w .block .head)) r len
       (subst (λ t. RefutedBy top y s (equations (padded (row (g .val) (w .block .head))) t)) b (subst (λ t. RefutedBy top y s (equations t (rowValues p k))) e (each k lk a)))))
 
-  -- the list gives the question's head: nothing below is good
-  pub list-refuted : (l : Block) → In l (y .lists) → Shaped l → BlockNumbers (blockNumbers p 1) (blockSize p 1) l → GivenAt p 1 ns (padded (headOf y s)) → length (l .head) ≡ length (headOf y s) → Refuted top y s
-  list-refuted l m sh bn g len =
-      let h = subst (λ n. Given (blockNumbers p 1) n ns (padded (headOf y s))) (six (blockSize p 1) (bn .few)) g in
+  -- a list gives the question's head: nothing below is good
+  pub list-refuted : (i : ℕ) (l : Block) → In l (y .lists) → Shaped l → BlockNumbers (blockNumbers p (list-block i)) (blockSize p (list-block i)) l → GivenAt p (list-block i) ns (padded (headOf y s)) → length (l .head) ≡ length (headOf y s) → Refuted top y s
+  list-refuted i l m sh bn g len =
+      let h = subst (λ n. Given (blockNumbers p (list-block i)) n ns (padded (headOf y s))) (six (blockSize p (list-block i)) (bn .few)) g in
       let holds = holds-by bn sh fn shaped-log (h .val) (h .met) in
       let e : row (h .val) (l .head) ≡ headOf y s = pad-same (row (h .val) (l .head)) (headOf y s) (length-map (l .head) _ ∙ len) (sym (head-row bn sh (h .val)) ∙ h .gives) in
       none-left (subst (λ a. Alternatives top y s a) (ap (map _) (sh .plain)) (list-gives y (task .accepted) s l m (h .val) holds e))
 
-  -- the list lacks it
-  pub list-lacks : (l : Block) → Shaped l → BlockNumbers (blockNumbers p 1) (blockSize p 1) l → (GivenAt p 1 ns (padded (headOf y s)) → ⊥) → Answer (logOf y s) l (headOf y s) → ⊥
-  list-lacks l sh bn none a = none (subst (λ n. Given (blockNumbers p 1) n ns (padded (headOf y s))) (sym (six (blockSize p 1) (bn .few))) (answer-given bn sh fn a))
+  -- a list lacks it
+  pub list-lacks : (i : ℕ) (l : Block) → Shaped l → BlockNumbers (blockNumbers p (list-block i)) (blockSize p (list-block i)) l → (GivenAt p (list-block i) ns (padded (headOf y s)) → ⊥) → Answer (tableauLog y s) l (headOf y s) → ⊥
+  list-lacks i l sh bn none a = none (subst (λ n. Given (blockNumbers p (list-block i)) n ns (padded (headOf y s))) (sym (six (blockSize p (list-block i)) (bn .few))) (answer-given bn sh fn a))
 
   -- the head of row i's copy, with what it must be
   pub head-refuted : (i : ℕ) → i < rowCount p → (u : List ℕ) → u ≡ padded (row (copy s (suc i)) (nth (x .views) (rowAt p i 0) .block .head)) → RefutedBy top y s (equations u (rowValues p i)) → Refuted top y s
@@ -175,8 +140,8 @@ module _ (p : List ℕ) (x y : Sheet) (plan : Plan p x) (task : Task p x y) (s :
       (λ alt j. ⊎-elim (λ z. subst (λ a. RefutedBy top y s a) (sym z) (subst (λ a. RefutedBy top y s (equations t a)) (sym (row-con (copy s (suc i)) (o .row))) q)) absurd j)
 
   -- every copy's head is what it must be, no view gives a stray row, no list gives the question's head: the state is good
-  pub good-state : ((c : Copy) → In c (numbered (jobs y)) → Meets (copy s (c .number)) (c .job)) → NoStray p ns → ((l : Block) → In l (y .lists) → Answer (logOf y s) l (headOf y s) → ⊥) → Good y s
-  good-state meets none lacks = record { meets = meets; keyed = λ f g m n k. no-keys y (task .plain) f g k; none-more = none-stray p x y plan task (logOf y s) ns fn none; missing = lacks }
+  pub good-state : ((c : Copy) → In c (numbered (jobs y)) → Meets (copy s (c .number)) (c .job)) → NoStray p ns → ((l : Block) → In l (y .lists) → Answer (tableauLog y s) l (headOf y s) → ⊥) → Good y s
+  good-state meets none lacks = record { meets = meets; keyed = λ f g m n k. no-keys (task .plain) f g k; none-more = none-stray p x y plan task (tableauLog y s) ns fn none; missing = lacks }
 
 -- ---- what is settled stays settled
 

@@ -6,7 +6,7 @@ use Prim.Native.Nat.{ℕ, zero, suc, _-_}
 use native.Mathlib.Omega.{arith}
 use lib.ListN.{length, replicate}
 use Rattle.query_meaning.specs.Meaning.{In}
-use Rattle.query_encoding.specs.Numbers.{padded}
+use Rattle.query_encoding.specs.Encoding.{padded}
 use Rattle.case_verdicts.specs.Verdict.{Sheet}
 use Rattle.case_verdicts.specs.Tableau.{State}
 use Rattle.case_verdicts.specs.Search.{Equation, equations, Met, RefutedBy}

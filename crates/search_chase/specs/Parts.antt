@@ -6,58 +6,68 @@ use mathlib.Core.Logic.{_⊎_}
 use Prim.Native.Nat.{ℕ, _+_, _-_, _*_, _<_, _≤_, min}
 use lib.Dec.{ltb}
 use lib.ListN.{length, getD}
+use Rattle.query_layout.specs.Layout.{names}
+use Rattle.sheet_format.specs.Limits.{most-atoms}
+use Rattle.tableau_layout.specs.Layout.{slot-end, question-block, list-block, view-block}
 use Rattle.query_meaning.specs.Meaning.{Block, In}
 use Rattle.query_meaning.specs.Blocks.{nth}
-use Rattle.query_encoding.specs.Numbers.{Shaped, padded}
+use Rattle.query_encoding.specs.Encoding.{Shaped, padded}
 use Rattle.case_verdicts.specs.Verdict.{Sheet}
 use Rattle.case_verdicts.specs.Handed.{Stands}
-use Rattle.case_verdicts.specs.Sheets.{ten, top}
-use Rattle.case_verdicts.specs.Accepted.{Accepted}
+use Rattle.case_verdicts.specs.Sheets.{top}
+use Rattle.case_verdicts.specs.Accepted.{PlainTable, FineSheet}
 use Rattle.case_verdicts.specs.Tableau.{State, Copy, jobs, numbered, copy, Meets, Good, bare}
 use Rattle.case_verdicts.specs.Search.{free, equations, Clash, Below, Refuted, RefutedBy}
 use Rattle.case_verdicts.specs.Words.{stateOf}
 use Rattle.query_join.specs.Joins.{headRow}
 use Rattle.query_answers.specs.Answers.{WitnessAt}
-use Rattle.tableau_plan.specs.Plan.{Plan, viewCount, askedSize, rowCount, rowAt, rowValues, blockNumbers, blockSize, tableauSize, tableauFacts}
+use Rattle.tableau_plan.specs.Plan.{Plan, listCount, viewCount, askedSize, rowCount, rowAt, rowValues, blockNumbers, blockSize, tableauSize, tableauFacts}
 use Rattle.search_state.specs.State.{made-up, Fresh, Equated}
 use Rattle.search_state.specs.Parts.{Own}
-use Rattle.tableau_parts.specs.Views.{GivenAt, StrayAt, NoStray}
-use Rattle.search_choices.specs.Marks.{Within, MarksAdded, MarksPut}
-use Rattle.search_conflict.specs.Reasons.{kept, relaxed, Rests, Marked, HeadMarked, Assigned}
-use Rattle.search_symmetry.specs.Mirrors.{Mirrors}
-use Rattle.search_nogoods.specs.Strikes.{slotAt, valueAt, marksAt, countOf}
-use Rattle.search_learning.specs.Rows.{StruckRow}
+use Rattle.tableau_parts.specs.Views.{GivenToList, StrayAt, NoStray}
+use Rattle.search_choices.specs.Choices.{Subset, MarksAdded, MarksPut}
+use Rattle.search_conflict.specs.Conflict.{kept, relaxed, Rests, Marked, HeadMarked, Assigned}
+use Rattle.search_symmetry.specs.Symmetry.{Alike}
+use Rattle.search_nogoods.specs.Nogoods.{slotAt, valueAt, marksAt, countOf}
+use Rattle.search_learning.specs.Rows.{ExcludedRow}
+use Rattle.search_chase.specs.declared.Goal.{Goal}
+use Rattle.search_chase.specs.declared.Goal.the-variants.{Counterexample, Agreement}
 
 -- a plan of an accepted sheet
-pub record Ready (p : List ℕ) (x : Sheet) : Type 0 where
+pub record ReadyPlan (p : List ℕ) (x : Sheet) : Type 0 where
   pub plan : Plan p x
-  pub accepted : Accepted top x
-  pub plain : x .table ≡ ten
+  pub accepted : FineSheet top x
+  pub plain : PlainTable (x .table)
   pub question : Shaped (x .question)
   pub lists : (l : Block) → In l (x .lists) → Shaped l × (length (l .head) ≡ length (x .question .head))
   pub views : (v : ℕ) → v < viewCount p → Shaped (nth (x .views) v .block)
 
--- the sheet itself, or the bare sheet, whose cases are the agreeing logs; and where its atoms start in the tableau
-abbrev pub sheetBy : Bool → Sheet → Sheet
-sheetBy true x = x
-sheetBy false x = bare x
+-- the question is asked where a counterexample is searched for
+abbrev pub asks : Goal → Bool
+asks Counterexample = true
+asks Agreement = false
 
-abbrev pub fromBy : Bool → List ℕ → ℕ
-fromBy true p = 0
-fromBy false p = askedSize p
+-- the sheet itself, or the bare sheet, whose cases are the agreeing logs; and where its atoms start in the tableau
+abbrev pub sheetBy : Goal → Sheet → Sheet
+sheetBy Counterexample x = x
+sheetBy Agreement x = bare x
+
+abbrev pub fromBy : Goal → List ℕ → ℕ
+fromBy Counterexample p = 0
+fromBy Agreement p = askedSize p
 
 -- the facts of a state, in numbers
-abbrev pub numbersOf : Bool → List ℕ → State → List ℕ
-numbersOf asked p s = tableauFacts p s (fromBy asked p) (tableauSize p - fromBy asked p)
+abbrev pub numbersOf : Goal → List ℕ → State → List ℕ
+numbersOf goal p s = tableauFacts p s (fromBy goal p) (tableauSize p - fromBy goal p)
 
 -- each word is a constant, or the own made-up value of its slot
 pub record Proper (ws : List ℕ) : Type 0 where
-  pub size : length ws ≡ 533
-  pub each : (n : ℕ) → n < 533 → (getD ws n 0 < top) ⊎ (getD ws n 0 ≡ top + n)
+  pub size : length ws ≡ slot-end
+  pub each : (n : ℕ) → n < slot-end → (getD ws n 0 < top) ⊎ (getD ws n 0 ≡ top + n)
 
 -- each word is a number of the sheet, or the own made-up value of its slot
 pub record Stood (x : Sheet) (ws : List ℕ) : Type 0 where
-  pub each : (n : ℕ) → n < 533 → Stands x (getD ws n 0) ⊎ (getD ws n 0 ≡ top + n)
+  pub each : (n : ℕ) → n < slot-end → Stands x (getD ws n 0) ⊎ (getD ws n 0 ≡ top + n)
 
 -- two rows of one length with their unused columns; the second is made of numbers of the sheet
 pub record Fitting (x : Sheet) (u r : List ℕ) : Type 0 where
@@ -75,7 +85,7 @@ Settled y s = (c : Copy) → In c (numbered (jobs y)) → Meets (copy s (c .numb
 -- a good state was found, and stands in the words
 pub record Found (x y : Sheet) (out : List ℕ) : Type 0 where
   pub good : Good y (stateOf top out)
-  pub size : length out ≡ 533
+  pub size : length out ≡ slot-end
   pub stood : Stood x out
 
 -- the choices that bound slots are numbered below `next`
@@ -87,19 +97,19 @@ pub record SameLevels (ws lv lw : List ℕ) : Type 0 where
   pub each : (n : ℕ) → stateOf top ws n < top → getD lw n 0 ≡ getD lv n 0
 
 -- slot n cannot have the value w in anything good below the state, whatever the choices that are not marked
-pub record Struck (y : Sheet) (ws lv : List ℕ) (n w : ℕ) (marks : List Bool) : Type 0 where
+pub record Nogood (y : Sheet) (ws lv : List ℕ) (n w : ℕ) (marks : List Bool) : Type 0 where
   pub none : (t : State) → Below top (relaxed ws lv marks) t → t n ≡ w → Good y t → ⊥
 
 -- so are the entries of a table
-pub record Strikes (y : Sheet) (ws lv sl : List ℕ) (sm : List Bool) : Type 0 where
-  pub each : (e : ℕ) → e < countOf sl → Struck y ws lv (slotAt sl e) (valueAt sl e) (marksAt sm e)
+pub record Nogoods (y : Sheet) (ws lv sl : List ℕ) (sm : List Bool) : Type 0 where
+  pub each : (e : ℕ) → e < countOf sl → Nogood y ws lv (slotAt sl e) (valueAt sl e) (marksAt sm e)
 
 -- nothing below the state is good, and that rests on the choices marked; the words are as they were, and the values struck are still
 pub record Lost (y : Sheet) (ws lv out lw : List ℕ) (marks : List Bool) (sl : List ℕ) (sm : List Bool) : Type 0 where
   pub rests : Rests y ws lv marks
   pub kept : out ≡ ws
   pub levels : SameLevels ws lv lw
-  pub strikes : Strikes y ws lv sl sm
+  pub strikes : Nogoods y ws lv sl sm
 
 abbrev pub SoughtBy : Bool → Sheet → Sheet → List ℕ → List ℕ → List ℕ → List ℕ → List Bool → List ℕ → List Bool → Type 0
 SoughtBy true x y ws lv out lw marks sl sm = Found x y out
@@ -107,44 +117,46 @@ SoughtBy false x y ws lv out lw marks sl sm = Lost y ws lv out lw marks sl sm
 
 -- a state that is neither good nor refuted yet: a stray row, which is none of its view's listed rows, and whose alternatives decide, whatever
 -- the choices that are not marked
-pub record Opened (p : List ℕ) (x y : Sheet) (ws lv : List ℕ) (marks : List Bool) (view : ℕ) (u : List ℕ) : Type 0 where
+pub record OpenNode (p : List ℕ) (x y : Sheet) (ws lv : List ℕ) (marks : List Bool) (view : ℕ) (u : List ℕ) : Type 0 where
   pub fresh : Fresh ws u
   pub fits : (i : ℕ) → i < rowCount p → rowAt p i 0 ≡ view → Fitting x u (rowValues p i)
   pub other : (i : ℕ) → i < rowCount p → rowAt p i 0 ≡ view → u ≡ rowValues p i → ⊥
-  pub refuted : (s : List Bool) → Within marks s → ((i : ℕ) → i < rowCount p → rowAt p i 0 ≡ view → RefutedBy top y (relaxed ws lv s) (equations u (rowValues p i))) → Rests y ws lv s
+  pub refuted : (s : List Bool) → Subset marks s → ((i : ℕ) → i < rowCount p → rowAt p i 0 ≡ view → RefutedBy top y (relaxed ws lv s) (equations u (rowValues p i))) → Rests y ws lv s
 
 -- what a state is found to be: done and good, done and refuted, or open
 abbrev pub NodeBy : Bool → Bool → List ℕ → Sheet → Sheet → List ℕ → List ℕ → List Bool → ℕ → List ℕ → Type 0
 NodeBy true true p x y ws lv marks view u = Settled y (stateOf top ws) → Good y (stateOf top ws)
 NodeBy true false p x y ws lv marks view u = Rests y ws lv marks
-NodeBy false good p x y ws lv marks view u = Opened p x y ws lv marks view u
+NodeBy false good p x y ws lv marks view u = OpenNode p x y ws lv marks view u
 
 -- block b is given a row by facts whose choices are marked
 pub record GivenBy (p ns ws lv : List ℕ) (from : ℕ) (marks : List Bool) (b : ℕ) (u : List ℕ) : Type 0 where
   pub at : List ℕ
-  pub witness : WitnessAt (blockNumbers p b) (min (blockSize p b) 6) ns u at
+  pub witness : WitnessAt (blockNumbers p b) (min (blockSize p b) most-atoms) ns u at
   pub old : List Bool
-  pub marked : Marked p ws lv from at (min (blockSize p b) 6) old marks
+  pub marked : Marked p ws lv from at (min (blockSize p b) most-atoms) old marks
 
 -- the question's head
 abbrev pub askedRow : List ℕ → List ℕ → List ℕ
-askedRow p ws = headRow (λ z. stateOf top ws (0 * 13 + z)) (blockNumbers p 0)
+askedRow p ws = headRow (λ z. stateOf top ws (0 * names + z)) (blockNumbers p question-block)
 
--- the list is given the question's head, and the choices of the facts and of the head are marked
+-- a list is given the question's head, and the choices of the facts and of the head are marked
 pub record Shut (p ns ws lv : List ℕ) (marks : List Bool) : Type 0 where
+  pub list : ℕ
+  pub inside : list < listCount p
   pub mid : List Bool
-  pub given : GivenBy p ns ws lv 0 mid 1 (askedRow p ws)
+  pub given : GivenBy p ns ws lv 0 mid (list-block list) (askedRow p ws)
   pub head : HeadMarked p ws lv 4 mid marks
 
 abbrev pub ShutBy : Bool → List ℕ → List ℕ → List ℕ → List ℕ → List Bool → Type 0
 ShutBy true p ns ws lv marks = Shut p ns ws lv marks
-ShutBy false p ns ws lv marks = GivenAt p 1 ns (askedRow p ws) → ⊥
+ShutBy false p ns ws lv marks = GivenToList p ns (askedRow p ws) → ⊥
 
 -- what stray rows alone say: one, whose facts' choices are marked, or none
 abbrev pub ByStrays : Bool → Bool → List ℕ → List ℕ → List ℕ → List ℕ → ℕ → List Bool → ℕ → List ℕ → Type 0
 ByStrays true true p ns ws lv from marks view u = NoStray p ns
 ByStrays true false p ns ws lv from marks view u = ⊥
-ByStrays false good p ns ws lv from marks view u = StrayAt p ns view u × GivenBy p ns ws lv from marks (2 + view) u
+ByStrays false good p ns ws lv from marks view u = StrayAt p ns view u × GivenBy p ns ws lv from marks (view-block view) u
 
 -- a listed row was taken for a stray row of a view: the row is the view's, and the values of u were made its own; or it cannot be
 pub record Taken (p : List ℕ) (view i : ℕ) (ws out u : List ℕ) : Type 0 where
@@ -161,9 +173,9 @@ TakenBy true p view i ws out u = Taken p view i ws out u
 TakenBy false p view i ws out u = Passed p view i ws out u
 
 -- the slots of a row that was taken belong to choice b
-abbrev pub GivenTo : Bool → List ℕ → List ℕ → List ℕ → ℕ → Type 0
-GivenTo true lv lw u b = Assigned lv lw u b
-GivenTo false lv lw u b = lw ≡ lv
+abbrev pub AssignedTo : Bool → List ℕ → List ℕ → List ℕ → ℕ → Type 0
+AssignedTo true lv lw u b = Assigned lv lw u b
+AssignedTo false lv lw u b = lw ≡ lv
 
 -- a failure below does not rest on choice b, and its marks stand for the state above; or they are added, but for those of the next choice
 abbrev pub JumpsBy : Bool → List Bool → List Bool → ℕ → ℕ → List Bool → Type 0
@@ -175,39 +187,34 @@ unfoldable pub turned : ℕ → ℕ → ℕ → ℕ
 turned first rows i = cond (ltb (first + i) rows) (first + i) (first + i - rows)
 
 -- the first n rows of the view, in that order, are refuted as what the stray row u becomes, whatever the choices that are not marked
-pub record Tried (p : List ℕ) (y : Sheet) (ws lv : List ℕ) (marks : List Bool) (view : ℕ) (u : List ℕ) (at : ℕ → ℕ) (n : ℕ) : Type 0 where
-  pub each : (s : List Bool) → Within marks s → (i : ℕ) → i < n → rowAt p (at i) 0 ≡ view → RefutedBy top y (relaxed ws lv s) (equations u (rowValues p (at i)))
+pub record TriedRows (p : List ℕ) (y : Sheet) (ws lv : List ℕ) (marks : List Bool) (view : ℕ) (u : List ℕ) (at : ℕ → ℕ) (n : ℕ) : Type 0 where
+  pub each : (s : List Bool) → Subset marks s → (i : ℕ) → i < n → rowAt p (at i) 0 ≡ view → RefutedBy top y (relaxed ws lv s) (equations u (rowValues p (at i)))
 
 -- listed row `last` is refuted as what the stray row becomes, and that rests on choices that are marked
 pub record Failed (p : List ℕ) (y : Sheet) (ws lv : List ℕ) (marks below : List Bool) (u : List ℕ) (last : ℕ) : Type 0 where
   pub refuted : RefutedBy top y (relaxed ws lv below) (equations u (rowValues p last))
-  pub among : (s : List Bool) → Within marks s → (k : ℕ) → stateOf top ws k < top → kept lv below k ≡ true → kept lv s k ≡ true
+  pub among : (s : List Bool) → Subset marks s → (k : ℕ) → stateOf top ws k < top → kept lv below k ≡ true → kept lv s k ≡ true
 
 -- where a search stands with a stray row: the words as they were, the first n rows tried, the last failure and the values struck
 pub record Going (p : List ℕ) (x y : Sheet) (ws lv st lw : List ℕ) (marks : List Bool) (view : ℕ) (u : List ℕ) (at : ℕ → ℕ) (n : ℕ) (below : List Bool) (last : ℕ) (sl : List ℕ) (sm : List Bool) : Type 0 where
   pub same : st ≡ ws
   pub levels : SameLevels ws lv lw
-  pub opened : Opened p x y ws lv marks view u
-  pub tried : Tried p y ws lv marks view u at n
+  pub opened : OpenNode p x y ws lv marks view u
+  pub tried : TriedRows p y ws lv marks view u at n
   pub failed : last < rowCount p → Failed p y ws lv marks below u last
-  pub strikes : Strikes y ws lv sl sm
+  pub strikes : Nogoods y ws lv sl sm
 
 -- row k is refuted already: it is like the last one that was, or a value of it is struck
 abbrev pub RefutedAs : Bool → List ℕ → List ℕ → List ℕ → List ℕ → ℕ → ℕ → List Bool → List ℕ → List Bool → List Bool → List Bool → Type 0
-RefutedAs true p ws lv u last k below sl sm old marks = (Mirrors p ws lv below u last k × (marks ≡ old)) ⊎ StruckRow p u k sl sm old marks
+RefutedAs true p ws lv u last k below sl sm old marks = (Alike p ws lv below u last k × (marks ≡ old)) ⊎ ExcludedRow p u k sl sm old marks
 RefutedAs false p ws lv u last k below sl sm old marks = marks ≡ old
 
 -- a state from which a search may go on: proper, settled, with fewer made-up values than choices left
-pub record Begins (x y : Sheet) (ws : List ℕ) (left : ℕ) : Type 0 where
+pub record Started (x y : Sheet) (ws : List ℕ) (left : ℕ) : Type 0 where
   pub proper : Proper ws
   pub stood : Stood x ws
   pub settled : Settled y (stateOf top ws)
   pub room : made-up ws < left
-
--- a number not above its limit
-pub record Counted (n limit r : ℕ) : Type 0 where
-  pub limited : r ≤ limit
-  pub exact : n ≤ limit → r ≡ n
 
 -- ---- the heads of the copies
 

@@ -1,8 +1,30 @@
 // The search for a case.
+use query_layout::BLOCK_NUMBERS;
+use query_layout::HEAD_AT;
+use query_layout::NAMES;
+use search_nogoods::MOST_CHOICES;
+use search_nogoods::NOGOOD_MARKS;
+use search_nogoods::NOGOOD_NUMBERS;
+use sheet_format::MOST_ATOMS;
+use sheet_format::MOST_LISTS;
+use sheet_format::MOST_ROWS;
+use sheet_format::MOST_VIEWS;
+use tableau_layout::ASKED_SIZE_AT;
+use tableau_layout::BLOCKS_AT;
+use tableau_layout::LIST_BLOCKS;
+use tableau_layout::PLAN_NUMBERS;
+use tableau_layout::SIZES_AT;
+use tableau_layout::SLOTS;
+use tableau_layout::TABLEAU_ATOMS;
+use tableau_layout::TABLEAU_NUMBERS;
+use tableau_layout::VIEW_BLOCKS;
 ghost use mathlib.Core.Path.{_≡_};
 ghost use mathlib.Core.Bool.{Bool, true, false};
 ghost use Prim.Native.Nat.{ℕ, _+_, _*_, _/_, _-_, _≤_, _<_};
 ghost use lib.ListN.{length, getD, take};
+ghost use Rattle.query_layout.specs.Layout.{block-head, names};
+ghost use Rattle.tableau_layout.specs.Layout.{most-blocks, most-copies, slot-end, tableau-atoms, view-block};
+ghost use Rattle.sheet_format.specs.Limits.{most-rows, most-views};
 ghost use Rattle.query_join.specs.Joins.{valueOf, headRow};
 ghost use Rattle.case_verdicts.specs.Sheets.{top};
 ghost use Rattle.case_verdicts.specs.Search.{free};
@@ -12,47 +34,21 @@ ghost use Rattle.search_state.specs.State.{Fresh, Constants};
 ghost use Rattle.search_state.specs.Parts.{Own};
 ghost use Rattle.tableau_parts.specs.Views.{GivenAt};
 ghost use Rattle.tableau_parts.specs.Walks as walks;
-ghost use Rattle.search_chase.specs.Parts.{Ready, Proper, sheetBy, fromBy, numbersOf, NodeBy, GivenBy, ShutBy, ByStrays, TakenBy, GivenTo, JumpsBy, turned, Begins, Levelled, SoughtBy, Strikes, RefutedAs, Counted, Heads, HeadsBy, FoundBy};
+ghost use Rattle.search_chase.specs.Parts.{ReadyPlan, Proper, sheetBy, fromBy, numbersOf, NodeBy, GivenBy, ShutBy, ByStrays, TakenBy, AssignedTo, JumpsBy, turned, Started, Levelled, SoughtBy, Nogoods, RefutedAs, Heads, HeadsBy, FoundBy};
 ghost use Rattle.case_verdicts.specs.Verdict.{Sheet};
-
-// The places of a plan's parts.
-const ROWS: usize = 630;
-
-const BLOCKS: usize = 830;
-
-const BLOCK: usize = 34;
-
-const HEAD: usize = 30;
-
-const NAMES: usize = 13;
-
-const ASKED: usize = 1181;
-
-const ROW_COUNT: usize = 1182;
-
-const MOST_FACTS: usize = 126;
-
-const MOST_ROWS: usize = 40;
-
-const ROW: usize = 5;
-
-const MOST_VIEWS: usize = 8;
+ghost use Rattle.search_nogoods.specs.Sizes.{most-choices, nogood-numbers, nogood-marks};
+ghost use Rattle.search_chase.specs.Parts as specs;
+ghost use Rattle.search_chase.specs.declared.Goal.{Goal};
 
 // A search goes no deeper than there are slots.
-const DEPTH: usize = 534;
-
-// So many choices are told apart: 0 is for what is settled first, and the later ones share numbers.
-const CHOICES: usize = 64;
-
-// Where the sizes of the blocks stand.
-const SIZES: usize = 1170;
+const DEPTH: usize = SLOTS + 1;
 
 // Column c of the head of block b, under the valuation of copy k.
-fn head_value(p: &[usize; 1184], st: &[usize], b: usize, k: usize, c: usize) -> usize
-    requires { ⌜ (length (now st) ≡ 533) × (b < 10) × (k < 41) × (c < 4) ⌝ }
-    ensures { λ r. ⌜ r ≡ valueOf (λ x. stateOf top (now (st .entry)) (k * 13 + x)) (getD (blockNumbers (now (p .entry)) b) (30 + c) 0) ⌝ }
+fn head_value(p: &[usize; PLAN_NUMBERS], st: &[usize], b: usize, k: usize, c: usize) -> usize
+    requires { ⌜ (length (now st) ≡ slot-end) × (b < most-blocks) × (k < most-copies) × (c < 4) ⌝ }
+    ensures { λ r. ⌜ r ≡ valueOf (λ x. stateOf top (now (st .entry)) (k * names + x)) (getD (blockNumbers (now (p .entry)) b) (block-head + c) 0) ⌝ }
 {
-    let t = p[BLOCKS + b * BLOCK + HEAD + c];
+    let t = p[BLOCKS_AT + b * BLOCK_NUMBERS + HEAD_AT + c];
     if t < NAMES {
         return st[k * NAMES + t];
     }
@@ -60,9 +56,9 @@ fn head_value(p: &[usize; 1184], st: &[usize], b: usize, k: usize, c: usize) -> 
 }
 
 // The head of block b under the valuation of copy k.
-fn head_of(p: &[usize; 1184], st: &[usize], b: usize, k: usize) -> [usize; 4]
-    requires { ⌜ (length (now st) ≡ 533) × (b < 10) × (k < 41) ⌝ }
-    ensures { λ r. ⌜ r ≡ headRow (λ x. stateOf top (now (st .entry)) (k * 13 + x)) (blockNumbers (now (p .entry)) b) ⌝ }
+fn head_of(p: &[usize; PLAN_NUMBERS], st: &[usize], b: usize, k: usize) -> [usize; 4]
+    requires { ⌜ (length (now st) ≡ slot-end) × (b < most-blocks) × (k < most-copies) ⌝ }
+    ensures { λ r. ⌜ r ≡ headRow (λ x. stateOf top (now (st .entry)) (k * names + x)) (blockNumbers (now (p .entry)) b) ⌝ }
 {
     [
         head_value(p, st, b, k, 0),
@@ -72,21 +68,20 @@ fn head_of(p: &[usize; 1184], st: &[usize], b: usize, k: usize) -> [usize; 4]
     ]
 }
 
-// The view of listed row i.
-fn view_of(p: &[usize; 1184], i: usize) -> usize
-    requires { ⌜ i < 40 ⌝ }
-    ensures { λ r. ⌜ r ≡ rowAt (now (p .entry)) i 0 ⌝ }
-{
-    p[ROWS + i * ROW]
+// What is searched for: a case of the sheet, or a log that agrees with its views, whatever the question is.
+pub enum Goal {
+    Counterexample,
+    Agreement,
 }
 
-// The values of listed row i.
-fn row_of(p: &[usize; 1184], i: usize) -> [usize; 4]
-    requires { ⌜ i < 40 ⌝ }
-    ensures { λ r. ⌜ r ≡ rowValues (now (p .entry)) i ⌝ }
+// Whether the question is asked.
+fn asks(goal: Goal) -> bool
+    ensures { λ r. ⌜ r ≡ specs.asks goal ⌝ }
 {
-    let at = ROWS + i * ROW;
-    [p[at + 1], p[at + 2], p[at + 3], p[at + 4]]
+    match goal {
+        Goal::Counterexample => true,
+        Goal::Agreement => false,
+    }
 }
 
 // What a state is found to be: done and good, done and refuted, or open, with a stray row of a view, whether several listed rows fit it, and which
@@ -116,7 +111,7 @@ fn ended(good: bool) -> Finding
 
 // Marks the choices of facts by which block b is given a row.
 fn mark_given(
-    p: &[usize; 1184],
+    p: &[usize; PLAN_NUMBERS],
     st: &[usize],
     lv: &[usize],
     from: usize,
@@ -125,11 +120,11 @@ fn mark_given(
     row: [usize; 4],
     marks: &mut [bool],
 )
-    requires { ⌜ (length (now st) ≡ 533) × (length (now lv) ≡ 533) × (b < 10) ⌝ }
-    ensures { λ r. ⌜ (walks.Ready (now (p .entry)) → b < 2 + viewCount (now (p .entry)) → from + length (now (facts .entry)) / 5 ≤ 126 → GivenAt (now (p .entry)) b (now (facts .entry)) row → GivenBy (now (p .entry)) (now (facts .entry)) (now (st .entry)) (now (lv .entry)) from (now (marks .exit)) b row) ⌝ }
+    requires { ⌜ (length (now st) ≡ slot-end) × (length (now lv) ≡ slot-end) × (b < most-blocks) ⌝ }
+    ensures { λ r. ⌜ (walks.FormedPlan (now (p .entry)) → b < view-block (viewCount (now (p .entry))) → from + length (now (facts .entry)) / 5 ≤ tableau-atoms → GivenAt (now (p .entry)) b (now (facts .entry)) row → GivenBy (now (p .entry)) (now (facts .entry)) (now (st .entry)) (now (lv .entry)) from (now (marks .exit)) b row) ⌝ }
 {
     let at = tableau_witness::witness(p, b, facts, row);
-    search_conflict::mark_facts(p, st, lv, from, at, p[SIZES + b], marks);
+    search_conflict::mark_facts(p, st, lv, from, at, p[SIZES_AT + b], marks);
 }
 
 // A value where the row u has become another one.
@@ -178,9 +173,15 @@ fn is_known(facts: &[usize], a: usize, u: &[usize; 4], row: &[usize; 4]) -> bool
 }
 
 // Whether the first n of the facts that give u are there already where u has become another row.
-fn are_known(facts: &[usize], n: usize, at: &[usize; 6], u: &[usize; 4], row: &[usize; 4]) -> bool {
+fn are_known(
+    facts: &[usize],
+    n: usize,
+    at: &[usize; MOST_ATOMS],
+    u: &[usize; 4],
+    row: &[usize; 4],
+) -> bool {
     let mut j = 0;
-    while j < 6 {
+    while j < MOST_ATOMS {
         if n <= j {
             return true;
         }
@@ -194,25 +195,25 @@ fn are_known(facts: &[usize], n: usize, at: &[usize; 6], u: &[usize; 4], row: &[
 
 // A listed row of the view that brings no fact that is not there already, if there is one: it is tried first where several rows fit.
 fn known_row(
-    p: &[usize; 1184],
+    p: &[usize; PLAN_NUMBERS],
     facts: &[usize],
     view: usize,
     u: &[usize; 4],
-    at: &[usize; 6],
+    at: &[usize; MOST_ATOMS],
     fit: usize,
 ) -> usize
-    requires { ⌜ view < 8 ⌝ }
-    ensures { λ r. ⌜ r < 40 ⌝ }
+    requires { ⌜ view < most-views ⌝ }
+    ensures { λ r. ⌜ r < most-rows ⌝ }
 {
     if fit <= 1 {
         return 0;
     }
-    let n = p[SIZES + (2 + view)];
-    let all = row_count(p);
+    let n = p[SIZES_AT + (VIEW_BLOCKS + view)];
+    let all = tableau_parts::row_count(p);
     let mut i = 0;
     while i < all {
-        if view_of(p, i) == view {
-            let row = row_of(p, i);
+        if tableau_parts::view_at(p, i) == view {
+            let row = tableau_parts::values_at(p, i);
             if are_known(facts, n, at, u, &row) {
                 return i;
             }
@@ -224,7 +225,7 @@ fn known_row(
 
 // What stray rows say of a state; of one, the choices are marked. Those that facts with a slot of u give are looked at first.
 fn by_strays(
-    p: &[usize; 1184],
+    p: &[usize; PLAN_NUMBERS],
     st: &[usize],
     lv: &[usize],
     from: usize,
@@ -232,8 +233,8 @@ fn by_strays(
     marks: &mut [bool],
     u: &[usize; 4],
 ) -> Finding
-    requires { ⌜ (length (now st) ≡ 533) × (length (now lv) ≡ 533) ⌝ }
-    ensures { λ r. ⌜ (walks.Ready (now (p .entry)) → from + length (now (facts .entry)) / 5 ≤ 126 → ByStrays (r .done) (r .good) (now (p .entry)) (now (facts .entry)) (now (st .entry)) (now (lv .entry)) from (now (marks .exit)) (r .view) (r .values)) ⌝ }
+    requires { ⌜ (length (now st) ≡ slot-end) × (length (now lv) ≡ slot-end) ⌝ }
+    ensures { λ r. ⌜ (walks.FormedPlan (now (p .entry)) → from + length (now (facts .entry)) / 5 ≤ tableau-atoms → ByStrays (r .done) (r .good) (now (p .entry)) (now (facts .entry)) (now (st .entry)) (now (lv .entry)) from (now (marks .exit)) (r .view) (r .values)) ⌝ }
 {
     let s = search_violation::find(p, facts, from, u);
     if !s.some {
@@ -247,7 +248,15 @@ fn by_strays(
     let at = s.at;
     let first = known_row(p, facts, view, &values, &at, s.fit);
     let several = 1 < s.fit;
-    search_conflict::mark_facts(p, st, lv, from, at, p[SIZES + (2 + view)], marks);
+    search_conflict::mark_facts(
+        p,
+        st,
+        lv,
+        from,
+        at,
+        p[SIZES_AT + (VIEW_BLOCKS + view)],
+        marks,
+    );
     Finding {
         done: false,
         good: false,
@@ -258,41 +267,42 @@ fn by_strays(
     }
 }
 
-// Whether the list is given the question's head; if so, the choices of that are marked.
+// Whether a list is given the question's head; if so, the choices of that are marked.
 fn is_shut(
-    p: &[usize; 1184],
+    p: &[usize; PLAN_NUMBERS],
     st: &[usize],
     lv: &[usize],
     facts: &[usize],
     marks: &mut [bool],
 ) -> bool
-    requires { ⌜ (length (now st) ≡ 533) × (length (now lv) ≡ 533) ⌝ }
-    ensures { λ r. ⌜ (walks.Ready (now (p .entry)) → length (now (facts .entry)) / 5 ≤ 126 → ShutBy r (now (p .entry)) (now (facts .entry)) (now (st .entry)) (now (lv .entry)) (now (marks .exit))) ⌝ }
+    requires { ⌜ (length (now st) ≡ slot-end) × (length (now lv) ≡ slot-end) ⌝ }
+    ensures { λ r. ⌜ (walks.FormedPlan (now (p .entry)) → length (now (facts .entry)) / 5 ≤ tableau-atoms → ShutBy r (now (p .entry)) (now (facts .entry)) (now (st .entry)) (now (lv .entry)) (now (marks .exit))) ⌝ }
 {
     let row = head_of(p, st, 0, 0);
-    if !tableau_answers::list_gives(p, facts, row) {
+    let i = tableau_answers::giving_list(p, facts, row);
+    if MOST_LISTS <= i {
         return false;
     }
-    mark_given(p, st, lv, 0, 1, facts, row, marks);
+    mark_given(p, st, lv, 0, LIST_BLOCKS + i, facts, row, marks);
     search_conflict::mark_head(p, st, lv, marks);
     true
 }
 
 // What a state is found to be by its facts, with the question or without.
 fn by_facts(
-    p: &[usize; 1184],
+    p: &[usize; PLAN_NUMBERS],
     st: &[usize],
     lv: &[usize],
-    asked: bool,
+    goal: Goal,
     from: usize,
     facts: &[usize],
     marks: &mut [bool],
     u: &[usize; 4],
 ) -> Finding
-    requires { ⌜ (length (now st) ≡ 533) × (length (now lv) ≡ 533) ⌝ }
-    ensures { λ r. ⌜ ((x : Sheet) → Ready (now (p .entry)) x → Proper (now (st .entry)) → from ≡ fromBy asked (now (p .entry)) → now (facts .entry) ≡ numbersOf asked (now (p .entry)) (stateOf top (now (st .entry))) → NodeBy (r .done) (r .good) (now (p .entry)) x (sheetBy asked x) (now (st .entry)) (now (lv .entry)) (now (marks .exit)) (r .view) (r .values)) ⌝ }
+    requires { ⌜ (length (now st) ≡ slot-end) × (length (now lv) ≡ slot-end) ⌝ }
+    ensures { λ r. ⌜ ((x : Sheet) → ReadyPlan (now (p .entry)) x → Proper (now (st .entry)) → from ≡ fromBy goal (now (p .entry)) → now (facts .entry) ≡ numbersOf goal (now (p .entry)) (stateOf top (now (st .entry))) → NodeBy (r .done) (r .good) (now (p .entry)) x (sheetBy goal x) (now (st .entry)) (now (lv .entry)) (now (marks .exit)) (r .view) (r .values)) ⌝ }
 {
-    if !asked {
+    if !asks(goal) {
         return by_strays(p, st, lv, from, facts, marks, u);
     }
     if is_shut(p, st, lv, facts, marks) {
@@ -302,74 +312,69 @@ fn by_facts(
 }
 
 // Where a state's facts start in the tableau.
-fn start(p: &[usize; 1184], asked: bool) -> usize
-    ensures { λ r. ⌜ r ≡ fromBy asked (now (p .entry)) ⌝ }
+fn start(p: &[usize; PLAN_NUMBERS], goal: Goal) -> usize
+    ensures { λ r. ⌜ r ≡ fromBy goal (now (p .entry)) ⌝ }
 {
-    if asked {
+    if asks(goal) {
         return 0;
     }
-    p[ASKED]
+    p[ASKED_SIZE_AT]
 }
 
 // What a state is found to be, with the question or without, where u is the stray row that has become a listed one. The choices that this rests on
 // are marked.
 fn judge_state(
-    p: &[usize; 1184],
-    st: &[usize; 533],
-    lv: &[usize; 533],
-    asked: bool,
-    marks: &mut [bool; 64],
+    p: &[usize; PLAN_NUMBERS],
+    st: &[usize; SLOTS],
+    lv: &[usize; SLOTS],
+    goal: Goal,
+    marks: &mut [bool; MOST_CHOICES],
     u: &[usize; 4],
 ) -> Finding
-    requires { ⌜ (length (now st) ≡ 533) × (length (now lv) ≡ 533) ⌝ }
-    ensures { λ r. ⌜ ((x : Sheet) → Ready (now (p .entry)) x → Proper (now (st .entry)) → NodeBy (r .done) (r .good) (now (p .entry)) x (sheetBy asked x) (now (st .entry)) (now (lv .entry)) (now (marks .exit)) (r .view) (r .values)) ⌝ }
+    requires { ⌜ (length (now st) ≡ slot-end) × (length (now lv) ≡ slot-end) ⌝ }
+    ensures { λ r. ⌜ ((x : Sheet) → ReadyPlan (now (p .entry)) x → Proper (now (st .entry)) → NodeBy (r .done) (r .good) (now (p .entry)) x (sheetBy goal x) (now (st .entry)) (now (lv .entry)) (now (marks .exit)) (r .view) (r .values)) ⌝ }
 {
     search_choices::clear(marks);
-    let mut room = [0; 630];
-    let from = start(p, asked);
+    let mut room = [0; TABLEAU_NUMBERS];
+    let from = start(p, goal);
     let n = search_state::facts(p, st, from, &mut room);
-    if MOST_FACTS < n {
+    if TABLEAU_ATOMS < n {
         return ended(false);
     }
-    by_facts(p, st, lv, asked, from, &room[..n * 5], marks, u)
-}
-
-// How many rows are listed.
-fn row_count(p: &[usize; 1184]) -> usize
-    ensures { λ r. ⌜ Counted (rowCount (now (p .entry))) 40 r ⌝ }
-{
-    let n = p[ROW_COUNT];
-    if MOST_ROWS < n {
-        return MOST_ROWS;
-    }
-    n
+    by_facts(p, st, lv, goal, from, &room[..n * 5], marks, u)
 }
 
 // Makes the stray row u of a view listed row i, if it is a row of the view and u can become it.
-fn become_row(p: &[usize; 1184], st: &mut [usize], view: usize, u: &[usize; 4], i: usize) -> bool
-    requires { ⌜ (i < 40) × (length (now u) ≡ 4) ⌝ }
+fn become_row(
+    p: &[usize; PLAN_NUMBERS],
+    st: &mut [usize],
+    view: usize,
+    u: &[usize; 4],
+    i: usize,
+) -> bool
+    requires { ⌜ (i < most-rows) × (length (now u) ≡ 4) ⌝ }
     ensures { λ r. ⌜ (Own (now (st .entry)) → Fresh (now (st .entry)) (now (u .entry)) → Constants (rowValues (now (p .entry)) i) → TakenBy r (now (p .entry)) view i (now (st .entry)) (now (st .exit)) (now (u .entry))) ⌝ }
 {
-    if view_of(p, i) != view {
+    if tableau_parts::view_at(p, i) != view {
         return false;
     }
-    let row = row_of(p, i);
+    let row = tableau_parts::values_at(p, i);
     search_state::equate(st, u, &row)
 }
 
 // Takes listed row i for the stray row u of a view, if it can; the slots bound so belong to choice b.
 fn take(
-    p: &[usize; 1184],
-    st: &mut [usize; 533],
-    lv: &mut [usize; 533],
+    p: &[usize; PLAN_NUMBERS],
+    st: &mut [usize; SLOTS],
+    lv: &mut [usize; SLOTS],
     view: usize,
     u: &[usize; 4],
     i: usize,
     b: usize,
 ) -> bool
-    requires { ⌜ (i < 40) × (length (now u) ≡ 4) ⌝ }
+    requires { ⌜ (i < most-rows) × (length (now u) ≡ 4) ⌝ }
     ensures { λ r. ⌜ (Own (now (st .entry)) → Fresh (now (st .entry)) (now (u .entry)) → Constants (rowValues (now (p .entry)) i) → TakenBy r (now (p .entry)) view i (now (st .entry)) (now (st .exit)) (now (u .entry))) ⌝ }
-    ensures { λ r. ⌜ GivenTo r (now (lv .entry)) (now (lv .exit)) (now (u .entry)) b ⌝ }
+    ensures { λ r. ⌜ AssignedTo r (now (lv .entry)) (now (lv .exit)) (now (u .entry)) b ⌝ }
     ensures { λ r. ⌜ (length (now (st .exit)) ≡ length (now (st .entry))) × (length (now (lv .exit)) ≡ length (now (lv .entry))) ⌝ }
 {
     if !become_row(p, st, view, u, i) {
@@ -380,7 +385,12 @@ fn take(
 }
 
 // What a failure below choice b says of the state above it: that it fails too, or what the other rows' failures are added to.
-fn jumps(marks: &mut [bool; 64], below: &[bool; 64], b: usize, next: usize) -> bool
+fn jumps(
+    marks: &mut [bool; MOST_CHOICES],
+    below: &[bool; MOST_CHOICES],
+    b: usize,
+    next: usize,
+) -> bool
     ensures { λ r. ⌜ JumpsBy r (now (marks .entry)) (now (below .entry)) b next (now (marks .exit)) ⌝ }
 {
     if search_choices::is_marked(below, b) {
@@ -394,22 +404,22 @@ fn jumps(marks: &mut [bool; 64], below: &[bool; 64], b: usize, next: usize) -> b
 // The number of the choice that takes a row for a stray row: its own where several rows fit and there is one left, or where there is none one that it
 // shares with choices far above it; else the last one that the stray row rests on.
 fn choice(several: bool, next: usize, left: usize, marks: &[bool]) -> usize
-    requires { ⌜ (0 < next) × (next ≤ 64) ⌝ }
-    ensures { λ r. ⌜ r < 64 ⌝ }
+    requires { ⌜ (0 < next) × (next ≤ most-choices) ⌝ }
+    ensures { λ r. ⌜ r < most-choices ⌝ }
 {
     if several {
-        if next < CHOICES {
+        if next < MOST_CHOICES {
             return next;
         }
-        return 1 + left % (CHOICES - 1);
+        return 1 + left % (MOST_CHOICES - 1);
     }
     search_choices::last(marks, next)
 }
 
 // The next number for a choice below one.
 fn following(b: usize, next: usize) -> usize
-    requires { ⌜ (b < 64) × (next ≤ 64) ⌝ }
-    ensures { λ r. ⌜ (b < r) × (next ≤ r) × (r ≤ 64) ⌝ }
+    requires { ⌜ (b < most-choices) × (next ≤ most-choices) ⌝ }
+    ensures { λ r. ⌜ (b < r) × (next ≤ r) × (r ≤ most-choices) ⌝ }
 {
     if b < next {
         return next;
@@ -426,7 +436,7 @@ fn below_or_0(first: usize, rows: usize) -> usize
 
 // The row whose turn is the i-th.
 fn turn(first: usize, rows: usize, i: usize) -> usize
-    requires { ⌜ (first < rows) × (i < rows) × (rows ≤ 40) ⌝ }
+    requires { ⌜ (first < rows) × (i < rows) × (rows ≤ most-rows) ⌝ }
     ensures { λ r. ⌜ (r ≡ turned first rows i) × (r < rows) ⌝ }
 {
     let k = first + i;
@@ -439,62 +449,62 @@ fn turn(first: usize, rows: usize, i: usize) -> usize
 // Whether listed row k is refuted already as what the stray row u of a view becomes: it is like the last one that was, or a value of it is
 // struck.
 fn is_refuted(
-    p: &[usize; 1184],
-    st: &[usize; 533],
-    lv: &[usize; 533],
+    p: &[usize; PLAN_NUMBERS],
+    st: &[usize; SLOTS],
+    lv: &[usize; SLOTS],
     view: usize,
     u: &[usize; 4],
     last: usize,
     k: usize,
-    below: &[bool; 64],
-    sl: &[usize; 129],
-    sm: &[bool; 4096],
-    marks: &mut [bool; 64],
+    below: &[bool; MOST_CHOICES],
+    sl: &[usize; NOGOOD_NUMBERS],
+    sm: &[bool; NOGOOD_MARKS],
+    marks: &mut [bool; MOST_CHOICES],
 ) -> bool
-    requires { ⌜ k < 40 ⌝ }
+    requires { ⌜ k < most-rows ⌝ }
     ensures { λ r. ⌜ RefutedAs r (now (p .entry)) (now (st .entry)) (now (lv .entry)) (now (u .entry)) last k (now (below .entry)) (now (sl .entry)) (now (sm .entry)) (now (marks .entry)) (now (marks .exit)) ⌝ }
 {
-    if view_of(p, k) != view {
+    if tableau_parts::view_at(p, k) != view {
         return false;
     }
-    if search_symmetry::is_mirrored(p, st, lv, below, u, last, k) {
+    if search_symmetry::are_alike(p, st, lv, below, u, last, k) {
         return true;
     }
-    search_learning::is_struck(p, u, k, sl, sm, marks)
+    search_learning::is_excluded(p, u, k, sl, sm, marks)
 }
 
 // Looks below a settled state for a good one, at most so many choices deep. True: it stands in the words. False: there is none, the words are
 // as they were, and the choices that this rests on are marked. Values that were refuted on the way are kept in a table. The last stray row that
 // became a listed one is u.
 fn seek(
-    p: &[usize; 1184],
-    st: &mut [usize; 533],
-    lv: &mut [usize; 533],
-    asked: bool,
+    p: &[usize; PLAN_NUMBERS],
+    st: &mut [usize; SLOTS],
+    lv: &mut [usize; SLOTS],
+    goal: Goal,
     next: usize,
     left: usize,
-    marks: &mut [bool; 64],
-    sl: &mut [usize; 129],
-    sm: &mut [bool; 4096],
+    marks: &mut [bool; MOST_CHOICES],
+    sl: &mut [usize; NOGOOD_NUMBERS],
+    sm: &mut [bool; NOGOOD_MARKS],
     u: &[usize; 4],
 ) -> bool
-    requires { ⌜ (length (now st) ≡ 533) × (length (now lv) ≡ 533) × (0 < next) × (next ≤ 64) × (length (now sl) ≡ 129) × (length (now sm) ≡ 4096) ⌝ }
-    ensures { λ r. ⌜ ((x : Sheet) → Ready (now (p .entry)) x → Begins x (sheetBy asked x) (now (st .entry)) left → Levelled (now (st .entry)) (now (lv .entry)) next → Strikes (sheetBy asked x) (now (st .entry)) (now (lv .entry)) (now (sl .entry)) (now (sm .entry)) → SoughtBy r x (sheetBy asked x) (now (st .entry)) (now (lv .entry)) (now (st .exit)) (now (lv .exit)) (now (marks .exit)) (now (sl .exit)) (now (sm .exit))) ⌝ }
+    requires { ⌜ (length (now st) ≡ slot-end) × (length (now lv) ≡ slot-end) × (0 < next) × (next ≤ most-choices) × (length (now sl) ≡ nogood-numbers) × (length (now sm) ≡ nogood-marks) ⌝ }
+    ensures { λ r. ⌜ ((x : Sheet) → ReadyPlan (now (p .entry)) x → Started x (sheetBy goal x) (now (st .entry)) left → Levelled (now (st .entry)) (now (lv .entry)) next → Nogoods (sheetBy goal x) (now (st .entry)) (now (lv .entry)) (now (sl .entry)) (now (sm .entry)) → SoughtBy r x (sheetBy goal x) (now (st .entry)) (now (lv .entry)) (now (st .exit)) (now (lv .exit)) (now (marks .exit)) (now (sl .exit)) (now (sm .exit))) ⌝ }
     ensures { λ r. ⌜ (length (now (st .exit)) ≡ length (now (st .entry))) × (length (now (lv .exit)) ≡ length (now (lv .entry))) × (length (now (sl .exit)) ≡ length (now (sl .entry))) × (length (now (sm .exit)) ≡ length (now (sm .entry))) ⌝ }
 {
     if left == 0 {
         return false;
     }
-    let f = judge_state(p, st, lv, asked, marks, u);
+    let f = judge_state(p, st, lv, goal, marks, u);
     if f.done {
         return f.good;
     }
     let b = choice(f.several, next, left, marks);
     let view = f.view as usize;
     let deeper = following(b, next);
-    let rows = row_count(p);
+    let rows = tableau_parts::row_count(p);
     let first = below_or_0(f.first as usize, rows);
-    let mut below = [false; CHOICES];
+    let mut below = [false; MOST_CHOICES];
     let mut last = MOST_ROWS;
     let mut i = 0;
     while i < rows {
@@ -510,7 +520,7 @@ fn seek(
             p,
             st,
             lv,
-            asked,
+            goal,
             deeper,
             left - 1,
             &mut below,
@@ -533,25 +543,25 @@ fn seek(
 }
 
 // Makes the head of listed row i's copy the row. False where that cannot be.
-fn settle_row(p: &[usize; 1184], st: &mut [usize], i: usize) -> bool
-    requires { ⌜ (length (now st) ≡ 533) × (i < 40) ⌝ }
-    ensures { λ r. ⌜ ((x : Sheet) → Ready (now (p .entry)) x → (asked : Bool) → i < rowCount (now (p .entry)) → Heads x (sheetBy asked x) (now (st .entry)) i → HeadsBy r x (sheetBy asked x) (now (st .exit)) (i + 1)) ⌝ }
+fn settle_row(p: &[usize; PLAN_NUMBERS], st: &mut [usize], i: usize) -> bool
+    requires { ⌜ (length (now st) ≡ slot-end) × (i < most-rows) ⌝ }
+    ensures { λ r. ⌜ ((x : Sheet) → ReadyPlan (now (p .entry)) x → (goal : Goal) → i < rowCount (now (p .entry)) → Heads x (sheetBy goal x) (now (st .entry)) i → HeadsBy r x (sheetBy goal x) (now (st .exit)) (i + 1)) ⌝ }
 {
-    let v = view_of(p, i);
+    let v = tableau_parts::view_at(p, i);
     if MOST_VIEWS <= v {
         return false;
     }
-    let u = head_of(p, st, 2 + v, i + 1);
-    let row = row_of(p, i);
+    let u = head_of(p, st, VIEW_BLOCKS + v, i + 1);
+    let row = tableau_parts::values_at(p, i);
     search_state::equate(st, &u, &row)
 }
 
 // Makes the head of each listed row's copy the row. False where that cannot be.
-fn settle(p: &[usize; 1184], st: &mut [usize]) -> bool
-    requires { ⌜ length (now st) ≡ 533 ⌝ }
-    ensures { λ r. ⌜ ((x : Sheet) → Ready (now (p .entry)) x → (asked : Bool) → stateOf top (now (st .entry)) ≡ free top → HeadsBy r x (sheetBy asked x) (now (st .exit)) (rowCount (now (p .entry)))) ⌝ }
+fn settle(p: &[usize; PLAN_NUMBERS], st: &mut [usize]) -> bool
+    requires { ⌜ length (now st) ≡ slot-end ⌝ }
+    ensures { λ r. ⌜ ((x : Sheet) → ReadyPlan (now (p .entry)) x → (goal : Goal) → stateOf top (now (st .entry)) ≡ free top → HeadsBy r x (sheetBy goal x) (now (st .exit)) (rowCount (now (p .entry)))) ⌝ }
 {
-    let listed = row_count(p);
+    let listed = tableau_parts::row_count(p);
     let mut i = 0;
     while i < listed {
         if !settle_row(p, st, i) {
@@ -579,26 +589,26 @@ fn copy(words: &[usize], out: &mut [usize])
 
 // Searches for a good state: of the whole sheet where the question is asked, else of its views alone. True: there is one, and it stands in the 533
 // words that are lent. More or fewer words are left as they are, and so are all where there is none.
-pub fn find(p: &[usize; 1184], asked: bool, out: &mut [usize]) -> bool
-    ensures { λ r. ⌜ ((x : Sheet) → Ready (now (p .entry)) x → length (now (out .entry)) ≡ 533 → FoundBy r x (sheetBy asked x) (now (out .exit))) ⌝ }
+pub fn find(p: &[usize; PLAN_NUMBERS], goal: Goal, out: &mut [usize]) -> bool
+    ensures { λ r. ⌜ ((x : Sheet) → ReadyPlan (now (p .entry)) x → length (now (out .entry)) ≡ slot-end → FoundBy r x (sheetBy goal x) (now (out .exit))) ⌝ }
     ensures { λ r. ⌜ (r ≡ false → now (out .exit) ≡ now (out .entry)) ⌝ }
-    ensures { λ r. ⌜ ((length (now (out .entry)) ≡ 533 → ⊥) → now (out .exit) ≡ now (out .entry)) ⌝ }
+    ensures { λ r. ⌜ ((length (now (out .entry)) ≡ slot-end → ⊥) → now (out .exit) ≡ now (out .entry)) ⌝ }
 {
-    let mut words = [0; 533];
+    let mut words = [0; SLOTS];
     search_state::free(&mut words);
     if !settle(p, &mut words) {
         return false;
     }
-    let mut levels = [0; 533];
+    let mut levels = [0; SLOTS];
     let first = [0; 4];
-    let mut marks = [false; CHOICES];
-    let mut sl = [0; 129];
-    let mut sm = [false; 4096];
+    let mut marks = [false; MOST_CHOICES];
+    let mut sl = [0; NOGOOD_NUMBERS];
+    let mut sm = [false; NOGOOD_MARKS];
     if !seek(
         p,
         &mut words,
         &mut levels,
-        asked,
+        goal,
         1,
         DEPTH,
         &mut marks,

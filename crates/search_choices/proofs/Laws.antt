@@ -4,16 +4,16 @@ use mathlib.Core.Bool.{Bool, true}
 use mathlib.Core.List.{List, [], _∷_}
 use Prim.Native.Nat.{ℕ, zero, suc}
 use lib.ListN.{getD, set}
-use Rattle.search_choices.specs.Marks.{Within}
+use Rattle.search_choices.specs.Choices.{Subset}
 
-pub within-same : (a : List Bool) → Within a a
+pub within-same : (a : List Bool) → Subset a a
 within-same a k e = e
 
-pub within-trans : (a b c : List Bool) → Within a b → Within b c → Within a c
+pub within-trans : (a b c : List Bool) → Subset a b → Subset b c → Subset a c
 within-trans a b c f g k e = g k (f k e)
 
 -- a mark set
-pub within-set : (a : List Bool) (k : ℕ) → Within a (set a k true)
+pub within-set : (a : List Bool) (k : ℕ) → Subset a (set a k true)
 within-set [] k j e = e
 within-set (x ∷ a) zero zero e = refl
 within-set (x ∷ a) zero (suc j) e = e

@@ -9,13 +9,13 @@ use borrow.Author.Count.{below-more}
 use lib.ListN.{length, getD, set, List·getD-eq-default}
 use lib.Seq.{getD-set-same, getD-set-other}
 use Rattle.case_verdicts.proofs.Decide.{same?, less?}
-use Rattle.search_choices.specs.Marks.{Within, MarksAdded, LastMarked}
+use Rattle.search_choices.specs.Choices.{Subset, MarksAdded, LastMarked}
 use Rattle.search_choices.proofs.Laws.{within-same, within-trans, within-set, set-there}
 
 -- ---- the first n marks of others added
 
 pub record AddedTo (old others : List Bool) (skip : ℕ) (marks : List Bool) (n : ℕ) : Type 0 where
-  pub more : Within old marks
+  pub more : Subset old marks
   pub added : (k : ℕ) → k < n → (k ≡ skip → ⊥) → getD others k true ≡ true → getD marks k true ≡ true
   pub only : (k : ℕ) → k < length old → getD marks k true ≡ true → (getD old k true ≡ true) ⊎ ((k ≡ skip → ⊥) × (getD others k true ≡ true))
 

@@ -2,7 +2,7 @@
 ghost use mathlib.Core.Path.{_≡_};
 ghost use mathlib.Core.Bool.{true};
 ghost use lib.ListN.{getD};
-ghost use Rattle.search_choices.specs.Marks.{MarksAdded, MarksPut, Cleared, LastMarked};
+ghost use Rattle.search_choices.specs.Choices.{MarksAdded, MarksPut, Cleared, LastMarked};
 
 // Whether choice k is marked; one past the marks is.
 pub fn is_marked(marks: &[bool], k: usize) -> bool

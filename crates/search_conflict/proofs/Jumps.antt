@@ -8,6 +8,7 @@ use native.Mathlib.Omega.{arith}
 use borrow.Author.Tests.{lt-ltb, le-ltb}
 use lib.Dec.{ltb}
 use lib.ListN.{length, getD, List·getD-eq-default}
+use Rattle.tableau_layout.specs.Layout.{slot-end}
 use Rattle.list_laws.proofs.Lists.{inside}
 use Rattle.query_meaning.specs.Meaning.{In}
 use Rattle.case_verdicts.specs.Verdict.{Sheet}
@@ -16,8 +17,8 @@ use Rattle.case_verdicts.specs.Tableau.{State}
 use Rattle.case_verdicts.specs.Search.{Keeps, Below, Equation, equations, Met, Refuted, RefutedBy}
 use Rattle.case_verdicts.specs.Words.{stateOf}
 use Rattle.case_verdicts.proofs.Decide.{less?, same?, in?}
-use Rattle.search_choices.specs.Marks.{Within}
-use Rattle.search_conflict.specs.Reasons.{kept, relaxed, Rests}
+use Rattle.search_choices.specs.Choices.{Subset}
+use Rattle.search_conflict.specs.Conflict.{kept, relaxed, Rests}
 use Rattle.search_conflict.proofs.Relaxed.{Owns}
 
 -- each slot has a constant or its own made-up value
@@ -35,12 +36,12 @@ below-by s t plain same = record {
       (plain n);
 }
 
-module _ (ws lv : List ℕ) (size : length ws ≡ 533) (own : Owns ws) where
+module _ (ws lv : List ℕ) (size : length ws ≡ slot-end) (own : Owns ws) where
   state-plain : Plain (stateOf top ws)
   state-plain n = ⊎-elim
       (λ lt. subst (λ v. (v < top) ⊎ (v ≡ top + n)) (inside ws n 0 (top + n) (omega arith)) (own n lt))
       (λ le. inr (List·getD-eq-default ws (top + n) (omega arith)))
-      (less? n 533)
+      (less? n slot-end)
 
   pub relaxed-plain : (marks : List Bool) → Plain (relaxed ws lv marks)
   unfolding relaxed
@@ -64,7 +65,7 @@ module _ (ws lv : List ℕ) (size : length ws ≡ 533) (own : Owns ws) where
   relaxed-kept marks n e = ap (λ b. cond b (stateOf top ws n) (top + n)) e
 
   -- more marks: nothing below is good still
-  pub rests-more : (y : Sheet) (a b : List Bool) → Within a b → Rests y ws lv a → Rests y ws lv b
+  pub rests-more : (y : Sheet) (a b : List Bool) → Subset a b → Rests y ws lv a → Rests y ws lv b
   rests-more y a b w r = record {
     none = λ t below good. r .none t (below-by (relaxed ws lv a) t (relaxed-plain a) (λ n lt.
         let (k, e) = relaxed-constant a n lt in
@@ -74,7 +75,7 @@ module _ (ws lv : List ℕ) (size : length ws ≡ 533) (own : Owns ws) where
 
   -- ---- one choice: the slots of u are bound, out has their values, and they belong to choice b
 
-  module _ (out lw u r : List ℕ) (b : ℕ) (out-size : length out ≡ 533) (out-own : Owns out)
+  module _ (out lw u r : List ℕ) (b : ℕ) (out-size : length out ≡ slot-end) (out-own : Owns out)
       (levels : (n : ℕ) → In (top + n) u → getD lw n 0 ≡ b) (others-level : (n : ℕ) → (In (top + n) u → ⊥) → getD lw n 0 ≡ getD lv n 0)
       (fresh : (n : ℕ) → In (top + n) u → stateOf top ws n ≡ top + n) (others : (n : ℕ) → (In (top + n) u → ⊥) → stateOf top out n ≡ stateOf top ws n) where
     -- without the choice the state is what it was before
@@ -107,7 +108,7 @@ module _ (ws lv : List ℕ) (size : length ws ≡ 533) (own : Owns ws) where
         plain n = ⊎-elim
             (λ lt. either (kept lw below n) (subst (λ v. (v < top) ⊎ (v ≡ top + n)) (inside out n 0 (top + n) (omega arith)) (out-own n lt)))
             (λ le. either (kept lw below n) (inr (List·getD-eq-default out (top + n) (omega arith))))
-            (less? n 533)
+            (less? n slot-end)
           where
             either : (k : Bool) → (stateOf top out n < top) ⊎ (stateOf top out n ≡ top + n) → (cond k (stateOf top out n) (top + n) < top) ⊎ (cond k (stateOf top out n) (top + n) ≡ top + n)
             either true o = o

@@ -7,13 +7,15 @@ use Prim.Native.Nat.{ℕ, zero, suc, _+_, _*_, _<_, _≤_}
 use native.Mathlib.Omega.{arith}
 use borrow.Author.Count.{below-more}
 use lib.ListN.{length, getD, set, List·getD-eq-default}
+use Rattle.query_layout.specs.Layout.{block-head, names}
+use Rattle.tableau_layout.specs.Layout.{blocks-at, slot-end}
 use Rattle.case_verdicts.specs.Sheets.{top}
-use Rattle.search_choices.specs.Marks.{Within}
+use Rattle.search_choices.specs.Choices.{Subset}
 use Rattle.search_choices.proofs.Laws.{within-same, within-trans, within-set, set-there}
-use Rattle.search_conflict.specs.Reasons.{kept, Held, AtomHeld, Marked, HeadMarked, SlotMarked, FactMarked}
+use Rattle.search_conflict.specs.Conflict.{kept, Held, AtomHeld, Marked, HeadMarked, SlotMarked, FactMarked}
 
 -- what is held stays held by more marks
-pub held-more : (ws lv : List ℕ) (a b : List Bool) (t : ℕ) → Within a b → Held ws lv a t → Held ws lv b t
+pub held-more : (ws lv : List ℕ) (a b : List Bool) (t : ℕ) → Subset a b → Held ws lv a t → Held ws lv b t
 held-more ws lv a b t w h lt = w (getD lv t 0) (h lt)
 
 module _ (ws lv : List ℕ) (t : ℕ) (old : List Bool) where
@@ -32,7 +34,7 @@ module _ (p ws lv : List ℕ) (i : ℕ) where
   pub fact-none : (old : List Bool) → FactMarked p ws lv i 0 old old
   fact-none old = record { more = within-same old; slots = λ c lt. absurd (omega arith) }
 
-  pub fact-constant : (n : ℕ) (old marks : List Bool) → 533 ≤ getD p (i * 5 + 1 + n) 0 → FactMarked p ws lv i n old marks → FactMarked p ws lv i (n + 1) old marks
+  pub fact-constant : (n : ℕ) (old marks : List Bool) → slot-end ≤ getD p (i * 5 + 1 + n) 0 → FactMarked p ws lv i n old marks → FactMarked p ws lv i (n + 1) old marks
   fact-constant n old marks le f = record { more = f .more; slots = below-more _ n (f .slots) (λ lt. absurd (omega arith)) }
 
   pub fact-slot : (n : ℕ) (old marks next : List Bool) → FactMarked p ws lv i n old marks → SlotMarked ws lv (getD p (i * 5 + 1 + n) 0) marks next → FactMarked p ws lv i (n + 1) old next
@@ -47,10 +49,10 @@ module _ (p ws lv : List ℕ) where
   pub head-none : (old : List Bool) → HeadMarked p ws lv 0 old old
   head-none old = record { more = within-same old; slots = λ c lt. absurd (omega arith) }
 
-  pub head-constant : (n : ℕ) (old marks : List Bool) → 13 ≤ getD p (860 + n) 0 → HeadMarked p ws lv n old marks → HeadMarked p ws lv (n + 1) old marks
+  pub head-constant : (n : ℕ) (old marks : List Bool) → names ≤ getD p ((blocks-at + block-head) + n) 0 → HeadMarked p ws lv n old marks → HeadMarked p ws lv (n + 1) old marks
   head-constant n old marks le f = record { more = f .more; slots = below-more _ n (f .slots) (λ lt. absurd (omega arith)) }
 
-  pub head-slot : (n : ℕ) (old marks next : List Bool) → HeadMarked p ws lv n old marks → SlotMarked ws lv (getD p (860 + n) 0) marks next → HeadMarked p ws lv (n + 1) old next
+  pub head-slot : (n : ℕ) (old marks next : List Bool) → HeadMarked p ws lv n old marks → SlotMarked ws lv (getD p ((blocks-at + block-head) + n) 0) marks next → HeadMarked p ws lv (n + 1) old next
   head-slot n old marks next f s = record {
     more = within-trans old marks next (f .more) (s .more);
     slots = below-more _ n (λ c lt in-names. held-more ws lv marks next _ (s .more) (f .slots c lt in-names)) (λ in-names. s .slot);

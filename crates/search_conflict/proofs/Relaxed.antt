@@ -8,6 +8,7 @@ use native.Mathlib.Omega.{arith}
 use borrow.Author.Tests.{lt-ltb, le-ltb}
 use lib.Dec.{ltb}
 use lib.ListN.{length, getD}
+use Rattle.tableau_layout.specs.Layout.{slot-end}
 use Rattle.list_laws.proofs.Lists.{inside}
 use Rattle.query_join.specs.Joins.{Becomes, AtomMet, AllMet, Given, headRow}
 use Rattle.case_verdicts.specs.Sheets.{top}
@@ -17,15 +18,15 @@ use Rattle.case_verdicts.proofs.Decide.{less?}
 use Rattle.tableau_plan.specs.Plan.{slotValue, tableauAt, tableauFacts}
 use Rattle.tableau_plan.proofs.Tableau.{tableau-length, tableau-relation, tableau-term}
 use Rattle.query_answers.specs.Answers.{WitnessAt}
-use Rattle.search_conflict.specs.Reasons.{kept, relaxed, Held, AtomHeld}
+use Rattle.search_conflict.specs.Conflict.{kept, relaxed, Held, AtomHeld}
 
 -- each word is a constant, or the own made-up value of its slot
 abbrev pub Owns : List ℕ → Type 0
-Owns ws = (n : ℕ) → n < 533 → (getD ws n 0 < top) ⊎ (getD ws n 0 ≡ top + n)
+Owns ws = (n : ℕ) → n < slot-end → (getD ws n 0 < top) ⊎ (getD ws n 0 ≡ top + n)
 
-module _ (ws lv : List ℕ) (marks : List Bool) (size : length ws ≡ 533) (own : Owns ws) where
+module _ (ws lv : List ℕ) (marks : List Bool) (size : length ws ≡ slot-end) (own : Owns ws) where
   -- a slot that is held has the same value
-  pub relaxed-held : (t : ℕ) → t < 533 → Held ws lv marks t → relaxed ws lv marks t ≡ stateOf top ws t
+  pub relaxed-held : (t : ℕ) → t < slot-end → Held ws lv marks t → relaxed ws lv marks t ≡ stateOf top ws t
   unfolding relaxed
   relaxed-held t lt h = go (kept lv marks t) refl (own t lt)
     where
@@ -34,12 +35,12 @@ module _ (ws lv : List ℕ) (marks : List Bool) (size : length ws ≡ 533) (own 
       go false e (inl small) = absurd (true≢false (sym (h small) ∙ e))
       go false e (inr is) = sym (inside ws t (top + t) 0 (omega arith) ∙ is)
 
-  held-value : (t : ℕ) → (t < 533 → Held ws lv marks t) → slotValue (relaxed ws lv marks) t ≡ slotValue (stateOf top ws) t
+  held-value : (t : ℕ) → (t < slot-end → Held ws lv marks t) → slotValue (relaxed ws lv marks) t ≡ slotValue (stateOf top ws) t
   unfolding slotValue
   held-value t h = ⊎-elim
-      (λ lt. ap (λ b. cond b (relaxed ws lv marks t) (t - 533)) (lt-ltb t 533 lt) ∙ relaxed-held t lt (h lt) ∙ sym (ap (λ b. cond b (stateOf top ws t) (t - 533)) (lt-ltb t 533 lt)))
-      (λ le. ap (λ b. cond b (relaxed ws lv marks t) (t - 533)) (le-ltb t 533 le) ∙ sym (ap (λ b. cond b (stateOf top ws t) (t - 533)) (le-ltb t 533 le)))
-      (less? t 533)
+      (λ lt. ap (λ b. cond b (relaxed ws lv marks t) (t - slot-end)) (lt-ltb t slot-end lt) ∙ relaxed-held t lt (h lt) ∙ sym (ap (λ b. cond b (stateOf top ws t) (t - slot-end)) (lt-ltb t slot-end lt)))
+      (λ le. ap (λ b. cond b (relaxed ws lv marks t) (t - slot-end)) (le-ltb t slot-end le) ∙ sym (ap (λ b. cond b (stateOf top ws t) (t - slot-end)) (le-ltb t slot-end le)))
+      (less? t slot-end)
 
   -- a fact whose atom's slots are held is the same
   module _ (p : List ℕ) (from n : ℕ) where

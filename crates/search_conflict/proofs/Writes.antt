@@ -10,7 +10,7 @@ use lib.Seq.{getD-set-same, getD-set-other}
 use Rattle.query_meaning.specs.Meaning.{In}
 use Rattle.case_verdicts.specs.Sheets.{top}
 use Rattle.case_verdicts.proofs.Decide.{same?}
-use Rattle.search_conflict.specs.Reasons.{SlotAssigned, Assigned}
+use Rattle.search_conflict.specs.Conflict.{SlotAssigned, Assigned}
 
 -- ---- lists
 

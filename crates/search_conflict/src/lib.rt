@@ -1,34 +1,30 @@
 // What a failure of the search rests on: the choices that bound the slots of the facts it used.
+use query_layout::COLUMNS;
+use query_layout::FACT_NUMBERS;
+use query_layout::HEAD_AT;
+use query_layout::MADE_UP;
+use query_layout::NAMES;
+use sheet_format::MOST_ATOMS;
+use tableau_layout::BLOCKS_AT;
+use tableau_layout::PLAN_NUMBERS;
+use tableau_layout::SLOTS;
+use tableau_layout::TABLEAU_ATOMS;
 ghost use mathlib.Core.Path.{_≡_};
 ghost use Prim.Native.Nat.{ℕ, _+_, _<_, min};
 ghost use lib.ListN.{length, getD};
-ghost use Rattle.search_conflict.specs.Reasons.{Marked, HeadMarked, SlotMarked, FactMarked, SlotAssigned, Assigned};
-
-// Constants lie below it.
-const TOP: usize = 1000000;
-
-// A term of the tableau below this is a slot.
-const SLOTS: usize = 533;
-
-const ATOMS: usize = 6;
-
-const MOST_FACTS: usize = 126;
-
-const COLUMNS: usize = 4;
-
-const WIDTH: usize = 5;
-
-const NAMES: usize = 13;
+ghost use Rattle.sheet_format.specs.Limits.{most-atoms};
+ghost use Rattle.tableau_layout.specs.Layout.{slot-end, tableau-atoms};
+ghost use Rattle.search_conflict.specs.Conflict.{Marked, HeadMarked, SlotMarked, FactMarked, SlotAssigned, Assigned};
 
 // Where the question's head stands in a plan.
-const HEAD: usize = 860;
+const HEAD: usize = BLOCKS_AT + HEAD_AT;
 
 // Marks the choice that bound a slot, if it is bound.
 fn mark_slot(st: &[usize], lv: &[usize], t: usize, marks: &mut [bool])
     requires { ⌜ (t < length (now st)) × (t < length (now lv)) ⌝ }
     ensures { λ r. ⌜ SlotMarked (now (st .entry)) (now (lv .entry)) t (now (marks .entry)) (now (marks .exit)) ⌝ }
 {
-    if TOP <= st[t] {
+    if MADE_UP <= st[t] {
         return;
     }
     let k = lv[t];
@@ -39,13 +35,13 @@ fn mark_slot(st: &[usize], lv: &[usize], t: usize, marks: &mut [bool])
 }
 
 // Marks the choices that bound slots of atom i of the tableau.
-fn mark_atom(p: &[usize; 1184], st: &[usize], lv: &[usize], i: usize, marks: &mut [bool])
-    requires { ⌜ (i < 126) × (length (now st) ≡ 533) × (length (now lv) ≡ 533) ⌝ }
+fn mark_atom(p: &[usize; PLAN_NUMBERS], st: &[usize], lv: &[usize], i: usize, marks: &mut [bool])
+    requires { ⌜ (i < tableau-atoms) × (length (now st) ≡ slot-end) × (length (now lv) ≡ slot-end) ⌝ }
     ensures { λ r. ⌜ FactMarked (now (p .entry)) (now (st .entry)) (now (lv .entry)) i 4 (now (marks .entry)) (now (marks .exit)) ⌝ }
 {
     let mut c = 0;
     while c < COLUMNS {
-        let t = p[i * WIDTH + 1 + c];
+        let t = p[i * FACT_NUMBERS + 1 + c];
         c += 1;
         if SLOTS <= t {
             continue;
@@ -56,15 +52,15 @@ fn mark_atom(p: &[usize; 1184], st: &[usize], lv: &[usize], i: usize, marks: &mu
 
 // Marks the choices that a row rests on: those that bound slots of the atoms, counted from `from`, whose facts give it.
 pub fn mark_facts(
-    p: &[usize; 1184],
+    p: &[usize; PLAN_NUMBERS],
     st: &[usize],
     lv: &[usize],
     from: usize,
-    at: [usize; 6],
+    at: [usize; MOST_ATOMS],
     n: usize,
     marks: &mut [bool],
 )
-    ensures { λ r. ⌜ (length (now (st .entry)) ≡ 533 → length (now (lv .entry)) ≡ 533 → ((j : ℕ) → j < min n 6 → from + getD at j 0 < 126) → Marked (now (p .entry)) (now (st .entry)) (now (lv .entry)) from at (min n 6) (now (marks .entry)) (now (marks .exit))) ⌝ }
+    ensures { λ r. ⌜ (length (now (st .entry)) ≡ slot-end → length (now (lv .entry)) ≡ slot-end → ((j : ℕ) → j < min n most-atoms → from + getD at j 0 < tableau-atoms) → Marked (now (p .entry)) (now (st .entry)) (now (lv .entry)) from at (min n most-atoms) (now (marks .entry)) (now (marks .exit))) ⌝ }
 {
     if st.len() != SLOTS {
         return;
@@ -73,18 +69,18 @@ pub fn mark_facts(
         return;
     }
     let mut j = 0;
-    while j < ATOMS {
+    while j < MOST_ATOMS {
         if n <= j {
             return;
         }
         let a = at[j];
-        if MOST_FACTS <= a {
+        if TABLEAU_ATOMS <= a {
             return;
         }
-        if MOST_FACTS <= from {
+        if TABLEAU_ATOMS <= from {
             return;
         }
-        if MOST_FACTS <= from + a {
+        if TABLEAU_ATOMS <= from + a {
             return;
         }
         mark_atom(p, st, lv, from + a, marks);
@@ -93,8 +89,8 @@ pub fn mark_facts(
 }
 
 // Marks the choices that bound variables of the question's head.
-pub fn mark_head(p: &[usize; 1184], st: &[usize], lv: &[usize], marks: &mut [bool])
-    ensures { λ r. ⌜ (length (now (st .entry)) ≡ 533 → length (now (lv .entry)) ≡ 533 → HeadMarked (now (p .entry)) (now (st .entry)) (now (lv .entry)) 4 (now (marks .entry)) (now (marks .exit))) ⌝ }
+pub fn mark_head(p: &[usize; PLAN_NUMBERS], st: &[usize], lv: &[usize], marks: &mut [bool])
+    ensures { λ r. ⌜ (length (now (st .entry)) ≡ slot-end → length (now (lv .entry)) ≡ slot-end → HeadMarked (now (p .entry)) (now (st .entry)) (now (lv .entry)) 4 (now (marks .entry)) (now (marks .exit))) ⌝ }
 {
     if st.len() != SLOTS {
         return;
@@ -117,10 +113,10 @@ pub fn mark_head(p: &[usize; 1184], st: &[usize], lv: &[usize], marks: &mut [boo
 fn assign_slot(lv: &mut [usize], v: usize, b: usize)
     ensures { λ r. ⌜ SlotAssigned (now (lv .entry)) (now (lv .exit)) v b ⌝ }
 {
-    if v < TOP {
+    if v < MADE_UP {
         return;
     }
-    let n = v - TOP;
+    let n = v - MADE_UP;
     if lv.len() <= n {
         return;
     }

@@ -9,9 +9,10 @@ use borrow.Author.Count.{below-more}
 use lib.ListN.{length, getD, set, length-set}
 use lib.Seq.{getD-set-same, getD-set-other}
 use Rattle.case_verdicts.specs.Sheets.{top}
-use Rattle.search_nogoods.specs.Strikes.{slotAt, valueAt, marksAt, countOf, SameEntry, Added}
+use Rattle.search_nogoods.specs.Nogoods.{slotAt, valueAt, marksAt, countOf, SameEntry, Added}
 use Rattle.tableau_plan.specs.Plan.{rowAt}
-use Rattle.search_learning.specs.Rows.{MarkedBy, StruckRow, StruckBy, Unmarked, Alone, Learned}
+use Rattle.search_learning.specs.Rows.{MarkedBy, ExcludedRow, StruckBy, Unmarked, Alone, Learned}
+use Rattle.search_nogoods.specs.Sizes.{most-choices}
 
 -- the first n columns are alike, or have the two values
 pub record Same (u r : List ℕ) (v w n : ℕ) : Type 0 where
@@ -38,7 +39,7 @@ learned-added u r sl sm below n w tl tm alone added = record { each = λ f lt. g
 
 -- ---- a value that is struck
 
-pub struck-yes : (r : Bool) (p u : List ℕ) (k : ℕ) (sl : List ℕ) (sm old marks : List Bool) → r ≡ true → StruckBy r p u k sl sm old marks → StruckRow p u k sl sm old marks
+pub struck-yes : (r : Bool) (p u : List ℕ) (k : ℕ) (sl : List ℕ) (sm old marks : List Bool) → r ≡ true → StruckBy r p u k sl sm old marks → ExcludedRow p u k sl sm old marks
 struck-yes true p u k sl sm old marks e s = s
 struck-yes false p u k sl sm old marks e s = absurd (true≢false (sym e))
 
@@ -56,5 +57,5 @@ struck-marked false p u k sl sm old marks c e few lt slot value m = m
 pub unmarked : (old : List Bool) (k : ℕ) → Unmarked old k (set old k false)
 unmarked old k = record { same = length-set old k false; here = λ small l. getD-set-same old k false true l; others = λ j ne. getD-set-other old k j false true ne }
 
-pub unmarked-none : (old : List Bool) (k : ℕ) → 64 ≤ k → Unmarked old k old
+pub unmarked-none : (old : List Bool) (k : ℕ) → most-choices ≤ k → Unmarked old k old
 unmarked-none old k le = record { same = refl; here = λ small l. absurd (omega arith); others = λ j ne. refl }

@@ -10,49 +10,50 @@ use borrow.Author.Count.{below-more}
 use lib.ListN.{length, getD, set, drop, length-set, length-take, length-drop}
 use lib.Seq.{getD-set-same, getD-set-other, getD-take, getD-drop, ext-getD}
 use Rattle.list_laws.proofs.Lists.{inside}
-use Rattle.search_nogoods.specs.Strikes.{slotAt, valueAt, marksAt, countOf, SameEntry, Added, Forgot}
-use Rattle.search_nogoods.specs.Parts.{Copied, Moved, Free, Kept, FreeTo, NoneTo}
+use Rattle.search_nogoods.specs.Nogoods.{slotAt, valueAt, marksAt, countOf, SameEntry, Added, Forgot}
+use Rattle.search_nogoods.specs.Parts.{Copied, Moved, Free, KeptEntries, FreeTo, NoneTo}
+use Rattle.search_nogoods.specs.Sizes.{most-choices, most-nogoods, nogood-numbers, nogood-marks, nogood-count-at}
 
 -- an empty table has no entries
-pub none-there : (sl : List ℕ) → getD sl 128 0 ≡ 0 → (e : ℕ) → e < countOf sl → ⊥
+pub none-there : (sl : List ℕ) → getD sl nogood-count-at 0 ≡ 0 → (e : ℕ) → e < countOf sl → ⊥
 none-there sl z e lt = omega arith
 
 -- ---- marks
 
-marks-length : (sm : List Bool) (e : ℕ) → length sm ≡ 4096 → e < 64 → length (marksAt sm e) ≡ 64
+marks-length : (sm : List Bool) (e : ℕ) → length sm ≡ nogood-marks → e < most-nogoods → length (marksAt sm e) ≡ most-choices
 marks-length sm e l lt = simp (length-take, length-drop) (omega arith)
 
-mark-at : (sm : List Bool) (e k : ℕ) (d : Bool) → k < 64 → getD (marksAt sm e) k d ≡ getD sm (e * 64 + k) d
-mark-at sm e k d lt = getD-take 64 (drop (e * 64) sm) k d lt ∙ getD-drop (e * 64) sm k d
+mark-at : (sm : List Bool) (e k : ℕ) (d : Bool) → k < most-choices → getD (marksAt sm e) k d ≡ getD sm (e * most-choices + k) d
+mark-at sm e k d lt = getD-take most-choices (drop (e * most-choices) sm) k d lt ∙ getD-drop (e * most-choices) sm k d
 
-pub free-at : (sm : List Bool) (b e : ℕ) → length sm ≡ 4096 → e < 64 → b < 64 → getD sm (e * 64 + b) false ≡ false → Free sm b e
-free-at sm b e l lt small off = mark-at sm e b true small ∙ inside sm (e * 64 + b) true false (omega arith) ∙ off
+pub free-at : (sm : List Bool) (b e : ℕ) → length sm ≡ nogood-marks → e < most-nogoods → b < most-choices → getD sm (e * most-choices + b) false ≡ false → Free sm b e
+free-at sm b e l lt small off = mark-at sm e b true small ∙ inside sm (e * most-choices + b) true false (omega arith) ∙ off
 
 -- entries with the same marks one by one have the same marks
-marks-same : (sm tm : List Bool) (e f : ℕ) → length sm ≡ 4096 → length tm ≡ 4096 → e < 64 → f < 64
-    → ((k : ℕ) → k < 64 → getD tm (f * 64 + k) false ≡ getD sm (e * 64 + k) false) → marksAt tm f ≡ marksAt sm e
+marks-same : (sm tm : List Bool) (e f : ℕ) → length sm ≡ nogood-marks → length tm ≡ nogood-marks → e < most-nogoods → f < most-nogoods
+    → ((k : ℕ) → k < most-choices → getD tm (f * most-choices + k) false ≡ getD sm (e * most-choices + k) false) → marksAt tm f ≡ marksAt sm e
 marks-same sm tm e f ls lt se sf each =
     let long = marks-length tm f lt sf in
     let long′ = marks-length sm e ls se in
     ext-getD false (marksAt tm f) (marksAt sm e) (long ∙ sym long′) (λ k h. mark-at tm f k false (omega arith) ∙ each k (omega arith) ∙ sym (mark-at sm e k false (omega arith)))
 
 -- so have those that a copy left as they were
-marks-apart : (sm : List Bool) (to : ℕ) (src : List Bool) (from : ℕ) (tm : List Bool) (f : ℕ) → length sm ≡ 4096 → f < 64 → (f ≡ to → ⊥)
-    → Copied sm (to * 64) 64 src from tm → marksAt tm f ≡ marksAt sm f
+marks-apart : (sm : List Bool) (to : ℕ) (src : List Bool) (from : ℕ) (tm : List Bool) (f : ℕ) → length sm ≡ nogood-marks → f < most-nogoods → (f ≡ to → ⊥)
+    → Copied sm (to * most-choices) most-choices src from tm → marksAt tm f ≡ marksAt sm f
 marks-apart sm to src from tm f l small apart c =
     let long = c .long in
     marks-same sm tm f f l (omega arith) small small (λ k lt. pick k lt (decLt f to))
   where
-    pick : (k : ℕ) → k < 64 → Dec (f < to) → getD tm (f * 64 + k) false ≡ getD sm (f * 64 + k) false
-    pick k lt (yes h) = c .before (f * 64 + k) (omega arith)
-    pick k lt (no h) = c .after (f * 64 + k) (omega arith)
+    pick : (k : ℕ) → k < most-choices → Dec (f < to) → getD tm (f * most-choices + k) false ≡ getD sm (f * most-choices + k) false
+    pick k lt (yes h) = c .before (f * most-choices + k) (omega arith)
+    pick k lt (no h) = c .after (f * most-choices + k) (omega arith)
 
 -- ---- marks copied
 
 pub copied-none : (sm : List Bool) (to : ℕ) (src : List Bool) (from : ℕ) → Copied sm to 0 src from sm
 copied-none sm to src from = record { long = refl; here = λ l k lt. absurd (omega arith); before = λ x lt. refl; after = λ x ge. refl }
 
-pub copied-more : (sm : List Bool) (to n : ℕ) (src : List Bool) (from : ℕ) (tm : List Bool) (v : Bool) → to + n < 4096 → v ≡ getD src (from + n) false
+pub copied-more : (sm : List Bool) (to n : ℕ) (src : List Bool) (from : ℕ) (tm : List Bool) (v : Bool) → to + n < nogood-marks → v ≡ getD src (from + n) false
     → Copied sm to n src from tm → Copied sm to (n + 1) src from (set tm (to + n) v)
 copied-more sm to n src from tm v room e c = record {
   long = length-set tm (to + n) v ∙ c .long;
@@ -63,7 +64,7 @@ copied-more sm to n src from tm v room e c = record {
   after = λ x ge. getD-set-other tm (to + n) x v false (λ q. absurd (omega arith)) ∙ c .after x (omega arith);
 }
 
-pub copied-all : (sm : List Bool) (to n : ℕ) (src : List Bool) (from : ℕ) (tm : List Bool) → n ≡ 64 → Copied sm to n src from tm → Copied sm to 64 src from tm
+pub copied-all : (sm : List Bool) (to n : ℕ) (src : List Bool) (from : ℕ) (tm : List Bool) → n ≡ most-choices → Copied sm to n src from tm → Copied sm to most-choices src from tm
 copied-all sm to n src from tm e c = subst (λ (x : ℕ). Copied sm to x src from tm) e c
 
 -- ---- entries
@@ -77,8 +78,8 @@ same-trans al am e bl bm f cl cm g x y = record { slot = x .slot ∙ y .slot; va
 pub added-none : (sl : List ℕ) (sm : List Bool) (n w : ℕ) (marks : List Bool) → Added sl sm n w marks sl sm
 added-none sl sm n w marks = record { each = λ f lt. inl (f, lt, record { slot = refl; value = refl; marks = refl }) }
 
-pub added : (sl : List ℕ) (sm : List Bool) (n w : ℕ) (marks tm : List Bool) (e : ℕ) → e ≡ countOf sl → e < 64 → length sl ≡ 129 → length sm ≡ 4096
-    → length marks ≡ 64 → Copied sm (e * 64) 64 marks 0 tm → Added sl sm n w marks (set (set (set sl (e * 2) n) (e * 2 + 1) w) 128 (e + 1)) tm
+pub added : (sl : List ℕ) (sm : List Bool) (n w : ℕ) (marks tm : List Bool) (e : ℕ) → e ≡ countOf sl → e < most-nogoods → length sl ≡ nogood-numbers → length sm ≡ nogood-marks
+    → length marks ≡ most-choices → Copied sm (e * most-choices) most-choices marks 0 tm → Added sl sm n w marks (set (set (set sl (e * 2) n) (e * 2 + 1) w) nogood-count-at (e + 1)) tm
 added sl sm n w marks tm e count room ll lm k64 c = record { each = λ f lt. pick f (few f lt) (ℕ-discrete f e) }
   where
     one : List ℕ
@@ -88,23 +89,23 @@ added sl sm n w marks tm e count room ll lm k64 c = record { each = λ f lt. pic
     two = set one (e * 2 + 1) w
 
     tl : List ℕ
-    tl = set two 128 (e + 1)
+    tl = set two nogood-count-at (e + 1)
 
-    long : length two ≡ 129
+    long : length two ≡ nogood-numbers
     long = length-set one (e * 2 + 1) w ∙ length-set sl (e * 2) n ∙ ll
 
     few : (f : ℕ) → f < countOf tl → f < e + 1
-    few f lt = let h = long in let q = getD-set-same two 128 (e + 1) 0 (omega arith) in omega arith
+    few f lt = let h = long in let q = getD-set-same two nogood-count-at (e + 1) 0 (omega arith) in omega arith
 
     -- the words of other entries
-    apart : (x : ℕ) → (x ≡ e * 2 → ⊥) → (x ≡ e * 2 + 1 → ⊥) → (x ≡ 128 → ⊥) → getD tl x 0 ≡ getD sl x 0
-    apart x a b d = getD-set-other two 128 x (e + 1) 0 d ∙ getD-set-other one (e * 2 + 1) x w 0 b ∙ getD-set-other sl (e * 2) x n 0 a
+    apart : (x : ℕ) → (x ≡ e * 2 → ⊥) → (x ≡ e * 2 + 1 → ⊥) → (x ≡ nogood-count-at → ⊥) → getD tl x 0 ≡ getD sl x 0
+    apart x a b d = getD-set-other two nogood-count-at x (e + 1) 0 d ∙ getD-set-other one (e * 2 + 1) x w 0 b ∙ getD-set-other sl (e * 2) x n 0 a
 
     slot-here : slotAt tl e ≡ n
-    slot-here = getD-set-other two 128 (e * 2) (e + 1) 0 (λ q. omega arith) ∙ getD-set-other one (e * 2 + 1) (e * 2) w 0 (λ q. omega arith) ∙ getD-set-same sl (e * 2) n 0 (omega arith)
+    slot-here = getD-set-other two nogood-count-at (e * 2) (e + 1) 0 (λ q. omega arith) ∙ getD-set-other one (e * 2 + 1) (e * 2) w 0 (λ q. omega arith) ∙ getD-set-same sl (e * 2) n 0 (omega arith)
 
     value-here : valueAt tl e ≡ w
-    value-here = getD-set-other two 128 (e * 2 + 1) (e + 1) 0 (λ q. omega arith) ∙ getD-set-same one (e * 2 + 1) w 0 (let h = length-set sl (e * 2) n in omega arith)
+    value-here = getD-set-other two nogood-count-at (e * 2 + 1) (e + 1) 0 (λ q. omega arith) ∙ getD-set-same one (e * 2 + 1) w 0 (let h = length-set sl (e * 2) n in omega arith)
 
     marks-here : marksAt tm e ≡ marks
     marks-here =
@@ -125,15 +126,15 @@ added sl sm n w marks tm e count room ll lm k64 c = record { each = λ f lt. pic
 
 -- ---- an entry moved
 
-pub moved : (sl : List ℕ) (sm : List Bool) (from to : ℕ) (tm : List Bool) → to < from → from < 64 → length sl ≡ 129 → length sm ≡ 4096
-    → Copied sm (to * 64) 64 sm (from * 64) tm
+pub moved : (sl : List ℕ) (sm : List Bool) (from to : ℕ) (tm : List Bool) → to < from → from < most-nogoods → length sl ≡ nogood-numbers → length sm ≡ nogood-marks
+    → Copied sm (to * most-choices) most-choices sm (from * most-choices) tm
     → Moved sl sm from to (set (set sl (to * 2) (getD sl (from * 2) 0)) (to * 2 + 1) (getD (set sl (to * 2) (getD sl (from * 2) 0)) (from * 2 + 1) 0)) tm
 moved sl sm from to tm less room ll lm c = record {
   here = record { slot = slot-here; value = value-here; marks = marks-same sm tm from to lm (c .long ∙ lm) room (omega arith) (c .here lm) };
   others = λ f small apart. record {
     slot = other (f * 2) (λ x. apart (omega arith)) (λ x. omega arith);
     value = other (f * 2 + 1) (λ x. omega arith) (λ x. apart (omega arith));
-    marks = marks-apart sm to sm (from * 64) tm f lm small apart c;
+    marks = marks-apart sm to sm (from * most-choices) tm f lm small apart c;
   };
 }
   where
@@ -177,8 +178,8 @@ free-more sm b k a h = record { each = below-more (λ e. Free sm b e) k (a .each
 
 -- of the first e entries those that do not rest on choice b are the first k now; the later ones are as before
 pub record Settling (sl : List ℕ) (sm : List Bool) (b n k e : ℕ) (tl : List ℕ) (tm : List Bool) : Type 0 where
-  pub kept : Kept sl sm b n k tl tm
-  pub rest : (f : ℕ) → e ≤ f → f < 64 → SameEntry tl tm f sl sm f
+  pub kept : KeptEntries sl sm b n k tl tm
+  pub rest : (f : ℕ) → e ≤ f → f < most-nogoods → SameEntry tl tm f sl sm f
 
 pub settle-start : (sl : List ℕ) (sm : List Bool) (b n k : ℕ) → k < n → FreeTo sm b k → Settling sl sm b n k (k + 1) sl sm
 settle-start sl sm b n k lt a = record {
@@ -190,7 +191,7 @@ module _ (sl : List ℕ) (sm : List Bool) (b n k e : ℕ) (tl : List ℕ) (tm : 
   pub settle-skip : Settling sl sm b n k (e + 1) tl tm
   settle-skip = record { kept = a .kept; rest = λ f le small. a .rest f (omega arith) small }
 
-  pub settle-move : (ul : List ℕ) (um : List Bool) → k < e → e < n → n ≤ 64 → b < 64 → length tm ≡ 4096 → getD tm (e * 64 + b) false ≡ false → Moved tl tm e k ul um
+  pub settle-move : (ul : List ℕ) (um : List Bool) → k < e → e < n → n ≤ most-nogoods → b < most-choices → length tm ≡ nogood-marks → getD tm (e * most-choices + b) false ≡ false → Moved tl tm e k ul um
       → Settling sl sm b n (k + 1) (e + 1) ul um
   settle-move ul um less lt room small long off m = record {
     kept = record {
@@ -212,24 +213,24 @@ module _ (sl : List ℕ) (sm : List Bool) (b n k e : ℕ) (tl : List ℕ) (tm : 
 
 -- ---- the table without what rests on choice b
 
-pub forgot-all : (sl : List ℕ) (sm : List Bool) (b : ℕ) → length sl ≡ 129 → Forgot sl sm b (set sl 128 0) sm
-forgot-all sl sm b l = record { each = λ f lt. absurd (none-there (set sl 128 0) (getD-set-same sl 128 0 0 (omega arith)) f lt) }
+pub forgot-all : (sl : List ℕ) (sm : List Bool) (b : ℕ) → length sl ≡ nogood-numbers → Forgot sl sm b (set sl nogood-count-at 0) sm
+forgot-all sl sm b l = record { each = λ f lt. absurd (none-there (set sl nogood-count-at 0) (getD-set-same sl nogood-count-at 0 0 (omega arith)) f lt) }
 
 pub forgot-none : (sl : List ℕ) (sm : List Bool) (b k : ℕ) → countOf sl ≤ k → FreeTo sm b k → Forgot sl sm b sl sm
 forgot-none sl sm b k le a = record { each = λ f lt. (f, lt, record { slot = refl; value = refl; marks = refl }, a .each f (omega arith)) }
 
-pub forgot-some : (sl : List ℕ) (sm : List Bool) (b n k : ℕ) (tl : List ℕ) (tm : List Bool) → n ≡ countOf sl → k ≤ n → length tl ≡ 129 → Kept sl sm b n k tl tm
-    → Forgot sl sm b (set tl 128 k) tm
+pub forgot-some : (sl : List ℕ) (sm : List Bool) (b n k : ℕ) (tl : List ℕ) (tm : List Bool) → n ≡ countOf sl → k ≤ n → length tl ≡ nogood-numbers → KeptEntries sl sm b n k tl tm
+    → Forgot sl sm b (set tl nogood-count-at k) tm
 forgot-some sl sm b n k tl tm count le l a = record {
   each = λ f lt.
-      let q = getD-set-same tl 128 k 0 (omega arith) in
+      let q = getD-set-same tl nogood-count-at k 0 (omega arith) in
       let o = a .each f (omega arith) in (
         o .0,
         let h = o .1 in omega arith,
-        same-trans (set tl 128 k) tm f tl tm f sl sm (o .0)
+        same-trans (set tl nogood-count-at k) tm f tl tm f sl sm (o .0)
             (record {
-              slot = getD-set-other tl 128 (f * 2) k 0 (λ x. omega arith);
-              value = getD-set-other tl 128 (f * 2 + 1) k 0 (λ x. omega arith);
+              slot = getD-set-other tl nogood-count-at (f * 2) k 0 (λ x. omega arith);
+              value = getD-set-other tl nogood-count-at (f * 2 + 1) k 0 (λ x. omega arith);
               marks = refl;
             })
             (o .2),

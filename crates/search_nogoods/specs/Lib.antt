@@ -1,2 +1,3 @@
-pub mod Strikes
+pub mod Sizes
+pub mod Nogoods
 pub mod Parts

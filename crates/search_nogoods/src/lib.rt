@@ -2,62 +2,72 @@
 ghost use mathlib.Core.Path.{_≡_};
 ghost use Prim.Native.Nat.{_+_, _*_, _<_, _≤_};
 ghost use lib.ListN.{length};
-ghost use Rattle.search_nogoods.specs.Strikes.{slotAt, valueAt, countOf, Added, Forgot};
-ghost use Rattle.search_nogoods.specs.Parts.{Copied, Moved, Kept, FreeTo, NoneTo};
+ghost use Rattle.search_nogoods.specs.Nogoods.{slotAt, valueAt, countOf, Added, Forgot};
+ghost use Rattle.search_nogoods.specs.Parts.{Copied, Moved, KeptEntries, FreeTo, NoneTo};
+ghost use Rattle.search_nogoods.specs.Sizes.{most-choices, most-nogoods, nogood-numbers, nogood-marks};
 
-// The table holds at most this many entries.
-const MOST: usize = 64;
+// The choices that are told apart.
+pub const MOST_CHOICES: usize = 64;
 
-// Where the count of entries stands.
-const COUNT: usize = 128;
+// The table holds at most this many entries: a slot and a value each, then how many there are; and the choices that each rests on.
+pub const MOST_NOGOODS: usize = 64;
 
-// An entry's marks.
-const MARKS: usize = 64;
+const NOGOOD_COUNT_AT: usize = MOST_NOGOODS * 2;
+
+pub const NOGOOD_NUMBERS: usize = NOGOOD_COUNT_AT + 1;
+
+pub const NOGOOD_MARKS: usize = MOST_NOGOODS * MOST_CHOICES;
 
 // How many entries there are.
-pub fn count(sl: &[usize; 129]) -> usize
+pub fn count(sl: &[usize; NOGOOD_NUMBERS]) -> usize
     ensures { λ r. ⌜ r ≡ countOf (now (sl .entry)) ⌝ }
-    ensures { λ r. ⌜ r ≤ 64 ⌝ }
+    ensures { λ r. ⌜ r ≤ most-nogoods ⌝ }
 {
-    let n = sl[COUNT];
-    if MOST < n {
-        return MOST;
+    let n = sl[NOGOOD_COUNT_AT];
+    if MOST_NOGOODS < n {
+        return MOST_NOGOODS;
     }
     n
 }
 
 // Puts marks in the place of entry e's. They come by value, so that all of them are copied at once.
-fn put_marks(sm: &mut [bool; 4096], e: usize, marks: [bool; 64])
-    requires { ⌜ e < 64 ⌝ }
-    ensures { λ r. ⌜ Copied (now (sm .entry)) (e * 64) 64 marks 0 (now (sm .exit)) ⌝ }
+fn put_marks(sm: &mut [bool; NOGOOD_MARKS], e: usize, marks: [bool; MOST_CHOICES])
+    requires { ⌜ e < most-nogoods ⌝ }
+    ensures { λ r. ⌜ Copied (now (sm .entry)) (e * most-choices) most-choices marks 0 (now (sm .exit)) ⌝ }
 {
     let mut k = 0;
-    while k < MARKS {
-        sm[e * MARKS + k] = marks[k];
+    while k < MOST_CHOICES {
+        sm[e * MOST_CHOICES + k] = marks[k];
         k += 1;
     }
 }
 
 // Adds an entry, if there is room.
-pub fn add(sl: &mut [usize; 129], sm: &mut [bool; 4096], n: usize, w: usize, marks: &[bool; 64])
-    ensures { λ r. ⌜ (length (now (sl .entry)) ≡ 129 → length (now (sm .entry)) ≡ 4096 → length (now (marks .entry)) ≡ 64 → Added (now (sl .entry)) (now (sm .entry)) n w (now (marks .entry)) (now (sl .exit)) (now (sm .exit))) ⌝ }
+pub fn add(
+    sl: &mut [usize; NOGOOD_NUMBERS],
+    sm: &mut [bool; NOGOOD_MARKS],
+    n: usize,
+    w: usize,
+    marks: &[bool; MOST_CHOICES],
+)
+    ensures { λ r. ⌜ (length (now (sl .entry)) ≡ nogood-numbers → length (now (sm .entry)) ≡ nogood-marks → length (now (marks .entry)) ≡ most-choices → Added (now (sl .entry)) (now (sm .entry)) n w (now (marks .entry)) (now (sl .exit)) (now (sm .exit))) ⌝ }
     ensures { λ r. ⌜ length (now (sl .exit)) ≡ length (now (sl .entry)) ⌝ }
     ensures { λ r. ⌜ length (now (sm .exit)) ≡ length (now (sm .entry)) ⌝ }
 {
     let e = count(sl);
-    if MOST <= e {
+    if MOST_NOGOODS <= e {
         return;
     }
     sl[e * 2] = n;
     sl[e * 2 + 1] = w;
-    sl[COUNT] = e + 1;
+    sl[NOGOOD_COUNT_AT] = e + 1;
     put_marks(sm, e, *marks);
 }
 
 // The first entry with slot n and value w; the count if there is none.
-pub fn find(sl: &[usize; 129], n: usize, w: usize) -> usize
+pub fn find(sl: &[usize; NOGOOD_NUMBERS], n: usize, w: usize) -> usize
     ensures { λ r. ⌜ (r < countOf (now (sl .entry)) → (slotAt (now (sl .entry)) r ≡ n) × (valueAt (now (sl .entry)) r ≡ w)) ⌝ }
-    ensures { λ r. ⌜ r ≤ 64 ⌝ }
+    ensures { λ r. ⌜ r ≤ most-nogoods ⌝ }
     ensures { λ r. ⌜ NoneTo (now (sl .entry)) n w r ⌝ }
 {
     let m = count(sl);
@@ -76,14 +86,14 @@ pub fn find(sl: &[usize; 129], n: usize, w: usize) -> usize
 }
 
 // The first of n entries that rests on choice b; n if there is none.
-fn first_on(sm: &[bool; 4096], n: usize, b: usize) -> usize
-    requires { ⌜ (n ≤ 64) × (b < 64) ⌝ }
+fn first_on(sm: &[bool; NOGOOD_MARKS], n: usize, b: usize) -> usize
+    requires { ⌜ (n ≤ most-nogoods) × (b < most-choices) ⌝ }
     ensures { λ r. ⌜ r ≤ n ⌝ }
-    ensures { λ r. ⌜ (length (now (sm .entry)) ≡ 4096 → FreeTo (now (sm .entry)) b r) ⌝ }
+    ensures { λ r. ⌜ (length (now (sm .entry)) ≡ nogood-marks → FreeTo (now (sm .entry)) b r) ⌝ }
 {
     let mut e = 0;
     while e < n {
-        if sm[e * MARKS + b] {
+        if sm[e * MOST_CHOICES + b] {
             return e;
         }
         e += 1;
@@ -92,21 +102,26 @@ fn first_on(sm: &[bool; 4096], n: usize, b: usize) -> usize
 }
 
 // Puts an entry's marks in the place of those of an earlier entry.
-fn move_marks(sm: &mut [bool; 4096], from: usize, to: usize)
-    requires { ⌜ (to < from) × (from < 64) ⌝ }
-    ensures { λ r. ⌜ Copied (now (sm .entry)) (to * 64) 64 (now (sm .entry)) (from * 64) (now (sm .exit)) ⌝ }
+fn move_marks(sm: &mut [bool; NOGOOD_MARKS], from: usize, to: usize)
+    requires { ⌜ (to < from) × (from < most-nogoods) ⌝ }
+    ensures { λ r. ⌜ Copied (now (sm .entry)) (to * most-choices) most-choices (now (sm .entry)) (from * most-choices) (now (sm .exit)) ⌝ }
 {
     let mut k = 0;
-    while k < MARKS {
-        sm[to * MARKS + k] = sm[from * MARKS + k];
+    while k < MOST_CHOICES {
+        sm[to * MOST_CHOICES + k] = sm[from * MOST_CHOICES + k];
         k += 1;
     }
 }
 
 // Puts an entry in the place of an earlier one.
-fn move_entry(sl: &mut [usize; 129], sm: &mut [bool; 4096], from: usize, to: usize)
-    requires { ⌜ (to < from) × (from < 64) ⌝ }
-    ensures { λ r. ⌜ (length (now (sl .entry)) ≡ 129 → length (now (sm .entry)) ≡ 4096 → Moved (now (sl .entry)) (now (sm .entry)) from to (now (sl .exit)) (now (sm .exit))) ⌝ }
+fn move_entry(
+    sl: &mut [usize; NOGOOD_NUMBERS],
+    sm: &mut [bool; NOGOOD_MARKS],
+    from: usize,
+    to: usize,
+)
+    requires { ⌜ (to < from) × (from < most-nogoods) ⌝ }
+    ensures { λ r. ⌜ (length (now (sl .entry)) ≡ nogood-numbers → length (now (sm .entry)) ≡ nogood-marks → Moved (now (sl .entry)) (now (sm .entry)) from to (now (sl .exit)) (now (sm .exit))) ⌝ }
     ensures { λ r. ⌜ length (now (sl .exit)) ≡ length (now (sl .entry)) ⌝ }
     ensures { λ r. ⌜ length (now (sm .exit)) ≡ length (now (sm .entry)) ⌝ }
 {
@@ -116,10 +131,16 @@ fn move_entry(sl: &mut [usize; 129], sm: &mut [bool; 4096], from: usize, to: usi
 }
 
 // Moves those of the first n entries that do not rest on choice b down; the one at `first` does, and none before it. How many there are then.
-fn settle(sl: &mut [usize; 129], sm: &mut [bool; 4096], n: usize, b: usize, first: usize) -> usize
-    requires { ⌜ (n ≤ 64) × (b < 64) × (first < n) ⌝ }
+fn settle(
+    sl: &mut [usize; NOGOOD_NUMBERS],
+    sm: &mut [bool; NOGOOD_MARKS],
+    n: usize,
+    b: usize,
+    first: usize,
+) -> usize
+    requires { ⌜ (n ≤ most-nogoods) × (b < most-choices) × (first < n) ⌝ }
     ensures { λ r. ⌜ r ≤ n ⌝ }
-    ensures { λ r. ⌜ (length (now (sl .entry)) ≡ 129 → length (now (sm .entry)) ≡ 4096 → FreeTo (now (sm .entry)) b first → Kept (now (sl .entry)) (now (sm .entry)) b n r (now (sl .exit)) (now (sm .exit))) ⌝ }
+    ensures { λ r. ⌜ (length (now (sl .entry)) ≡ nogood-numbers → length (now (sm .entry)) ≡ nogood-marks → FreeTo (now (sm .entry)) b first → KeptEntries (now (sl .entry)) (now (sm .entry)) b n r (now (sl .exit)) (now (sm .exit))) ⌝ }
     ensures { λ r. ⌜ length (now (sl .exit)) ≡ length (now (sl .entry)) ⌝ }
     ensures { λ r. ⌜ length (now (sm .exit)) ≡ length (now (sm .entry)) ⌝ }
 {
@@ -128,7 +149,7 @@ fn settle(sl: &mut [usize; 129], sm: &mut [bool; 4096], n: usize, b: usize, firs
     while e < n {
         let from = e;
         e += 1;
-        if sm[from * MARKS + b] {
+        if sm[from * MOST_CHOICES + b] {
             continue;
         }
         move_entry(sl, sm, from, k);
@@ -138,13 +159,13 @@ fn settle(sl: &mut [usize; 129], sm: &mut [bool; 4096], n: usize, b: usize, firs
 }
 
 // Keeps the entries that do not rest on choice b; none if there is no such choice.
-pub fn forget(sl: &mut [usize; 129], sm: &mut [bool; 4096], b: usize)
-    ensures { λ r. ⌜ (length (now (sl .entry)) ≡ 129 → length (now (sm .entry)) ≡ 4096 → Forgot (now (sl .entry)) (now (sm .entry)) b (now (sl .exit)) (now (sm .exit))) ⌝ }
+pub fn forget(sl: &mut [usize; NOGOOD_NUMBERS], sm: &mut [bool; NOGOOD_MARKS], b: usize)
+    ensures { λ r. ⌜ (length (now (sl .entry)) ≡ nogood-numbers → length (now (sm .entry)) ≡ nogood-marks → Forgot (now (sl .entry)) (now (sm .entry)) b (now (sl .exit)) (now (sm .exit))) ⌝ }
     ensures { λ r. ⌜ length (now (sl .exit)) ≡ length (now (sl .entry)) ⌝ }
     ensures { λ r. ⌜ length (now (sm .exit)) ≡ length (now (sm .entry)) ⌝ }
 {
-    if MARKS <= b {
-        sl[COUNT] = 0;
+    if MOST_CHOICES <= b {
+        sl[NOGOOD_COUNT_AT] = 0;
         return;
     }
     let n = count(sl);
@@ -153,5 +174,5 @@ pub fn forget(sl: &mut [usize; 129], sm: &mut [bool; 4096], b: usize)
         return;
     }
     let k = settle(sl, sm, n, b, first);
-    sl[COUNT] = k;
+    sl[NOGOOD_COUNT_AT] = k;
 }

@@ -19,7 +19,7 @@ use Rattle.case_verdicts.proofs.Decide.{same?}
 use Rattle.case_verdicts.proofs.Unify.{unify-none, unify-same, unify-left, unify-more, clash, clash-more, clash-rest, replace-same, replace-other}
 use Rattle.case_verdicts.proofs.Words.{words-replaced}
 use Rattle.search_state.specs.State.{made-up, Fresh, Constants}
-use Rattle.search_state.specs.Parts.{Own, FreshValue, freed, Joined, Apart, Others, MetBy, constant, again, new, unlike, outside, other}
+use Rattle.search_state.specs.Parts.{Own, FreshValue, freed, MadeEqual, ApartFrom, Others, MetBy, constant, again, new, unlike, outside, other}
 
 -- ---- lists
 
@@ -201,7 +201,7 @@ module _ (ws out us rs : List ℕ) (v w : ℕ) (fresh : FreshValue ws v) (small 
         own n (yes q) h = inl (let g = ap (λ (k : ℕ). getD (set out (v - top) w) k 0) q ∙ getD-set-same out (v - top) w 0 lt in omega arith)
         own n (no q) h = rw (getD-set-other out (v - top) n w 0 q) (p .own n h)
 
-  progress-joined : {next : List ℕ} → Joined out next v w → Progress ws next (v ∷ us) (w ∷ rs)
+  progress-joined : {next : List ℕ} → MadeEqual out next v w → Progress ws next (v ∷ us) (w ∷ rs)
   progress-joined (constant e h same) = subst (λ (o : List ℕ). Progress ws o (v ∷ us) (w ∷ rs)) (sym same) (constant-kept e)
   progress-joined (again ge lt moved e same) = subst (λ (o : List ℕ). Progress ws o (v ∷ us) (w ∷ rs)) (sym same) (slot-kept ge moved e)
   progress-joined (new ge lt e same) = subst (λ (o : List ℕ). Progress ws o (v ∷ us) (w ∷ rs)) (sym same) (slot-set ge lt e)
@@ -212,7 +212,7 @@ module _ (ws out us rs : List ℕ) (v w : ℕ) (fresh : FreshValue ws v) (small 
       let f = by-constant w small in
       clash-more v w (p .unifier) (clash top (p .by v) (p .by w) (omega arith) (omega arith) (λ q. ne (sym e ∙ q ∙ f)))
 
-  progress-apart : Apart out v w → Clash top ((v ≈ w) ∷ equations us rs)
+  progress-apart : ApartFrom out v w → Clash top ((v ≈ w) ∷ equations us rs)
   progress-apart (unlike h ne) = apart v (by-constant v h) h ne
   progress-apart (outside ge far) = absurd (let f = slot ge .0 in let l = p .same in omega arith)
   progress-apart (other ge lt moved ne) =
@@ -240,13 +240,13 @@ progress-start ws u r c h g own = rw (drop-of-length-le u h, drop-of-length-le r
     none = record { by = λ n. n; unifier = unify-none top; state = refl; same = refl; others = λ n off. refl; own = own; unchanged = inl (refl, refl) }
 
 module _ (ws out u r : List ℕ) (c : ℕ) (some : 0 < c) (here : c ≤ length u) (there : c ≤ length r) (f : Fresh ws u) (k : Constants r) (p : Progress ws out (drop c u) (drop c r)) where
-  pub progress-more : {next : List ℕ} → Joined out next (getD u (c - 1) 0) (getD r (c - 1) 0) → Progress ws next (drop (c - 1) u) (drop (c - 1) r)
+  pub progress-more : {next : List ℕ} → MadeEqual out next (getD u (c - 1) 0) (getD r (c - 1) 0) → Progress ws next (drop (c - 1) u) (drop (c - 1) r)
   progress-more {next} j =
       subst (λ (l : List ℕ). Progress ws next l (drop (c - 1) r)) (sym (one-more u c some here))
       (subst (λ (l : List ℕ). Progress ws next (getD u (c - 1) 0 ∷ drop c u) l) (sym (one-more r c some there))
       (progress-joined ws out (drop c u) (drop c r) (getD u (c - 1) 0) (getD r (c - 1) 0) (f _ (in-at (c - 1) u (omega arith))) (k _ (in-at (c - 1) r (omega arith))) p j))
 
-  pub progress-clash : {next : List ℕ} → Apart out (getD u (c - 1) 0) (getD r (c - 1) 0) → next ≡ out → MetBy false ws next u r
+  pub progress-clash : {next : List ℕ} → ApartFrom out (getD u (c - 1) 0) (getD r (c - 1) 0) → next ≡ out → MetBy false ws next u r
   progress-clash {next} a same = (
     clash-front (c - 1) u r
         (subst (λ (l : List ℕ). Clash top (equations l (drop (c - 1) r))) (sym (one-more u c some here))

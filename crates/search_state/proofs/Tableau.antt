@@ -7,11 +7,12 @@ use native.Mathlib.Omega.{arith}
 use lib.ListN.{length, getD, take}
 use lib.Seq.{length-take-le, getD-take, ext-getD}
 use borrow.Author.Tests.{eq-eqb, ne-eqb, lt-ltb, le-ltb}
+use Rattle.tableau_layout.specs.Layout.{slot-end}
 use Rattle.list_laws.proofs.Lists.{inside}
 use Rattle.case_verdicts.specs.Tableau.{State}
 use Rattle.case_verdicts.specs.Sheets.{top}
 use Rattle.case_verdicts.specs.Words.{stateOf}
-use Rattle.tableau_plan.specs.Plan.{slotValue, slot-end, tableauFacts}
+use Rattle.tableau_plan.specs.Plan.{slotValue, tableauFacts}
 use Rattle.search_state.specs.Parts.{numberAt}
 
 module _ (p : List ℕ) (s : State) where
@@ -46,10 +47,10 @@ module _ (p : List ℕ) (s : State) where
 
 -- ---- the value of a term
 
-pub slot-value : (ws : List ℕ) (t : ℕ) → t < 533 → 533 ≤ length ws → getD ws t 0 ≡ slotValue (stateOf top ws) t
+pub slot-value : (ws : List ℕ) (t : ℕ) → t < slot-end → slot-end ≤ length ws → getD ws t 0 ≡ slotValue (stateOf top ws) t
 unfolding slotValue
 slot-value ws t h g = inside ws t 0 (top + t) (omega arith) ∙ sym (ap (λ b. cond b (getD ws t (top + t)) (t - slot-end)) (lt-ltb t slot-end h))
 
-pub constant-value : (ws : List ℕ) (t : ℕ) → 533 ≤ t → t - 533 ≡ slotValue (stateOf top ws) t
+pub constant-value : (ws : List ℕ) (t : ℕ) → slot-end ≤ t → t - slot-end ≡ slotValue (stateOf top ws) t
 unfolding slotValue
 constant-value ws t h = sym (ap (λ b. cond b (getD ws t (top + t)) (t - slot-end)) (le-ltb t slot-end h))

@@ -26,20 +26,20 @@ abbrev pub freed : List ℕ → ℕ → List ℕ
 freed ws v = cond (ltb v top) ws (set ws (v - top) v)
 
 -- v is or has become w already, or its slot now has w
-pub data Joined (ws out : List ℕ) (v w : ℕ) : Type 0 where
-  constant : v ≡ w → v < top → out ≡ ws → Joined ws out v w
-  again : top ≤ v → v - top < length ws → (getD ws (v - top) 0 ≡ v → ⊥) → getD ws (v - top) 0 ≡ w → out ≡ ws → Joined ws out v w
-  new : top ≤ v → v - top < length ws → getD ws (v - top) 0 ≡ v → out ≡ set ws (v - top) w → Joined ws out v w
+pub data MadeEqual (ws out : List ℕ) (v w : ℕ) : Type 0 where
+  constant : v ≡ w → v < top → out ≡ ws → MadeEqual ws out v w
+  again : top ≤ v → v - top < length ws → (getD ws (v - top) 0 ≡ v → ⊥) → getD ws (v - top) 0 ≡ w → out ≡ ws → MadeEqual ws out v w
+  new : top ≤ v → v - top < length ws → getD ws (v - top) 0 ≡ v → out ≡ set ws (v - top) w → MadeEqual ws out v w
 
 -- v is or has become another value than w
-pub data Apart (ws : List ℕ) (v w : ℕ) : Type 0 where
-  unlike : v < top → (v ≡ w → ⊥) → Apart ws v w
-  outside : top ≤ v → length ws ≤ v - top → Apart ws v w
-  other : top ≤ v → v - top < length ws → (getD ws (v - top) 0 ≡ v → ⊥) → (getD ws (v - top) 0 ≡ w → ⊥) → Apart ws v w
+pub data ApartFrom (ws : List ℕ) (v w : ℕ) : Type 0 where
+  unlike : v < top → (v ≡ w → ⊥) → ApartFrom ws v w
+  outside : top ≤ v → length ws ≤ v - top → ApartFrom ws v w
+  other : top ≤ v → v - top < length ws → (getD ws (v - top) 0 ≡ v → ⊥) → (getD ws (v - top) 0 ≡ w → ⊥) → ApartFrom ws v w
 
 abbrev pub JoinedBy : Bool → List ℕ → List ℕ → ℕ → ℕ → Type 0
-JoinedBy true ws out v w = Joined ws out v w
-JoinedBy false ws out v w = Apart ws v w × (out ≡ ws)
+JoinedBy true ws out v w = MadeEqual ws out v w
+JoinedBy false ws out v w = ApartFrom ws v w × (out ≡ ws)
 
 -- only slots of u's made-up values changed
 abbrev pub Others : List ℕ → List ℕ → List ℕ → Type 0

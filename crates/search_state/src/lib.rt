@@ -1,8 +1,17 @@
 // The state of a search: a value for each slot.
+use query_layout::COLUMNS;
+use query_layout::FACT_NUMBERS;
+use query_layout::MADE_UP;
+use tableau_layout::PLAN_NUMBERS;
+use tableau_layout::SLOTS;
+use tableau_layout::TABLEAU_ATOMS;
+use tableau_layout::TABLEAU_NUMBERS;
+use tableau_layout::TABLEAU_SIZE_AT;
 ghost use mathlib.Core.Path.{_≡_};
 ghost use mathlib.Core.List.{List};
 ghost use Prim.Native.Nat.{ℕ, _+_, _-_, _*_, _<_, _≤_};
 ghost use lib.ListN.{length, getD, take};
+ghost use Rattle.tableau_layout.specs.Layout.{plan-numbers, slot-end, tableau-atoms, tableau-numbers};
 ghost use Rattle.query_meaning.specs.Meaning.{In};
 ghost use Rattle.case_verdicts.specs.Sheets.{top};
 ghost use Rattle.case_verdicts.specs.Search as search;
@@ -11,34 +20,17 @@ ghost use Rattle.tableau_plan.specs.Plan.{tableauSize, tableauFacts, slotValue}
 ghost use Rattle.search_state.specs.State.{Fresh, Constants, EquatedBy};
 ghost use Rattle.search_state.specs.Parts.{Own, freed, JoinedBy, MetBy, numberAt};
 
-// Constants lie below it; the made-up value of slot n is this and n.
-const TOP: usize = 1000000;
-
-const SLOTS: usize = 533;
-
-const COLUMNS: usize = 4;
-
-// A fact's numbers: its relation and four values.
-const WIDTH: usize = 5;
-
-const MOST_FACTS: usize = 126;
-
-const MOST_NUMBERS: usize = MOST_FACTS * WIDTH;
-
-// Where among the numbers of a plan the number of its tableau's atoms stands.
-const SIZE: usize = 1180;
-
 // Writes the words of the first state: each slot its own made-up value. More words than there are slots are left as they are.
 pub fn free(ws: &mut [usize])
-    ensures { λ r. ⌜ (length (now (ws .entry)) ≤ 533 → stateOf top (now (ws .exit)) ≡ search.free top) ⌝ }
-    ensures { λ r. ⌜ (533 < length (now (ws .entry)) → now (ws .exit) ≡ now (ws .entry)) ⌝ }
+    ensures { λ r. ⌜ (length (now (ws .entry)) ≤ slot-end → stateOf top (now (ws .exit)) ≡ search.free top) ⌝ }
+    ensures { λ r. ⌜ (slot-end < length (now (ws .entry)) → now (ws .exit) ≡ now (ws .entry)) ⌝ }
 {
     if SLOTS < ws.len() {
         return;
     }
     let mut n = 0;
     while n < ws.len() {
-        ws[n] = TOP + n;
+        ws[n] = MADE_UP + n;
         n += 1;
     }
 }
@@ -47,8 +39,8 @@ pub fn free(ws: &mut [usize])
 fn free_slot(st: &mut [usize], v: usize)
     ensures { λ x. ⌜ now (st .exit) ≡ freed (now (st .entry)) v ⌝ }
 {
-    if TOP <= v {
-        let n = v - TOP;
+    if MADE_UP <= v {
+        let n = v - MADE_UP;
         if n < st.len() {
             st[n] = v;
         }
@@ -70,13 +62,13 @@ pub fn release(st: &mut [usize], u: &[usize; 4])
 fn join(st: &mut [usize], v: usize, w: usize) -> bool
     ensures { λ b. ⌜ JoinedBy b (now (st .entry)) (now (st .exit)) v w ⌝ }
 {
-    if v < TOP {
+    if v < MADE_UP {
         if v == w {
             return true;
         }
         return false;
     }
-    let n = v - TOP;
+    let n = v - MADE_UP;
     if st.len() <= n {
         return false;
     }
@@ -118,7 +110,7 @@ pub fn equate(st: &mut [usize], u: &[usize; 4], r: &[usize; 4]) -> bool
 
 // The value of a term of the tableau.
 fn value_of(st: &[usize], t: usize) -> usize
-    requires { ⌜ 533 ≤ length (now st) ⌝ }
+    requires { ⌜ slot-end ≤ length (now st) ⌝ }
     ensures { λ r. ⌜ r ≡ slotValue (stateOf top (now (st .entry))) t ⌝ }
 {
     if t < SLOTS {
@@ -128,20 +120,20 @@ fn value_of(st: &[usize], t: usize) -> usize
 }
 
 // Number x of the tableau under a state.
-fn number_at(p: &[usize; 1184], st: &[usize], x: usize) -> usize
-    requires { ⌜ (x < 630) × (533 ≤ length (now st)) ⌝ }
+fn number_at(p: &[usize; PLAN_NUMBERS], st: &[usize], x: usize) -> usize
+    requires { ⌜ (x < tableau-numbers) × (slot-end ≤ length (now st)) ⌝ }
     ensures { λ r. ⌜ r ≡ numberAt (now (p .entry)) (stateOf top (now (st .entry))) x ⌝ }
 {
     let t = p[x];
-    if x % WIDTH == 0 {
+    if x % FACT_NUMBERS == 0 {
         return t;
     }
     value_of(st, t)
 }
 
 // The numbers of the tableau under a state, from number `from` on.
-fn numbers(p: &[usize; 1184], st: &[usize], from: usize, count: usize, out: &mut [usize])
-    requires { ⌜ (from + count ≤ 630) × (533 ≤ length (now st)) × (count ≤ length (now out)) ⌝ }
+fn numbers(p: &[usize; PLAN_NUMBERS], st: &[usize], from: usize, count: usize, out: &mut [usize])
+    requires { ⌜ (from + count ≤ tableau-numbers) × (slot-end ≤ length (now st)) × (count ≤ length (now out)) ⌝ }
     ensures { λ r. ⌜ ((x : ℕ) → x < count → getD (now (out .exit)) x 0 ≡ numberAt (now (p .entry)) (stateOf top (now (st .entry))) (from + x)) ⌝ }
 {
     let mut x = 0;
@@ -152,24 +144,24 @@ fn numbers(p: &[usize; 1184], st: &[usize], from: usize, count: usize, out: &mut
 }
 
 // The facts of the tableau under a state, from atom `from` on, five numbers each, in front of the output; how many facts.
-pub fn facts(p: &[usize; 1184], st: &[usize], from: usize, out: &mut [usize]) -> usize
-    ensures { λ r. ⌜ (length (now (p .entry)) ≡ 1184 → from ≤ tableauSize (now (p .entry)) → tableauSize (now (p .entry)) ≤ 126 → 533 ≤ length (now (st .entry)) → 630 ≤ length (now (out .entry))
+pub fn facts(p: &[usize; PLAN_NUMBERS], st: &[usize], from: usize, out: &mut [usize]) -> usize
+    ensures { λ r. ⌜ (length (now (p .entry)) ≡ plan-numbers → from ≤ tableauSize (now (p .entry)) → tableauSize (now (p .entry)) ≤ tableau-atoms → slot-end ≤ length (now (st .entry)) → tableau-numbers ≤ length (now (out .entry))
         → (r ≡ tableauSize (now (p .entry)) - from) × (take (r * 5) (now (out .exit)) ≡ tableauFacts (now (p .entry)) (stateOf top (now (st .entry))) from r)) ⌝ }
 {
-    let size = p[SIZE];
+    let size = p[TABLEAU_SIZE_AT];
     if size < from {
         return 0;
     }
-    if MOST_FACTS < size {
+    if TABLEAU_ATOMS < size {
         return 0;
     }
     if st.len() < SLOTS {
         return 0;
     }
-    if out.len() < MOST_NUMBERS {
+    if out.len() < TABLEAU_NUMBERS {
         return 0;
     }
     let n = size - from;
-    numbers(p, st, from * WIDTH, n * WIDTH, out);
+    numbers(p, st, from * FACT_NUMBERS, n * FACT_NUMBERS, out);
     n
 }

@@ -11,11 +11,14 @@ use borrow.Author.Count.{below-more}
 use lib.Dec.{eqb}
 use lib.ListN.{length, getD, drop, set, length-set}
 use lib.Seq.{drop-cons, drop-length, getD-set-same, getD-set-other}
+use Rattle.tableau_layout.specs.Layout.{blocks-at, most-copies, rows-at, sizes-at, slot-end, view-block}
+use Rattle.query_layout.specs.Layout.{block-head, block-width, names}
+use Rattle.sheet_format.specs.Limits.{most-rows}
 use Rattle.case_verdicts.specs.Sheets.{top}
 use Rattle.tableau_plan.specs.Plan.{rowAt, rowValues, rowCount, viewCount, blockSize}
-use Rattle.search_conflict.specs.Reasons.{kept}
-use Rattle.search_symmetry.specs.Mirrors.{exchanged, copyTo, Mirrors}
-use Rattle.search_symmetry.specs.Steps.{Fours, Agrees, Swapped, Used, StaysAt, Stays, Becomes, Goes, Written, ComeBack, Unmoved, CopyTurned, CopiesTurned}
+use Rattle.search_conflict.specs.Conflict.{kept}
+use Rattle.search_symmetry.specs.Symmetry.{exchanged, copyTo, Alike}
+use Rattle.search_symmetry.specs.Steps.{Fours, SameFor, Swapped, Used, StaysAt, Stays, TurnsInto, Goes, WrittenCopies, ComeBack, Unmoved, CopyTurned, CopiesTurned}
 
 -- a check that said no shows anything of a yes
 pub never : {P : Type 0} → false ≡ true → P
@@ -57,13 +60,13 @@ turn-none a b v c long e =
 
 -- ---- the constants of a stray row
 
-pub agrees-more : (u a : List ℕ) (c : ℕ) → Agrees u a c → (getD u c 0 < top → getD u c 0 ≡ getD a c 0) → Agrees u a (c + 1)
+pub agrees-more : (u a : List ℕ) (c : ℕ) → SameFor u a c → (getD u c 0 < top → getD u c 0 ≡ getD a c 0) → SameFor u a (c + 1)
 agrees-more u a c s h = record { each = below-more (λ (d : ℕ). getD u d 0 < top → getD u d 0 ≡ getD a d 0) c (s .each) h }
 
 -- ---- rows that come back
 
-pub back-more : (to : List ℕ) (i : ℕ) → ComeBack to i → getD to i 0 < 40 → getD to (getD to i 0) 0 ≡ i → ComeBack to (i + 1)
-back-more to i s lt e = record { each = below-more (λ (j : ℕ). (getD to j 0 < 40) × (getD to (getD to j 0) 0 ≡ j)) i (s .each) (lt, e) }
+pub back-more : (to : List ℕ) (i : ℕ) → ComeBack to i → getD to i 0 < most-rows → getD to (getD to i 0) 0 ≡ i → ComeBack to (i + 1)
+back-more to i s lt e = record { each = below-more (λ (j : ℕ). (getD to j 0 < most-rows) × (getD to (getD to j 0) 0 ≡ j)) i (s .each) (lt, e) }
 
 pub copy-on : (to : List ℕ) (k : ℕ) → (k ≡ 0 → ⊥) → getD to (k - 1) 0 + 1 ≡ copyTo to k
 copy-on to zero n = absurd (n refl)
@@ -71,16 +74,16 @@ copy-on to (suc k) n = ap (λ (j : ℕ). getD to j 0 + 1) (let e : suc k - 1 ≡
 
 -- ---- the copies of a stray row's made-up values
 
-pub unmoved-more : (to u : List ℕ) (c : ℕ) → Unmoved to u c → ((k x : ℕ) → k < 41 → x < 13 → getD u c 0 ≡ top + (k * 13 + x) → copyTo to k ≡ k) → Unmoved to u (c + 1)
-unmoved-more to u c s h = record { each = λ d k x lt. below-more (λ (e : ℕ). (i y : ℕ) → i < 41 → y < 13 → getD u e 0 ≡ top + (i * 13 + y) → copyTo to i ≡ i) c (λ e l i y. s .each e i y l) h d lt k x }
+pub unmoved-more : (to u : List ℕ) (c : ℕ) → Unmoved to u c → ((k x : ℕ) → k < most-copies → x < names → getD u c 0 ≡ top + (k * names + x) → copyTo to k ≡ k) → Unmoved to u (c + 1)
+unmoved-more to u c s h = record { each = λ d k x lt. below-more (λ (e : ℕ). (i y : ℕ) → i < most-copies → y < names → getD u e 0 ≡ top + (i * names + y) → copyTo to i ≡ i) c (λ e l i y. s .each e i y l) h d lt k x }
 
 pub unmoved-constant : (to u : List ℕ) (c : ℕ) → Unmoved to u c → getD u c 0 < top → Unmoved to u (c + 1)
 unmoved-constant to u c s lt = unmoved-more to u c s (λ k x a b e. absurd (omega arith))
 
-pub unmoved-outside : (to u : List ℕ) (c : ℕ) → Unmoved to u c → 533 ≤ getD u c 0 - top → Unmoved to u (c + 1)
+pub unmoved-outside : (to u : List ℕ) (c : ℕ) → Unmoved to u c → slot-end ≤ getD u c 0 - top → Unmoved to u (c + 1)
 unmoved-outside to u c s ge = unmoved-more to u c s (λ k x a b e. absurd (omega arith))
 
-pub unmoved-slot : (to u : List ℕ) (c m : ℕ) → Unmoved to u c → m ≡ (getD u c 0 - top) / 13 → copyTo to m ≡ m → Unmoved to u (c + 1)
+pub unmoved-slot : (to u : List ℕ) (c m : ℕ) → Unmoved to u c → m ≡ (getD u c 0 - top) / names → copyTo to m ≡ m → Unmoved to u (c + 1)
 unmoved-slot to u c m s q e = unmoved-more to u c s (λ k x a b h. let z : m ≡ k = omega arith in subst (λ (j : ℕ). copyTo to j ≡ j) z e)
 
 -- ---- the values of the rows, of blocks and of listed rows
@@ -94,18 +97,18 @@ swapped-more a b c s t r = record {
 pub stays-more : (p a b : List ℕ) (k : ℕ) → Stays p a b k → StaysAt p a b k → Stays p a b (k + 1)
 stays-more p a b k s h = record { each = below-more (StaysAt p a b) k (s .each) h }
 
-pub becomes-none : (p a b : List ℕ) (i j : ℕ) → getD p (630 + j * 5) 0 ≡ getD p (630 + i * 5) 0 → Becomes p a b i j 0
+pub becomes-none : (p a b : List ℕ) (i j : ℕ) → getD p (rows-at + j * 5) 0 ≡ getD p (rows-at + i * 5) 0 → TurnsInto p a b i j 0
 becomes-none p a b i j e = record {
-  view = ap (λ (k : ℕ). getD p k 0) (let q : 630 + j * 5 + 0 ≡ 630 + j * 5 = omega arith in q) ∙ e ∙ ap (λ (k : ℕ). getD p k 0) (let q : 630 + i * 5 ≡ 630 + i * 5 + 0 = omega arith in q);
+  view = ap (λ (k : ℕ). getD p k 0) (let q : rows-at + j * 5 + 0 ≡ rows-at + j * 5 = omega arith in q) ∙ e ∙ ap (λ (k : ℕ). getD p k 0) (let q : rows-at + i * 5 ≡ rows-at + i * 5 + 0 = omega arith in q);
   values = λ c lt. absurd (omega arith);
 }
 
-pub becomes-more : (p a b : List ℕ) (i j c : ℕ) → Becomes p a b i j c → rowAt p j (1 + c) ≡ exchanged a b (rowAt p i (1 + c)) → Becomes p a b i j (c + 1)
+pub becomes-more : (p a b : List ℕ) (i j c : ℕ) → TurnsInto p a b i j c → rowAt p j (1 + c) ≡ exchanged a b (rowAt p i (1 + c)) → TurnsInto p a b i j (c + 1)
 becomes-more p a b i j c s h = record { view = s .view; values = below-more (λ (d : ℕ). rowAt p j (1 + d) ≡ exchanged a b (rowAt p i (1 + d))) c (s .values) h }
 
 -- ---- where rows go
 
-pub written-more : (p a b : List ℕ) (rows : ℕ) (to : List ℕ) (i j : ℕ) → i < 40 → Written p a b rows to i → (i < rows → Goes p a b rows i j) → Written p a b rows (set to i j) (i + 1)
+pub written-more : (p a b : List ℕ) (rows : ℕ) (to : List ℕ) (i j : ℕ) → i < most-rows → WrittenCopies p a b rows to i → (i < rows → Goes p a b rows i j) → WrittenCopies p a b rows (set to i j) (i + 1)
 written-more p a b rows to i j lt s h = record {
   long = length-set to i j ∙ s .long;
   each = below-more (λ (k : ℕ). k < rows → Goes p a b rows k (getD (set to i j) k 0)) i
@@ -117,14 +120,14 @@ written-more p a b rows to i j lt s h = record {
 
 module _ (ws lv : List ℕ) (marks : List Bool) (a b : List ℕ) where
   pub copy-more : (k m x : ℕ) → CopyTurned ws lv marks a b k m x
-      → (kept lv marks (k * 13 + x) ≡ true → getD ws (k * 13 + x) 0 < top → (kept lv marks (m * 13 + x) ≡ true) × (getD ws (m * 13 + x) 0 ≡ exchanged a b (getD ws (k * 13 + x) 0)))
+      → (kept lv marks (k * names + x) ≡ true → getD ws (k * names + x) 0 < top → (kept lv marks (m * names + x) ≡ true) × (getD ws (m * names + x) 0 ≡ exchanged a b (getD ws (k * names + x) 0)))
       → CopyTurned ws lv marks a b k m (x + 1)
   copy-more k m x s h = record {
-    each = below-more (λ (y : ℕ). kept lv marks (k * 13 + y) ≡ true → getD ws (k * 13 + y) 0 < top → (kept lv marks (m * 13 + y) ≡ true) × (getD ws (m * 13 + y) 0 ≡ exchanged a b (getD ws (k * 13 + y) 0))) x (s .each) h;
+    each = below-more (λ (y : ℕ). kept lv marks (k * names + y) ≡ true → getD ws (k * names + y) 0 < top → (kept lv marks (m * names + y) ≡ true) × (getD ws (m * names + y) 0 ≡ exchanged a b (getD ws (k * names + y) 0))) x (s .each) h;
   }
 
-  pub copies-more : (to : List ℕ) (k m : ℕ) → CopiesTurned ws lv marks a b to k → m ≡ copyTo to k → CopyTurned ws lv marks a b k m 13 → CopiesTurned ws lv marks a b to (k + 1)
-  copies-more to k m s e h = record { each = below-more (λ (j : ℕ). CopyTurned ws lv marks a b j (copyTo to j) 13) k (s .each) (subst (λ (n : ℕ). CopyTurned ws lv marks a b k n 13) e h) }
+  pub copies-more : (to : List ℕ) (k m : ℕ) → CopiesTurned ws lv marks a b to k → m ≡ copyTo to k → CopyTurned ws lv marks a b k m names → CopiesTurned ws lv marks a b to (k + 1)
+  copies-more to k m s e h = record { each = below-more (λ (j : ℕ). CopyTurned ws lv marks a b j (copyTo to j) names) k (s .each) (subst (λ (n : ℕ). CopyTurned ws lv marks a b k n names) e h) }
 
 -- ---- all of it
 
@@ -142,24 +145,24 @@ exchanged-at p a b i j c lt e = ap (exchanged a b) (sym (row-value p i c lt)) �
 -- what is found of rows whose values are a and b
 abbrev Found : List ℕ → List ℕ → List ℕ → List Bool → List ℕ → ℕ → ℕ → List ℕ → List ℕ → List ℕ → Type 0
 Found p ws lv marks u one other to a b =
-    Agrees u a 4
+    SameFor u a 4
     → Swapped a b 4
-    → Stays p a b ((2 + viewCount p) * 34)
-    → Written p a b (rowCount p) to 40
-    → CopiesTurned ws lv marks a b to 41
-    → Mirrors p ws lv marks u one other
+    → Stays p a b ((view-block (viewCount p)) * block-width)
+    → WrittenCopies p a b (rowCount p) to most-rows
+    → CopiesTurned ws lv marks a b to most-copies
+    → Alike p ws lv marks u one other
 
-used-at : (p : List ℕ) (b k : ℕ) → k < 34 → (k / 5 < blockSize p b) ⊎ (30 ≤ k) → Used p (b * 34 + k)
+used-at : (p : List ℕ) (b k : ℕ) → k < block-width → (k / 5 < blockSize p b) ⊎ (block-head ≤ k) → Used p (b * block-width + k)
 used-at p b k lt used =
-    let e : (b * 34 + k) % 34 ≡ k = omega arith in
-    let f : (b * 34 + k) / 34 ≡ b = omega arith in
-    ⊎-elim (λ h. inl (subst (λ (n : ℕ). (b * 34 + k) % 34 / 5 < getD p (1170 + n) 0) (sym f) (subst (λ (n : ℕ). n / 5 < blockSize p b) (sym e) h))) (λ h. inr (omega arith)) used
+    let e : (b * block-width + k) % block-width ≡ k = omega arith in
+    let f : (b * block-width + k) / block-width ≡ b = omega arith in
+    ⊎-elim (λ h. inl (subst (λ (n : ℕ). (b * block-width + k) % block-width / 5 < getD p (sizes-at + n) 0) (sym f) (subst (λ (n : ℕ). n / 5 < blockSize p b) (sym e) h))) (λ h. inr (omega arith)) used
 
 all-mirrored : (p ws lv : List ℕ) (marks : List Bool) (u : List ℕ) (one other : ℕ) (to : List ℕ)
     → one < rowCount p
     → other < rowCount p
-    → rowCount p ≤ 40
-    → ComeBack to 40
+    → rowCount p ≤ most-rows
+    → ComeBack to most-rows
     → Unmoved to u 4
     → Found p ws lv marks u one other to (rowValues p one) (rowValues p other)
 all-mirrored p ws lv marks u one other to lo lr few cb un ag sw st wr ct = record {
@@ -171,9 +174,9 @@ all-mirrored p ws lv marks u one other to lo lr few cb un ag sw st wr ct = recor
   };
   fixed = record {
     each = λ b k lb lk used.
-        subst (λ (n : ℕ). 13 ≤ getD p n 0 → exchanged (rowValues p one) (rowValues p other) (getD p n 0 - 13) ≡ getD p n 0 - 13)
-        (let e : 830 + (b * 34 + k) ≡ 830 + b * 34 + k = omega arith in e)
-        (st .each (b * 34 + k) (omega arith) (used-at p b k lk used));
+        subst (λ (n : ℕ). names ≤ getD p n 0 → exchanged (rowValues p one) (rowValues p other) (getD p n 0 - names) ≡ getD p n 0 - names)
+        (let e : blocks-at + (b * block-width + k) ≡ blocks-at + b * block-width + k = omega arith in e)
+        (st .each (b * block-width + k) (omega arith) (used-at p b k lk used));
   };
   rows = record {
     row = λ i lt. record { inside = wr .each i (omega arith) lt .inside; view = wr .each i (omega arith) lt .becomes .view; values = wr .each i (omega arith) lt .becomes .values };
@@ -188,8 +191,8 @@ pub all-found : (p ws lv : List ℕ) (marks : List Bool) (u : List ℕ) (one oth
     → b ≡ rowValues p other
     → one < rowCount p
     → other < rowCount p
-    → rowCount p ≤ 40
-    → ComeBack to 40
+    → rowCount p ≤ most-rows
+    → ComeBack to most-rows
     → Unmoved to u 4
     → Found p ws lv marks u one other to a b
 all-found p ws lv marks u one other to a b ea eb lo lr few cb un =

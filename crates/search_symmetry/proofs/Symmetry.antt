@@ -9,8 +9,8 @@ use Rattle.query_meaning.specs.Meaning.{Term, con, var, Fact, fact, Log, Atom, 
 use Rattle.query_meaning.specs.Blocks.{View}
 use Rattle.case_verdicts.specs.Table.{Table, relation, parents, owed, SameKey}
 use Rattle.case_verdicts.specs.Verdict.{Sheet}
-use Rattle.case_verdicts.specs.Accepted.{width, Fine, FineTerm, FineBlock, Accepted}
-use Rattle.case_verdicts.specs.Tableau.{Job, Copy, State, jobs, numbered, copy, logOf, withParents, headOf, Meets, Good}
+use Rattle.case_verdicts.specs.Accepted.{width, Fine, FineTerm, FineBlock, FineSheet}
+use Rattle.case_verdicts.specs.Tableau.{Job, Copy, State, jobs, numbered, copy, tableauLog, withParents, headOf, Meets, Good}
 use Rattle.case_verdicts.proofs.Tableau.{Origin, origin, in-log, of-parents, copy-block, job-is, numbered-job}
 
 -- no constant of the terms is changed
@@ -72,7 +72,7 @@ with-parents table turn f g (inr m) =
     let (some, e) = of-parents table g f m in
     inr (subst (λ h. In (turned turn h) (parents table (turned turn g))) (sym e) (in-owed (relation table (g .rel) .parent) (map turn (g .row)) some))
 
-module _ (y : Sheet) {top : ℕ} (ok : Accepted top y) (turn to : ℕ → ℕ) (sym-is : Symmetric y turn to)
+module _ (y : Sheet) {top : ℕ} (ok : FineSheet top y) (turn to : ℕ → ℕ) (sym-is : Symmetric y turn to)
     (t u : State) (turns : (k x : ℕ) → x < width → u (k * width + x) ≡ turn (t (to k * width + x))) where
   fine-variable : (ts : List Term) → Fine top ts → (x : ℕ) → In (var x) ts → x < width
   fine-variable ts fine x m = fine (var x) m
@@ -82,7 +82,7 @@ module _ (y : Sheet) {top : ℕ} (ok : Accepted top y) (turn to : ℕ → ℕ) (
   copy-row k ts fine still = row-turned turn (copy t (to k)) (copy u k) ts (λ x m. turns k x (fine-variable ts fine x m)) still
 
   -- a fact of the one log, exchanged, is one of the other
-  log-turned : (f : Fact) → In f (logOf y u) → In (turned turn f) (logOf y t)
+  log-turned : (f : Fact) → In f (tableauLog y u) → In (turned turn f) (tableauLog y t)
   log-turned f m =
       let o = origin y u f m in
       let c = o .copy-of in
@@ -101,10 +101,10 @@ module _ (y : Sheet) {top : ℕ} (ok : Accepted top y) (turn to : ℕ → ℕ) (
       })
 
   -- so is an answer
-  answer-turned : (b : Block) → StillBlock turn b → (r : List ℕ) → Answer (logOf y u) b r → Answer (logOf y t) b (map turn r)
+  answer-turned : (b : Block) → StillBlock turn b → (r : List ℕ) → Answer (tableauLog y u) b r → Answer (tableauLog y t) b (map turn r)
   answer-turned b still r a = record {
     val = λ x. turn (a .val x);
-    holds = λ q m. subst (λ l. In (fact (q .rel) l) (logOf y t)) (sym (row-turned turn (a .val) (λ x. turn (a .val x)) (q .terms) (λ x n. refl) (still .atoms q m))) (log-turned (factOf (a .val) q) (a .holds q m));
+    holds = λ q m. subst (λ l. In (fact (q .rel) l) (tableauLog y t)) (sym (row-turned turn (a .val) (λ x. turn (a .val x)) (q .terms) (λ x n. refl) (still .atoms q m))) (log-turned (factOf (a .val) q) (a .holds q m));
     differ = λ d m. absurd (subst (λ l. In d l) (still .plain) m);
     gives = row-turned turn (a .val) (λ x. turn (a .val x)) (b .head) (λ x n. refl) (still .head) ∙ ap (map turn) (a .gives);
   }
@@ -123,7 +123,7 @@ module _ (y : Sheet) {top : ℕ} (ok : Accepted top y) (turn to : ℕ → ℕ) (
       let w : row (copy u (c .number)) (c .job .is) ≡ map turn (row v (k .other .job .is)) = k .is v (copy u (c .number)) (λ x lt. turns (c .number) x lt ∙ ap (λ n. turn (copy t n x)) (sym (k .number))) in
       record { gives = e ∙ ap (map turn) q ∙ sym w; differ = λ d i. absurd (subst (λ l. In d l) (still .plain) i) }
 
-  keyed-turned : Good y t → (f g : Fact) → In f (logOf y u) → In g (logOf y u) → SameKey (y .table) f g → f .row ≡ g .row
+  keyed-turned : Good y t → (f g : Fact) → In f (tableauLog y u) → In g (tableauLog y u) → SameKey (y .table) f g → f .row ≡ g .row
   keyed-turned good f g m n s =
       let key = relation (y .table) (f .rel) .key in
       let e = good .keyed (turned turn f) (turned turn g) (log-turned f m) (log-turned g n) (record { rel = s .rel; some = s .some; first = take-map turn key (f .row) ∙ ap (map turn) (s .first) ∙ sym (take-map turn key (g .row)) }) in
@@ -134,5 +134,5 @@ module _ (y : Sheet) {top : ℕ} (ok : Accepted top y) (turn to : ℕ → ℕ) (
     meets = meets-turned good;
     keyed = keyed-turned good;
     none-more = λ w m r a. subst (λ l. In l (w .rows)) (map-twice turn (sym-is .twice) r) (sym-is .rows w m (map turn r) (good .none-more w m (map turn r) (answer-turned (w .block) (sym-is .views w m) r a)));
-    missing = λ l m a. good .missing l m (subst (Answer (logOf y t) l) (ap (map turn) head-turned ∙ map-twice turn (sym-is .twice) (headOf y t)) (answer-turned l (sym-is .lists l m) (headOf y u) a));
+    missing = λ l m a. good .missing l m (subst (Answer (tableauLog y t) l) (ap (map turn) head-turned ∙ map-twice turn (sym-is .twice) (headOf y t)) (answer-turned l (sym-is .lists l m) (headOf y u) a));
   }

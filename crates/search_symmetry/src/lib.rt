@@ -1,55 +1,32 @@
 // Whether two listed rows are alike: whether exchanging their values changes neither the sheet nor the bound slots that a failure rests on.
+use query_layout::BLOCK_NUMBERS;
+use query_layout::COLUMNS;
+use query_layout::FACT_NUMBERS;
+use query_layout::HEAD_AT;
+use query_layout::MADE_UP;
+use query_layout::NAMES;
+use sheet_format::MOST_ROWS;
+use sheet_format::MOST_VIEWS;
+use tableau_layout::BLOCKS_AT;
+use tableau_layout::MOST_COPIES;
+use tableau_layout::PLAN_NUMBERS;
+use tableau_layout::ROW_COUNT_AT;
+use tableau_layout::ROWS_AT;
+use tableau_layout::SIZES_AT;
+use tableau_layout::SLOTS;
+use tableau_layout::VIEW_BLOCKS;
+use tableau_layout::VIEW_COUNT_AT;
 ghost use mathlib.Core.Path.{_≡_};
 ghost use mathlib.Core.Bool.{true, false};
-ghost use Prim.Native.Nat.{_<_, _≤_};
+ghost use Prim.Native.Nat.{_<_, _≤_, _*_};
 ghost use lib.ListN.{length};
+ghost use Rattle.query_layout.specs.Layout.{names, block-width};
+ghost use Rattle.sheet_format.specs.Limits.{most-rows};
+ghost use Rattle.tableau_layout.specs.Layout.{most-copies, slot-end, most-blocks};
 ghost use Rattle.tableau_plan.specs.Plan.{rowValues};
-ghost use Rattle.search_conflict.specs.Reasons.{kept};
-ghost use Rattle.search_symmetry.specs.Mirrors.{exchanged, copyTo, Mirrors};
-ghost use Rattle.search_symmetry.specs.Steps.{Fours, Agrees, Swapped, Used, StaysAt, Stays, Becomes, Goes, Written, ComeBack, Unmoved, CopyTurned, CopiesTurned};
-
-// Constants lie below it.
-const TOP: usize = 1000000;
-
-const SLOTS: usize = 533;
-
-const NAMES: usize = 13;
-
-const COLUMNS: usize = 4;
-
-const WIDTH: usize = 5;
-
-const MOST_ROWS: usize = 40;
-
-const MOST_VIEWS: usize = 8;
-
-const COPIES: usize = 41;
-
-// The numbers of a block.
-const BLOCK: usize = 34;
-
-// Where a block's head stands in it, and where the sizes of the blocks stand in a plan.
-const HEAD: usize = 30;
-
-const SIZES: usize = 1170;
-
-// Where listed rows, the blocks' numbers, and the counts of rows and views stand in a plan.
-const ROWS: usize = 630;
-
-const BLOCKS: usize = 830;
-
-const ROW_COUNT: usize = 1182;
-
-const VIEW_COUNT: usize = 1183;
-
-// The values of listed row i.
-fn row_values(p: &[usize; 1184], i: usize) -> [usize; 4]
-    requires { ⌜ i < 40 ⌝ }
-    ensures { λ r. ⌜ r ≡ rowValues (now (p .entry)) i ⌝ }
-{
-    let at = ROWS + i * WIDTH;
-    [p[at + 1], p[at + 2], p[at + 3], p[at + 4]]
-}
+ghost use Rattle.search_conflict.specs.Conflict.{kept};
+ghost use Rattle.search_symmetry.specs.Symmetry.{exchanged, copyTo, Alike};
+ghost use Rattle.search_symmetry.specs.Steps.{Fours, SameFor, Swapped, Used, StaysAt, Stays, TurnsInto, Goes, WrittenCopies, ComeBack, Unmoved, CopyTurned, CopiesTurned};
 
 // A value where those of two rows are exchanged.
 fn turn(a: &[usize; 4], b: &[usize; 4], v: usize) -> usize
@@ -71,12 +48,12 @@ fn turn(a: &[usize; 4], b: &[usize; 4], v: usize) -> usize
 
 // Whether the constants of a stray row are those of the row.
 fn agrees(u: &[usize; 4], a: &[usize; 4]) -> bool
-    ensures { λ r. ⌜ (r ≡ true → Agrees (now (u .entry)) (now (a .entry)) 4) ⌝ }
+    ensures { λ r. ⌜ (r ≡ true → SameFor (now (u .entry)) (now (a .entry)) 4) ⌝ }
 {
     let mut c = 0;
     while c < COLUMNS {
         let v = u[c];
-        if v < TOP {
+        if v < MADE_UP {
             if v != a[c] {
                 return false;
             }
@@ -105,23 +82,23 @@ fn is_swapped(a: &[usize; 4], b: &[usize; 4]) -> bool
 }
 
 // Whether number k of the blocks is one of an atom that its block has, or of its head.
-fn is_used(p: &[usize; 1184], k: usize) -> bool
-    requires { ⌜ k < 340 ⌝ }
+fn is_used(p: &[usize; PLAN_NUMBERS], k: usize) -> bool
+    requires { ⌜ k < most-blocks * block-width ⌝ }
     ensures { λ r. ⌜ (r ≡ false → Used (now (p .entry)) k → ⊥) ⌝ }
 {
-    let j = k % BLOCK;
-    if HEAD <= j {
+    let j = k % BLOCK_NUMBERS;
+    if HEAD_AT <= j {
         return true;
     }
-    j / WIDTH < p[SIZES + k / BLOCK]
+    j / FACT_NUMBERS < p[SIZES_AT + k / BLOCK_NUMBERS]
 }
 
 // Whether number k of the blocks stays, if it is a constant.
-fn stays_at(p: &[usize; 1184], a: &[usize; 4], b: &[usize; 4], k: usize) -> bool
-    requires { ⌜ (k < 340) × Fours (now a) (now b) ⌝ }
+fn stays_at(p: &[usize; PLAN_NUMBERS], a: &[usize; 4], b: &[usize; 4], k: usize) -> bool
+    requires { ⌜ (k < most-blocks * block-width) × Fours (now a) (now b) ⌝ }
     ensures { λ r. ⌜ (r ≡ true → StaysAt (now (p .entry)) (now (a .entry)) (now (b .entry)) k) ⌝ }
 {
-    let t = p[BLOCKS + k];
+    let t = p[BLOCKS_AT + k];
     if t < NAMES {
         return true;
     }
@@ -132,8 +109,8 @@ fn stays_at(p: &[usize; 1184], a: &[usize; 4], b: &[usize; 4], k: usize) -> bool
 }
 
 // Whether the constants among the first n numbers of blocks stay.
-fn stays(p: &[usize; 1184], a: &[usize; 4], b: &[usize; 4], n: usize) -> bool
-    requires { ⌜ (n ≤ 340) × Fours (now a) (now b) ⌝ }
+fn stays(p: &[usize; PLAN_NUMBERS], a: &[usize; 4], b: &[usize; 4], n: usize) -> bool
+    requires { ⌜ (n ≤ most-blocks * block-width) × Fours (now a) (now b) ⌝ }
     ensures { λ r. ⌜ (r ≡ true → Stays (now (p .entry)) (now (a .entry)) (now (b .entry)) n) ⌝ }
 {
     let mut k = 0;
@@ -147,17 +124,17 @@ fn stays(p: &[usize; 1184], a: &[usize; 4], b: &[usize; 4], n: usize) -> bool
 }
 
 // Whether listed row i becomes row j.
-fn becomes(p: &[usize; 1184], a: &[usize; 4], b: &[usize; 4], i: usize, j: usize) -> bool
-    requires { ⌜ (i < 40) × (j < 40) × Fours (now a) (now b) ⌝ }
-    ensures { λ r. ⌜ (r ≡ true → Becomes (now (p .entry)) (now (a .entry)) (now (b .entry)) i j 4) ⌝ }
+fn becomes(p: &[usize; PLAN_NUMBERS], a: &[usize; 4], b: &[usize; 4], i: usize, j: usize) -> bool
+    requires { ⌜ (i < most-rows) × (j < most-rows) × Fours (now a) (now b) ⌝ }
+    ensures { λ r. ⌜ (r ≡ true → TurnsInto (now (p .entry)) (now (a .entry)) (now (b .entry)) i j 4) ⌝ }
 {
-    if p[ROWS + j * WIDTH] != p[ROWS + i * WIDTH] {
+    if p[ROWS_AT + j * FACT_NUMBERS] != p[ROWS_AT + i * FACT_NUMBERS] {
         return false;
     }
     let mut c = 0;
     while c < COLUMNS {
         let k = 1 + c;
-        if p[ROWS + j * WIDTH + k] != turn(a, b, p[ROWS + i * WIDTH + k]) {
+        if p[ROWS_AT + j * FACT_NUMBERS + k] != turn(a, b, p[ROWS_AT + i * FACT_NUMBERS + k]) {
             return false;
         }
         c += 1;
@@ -166,9 +143,9 @@ fn becomes(p: &[usize; 1184], a: &[usize; 4], b: &[usize; 4], i: usize, j: usize
 }
 
 // The listed row that listed row i becomes, itself before others; 40 where there is none.
-fn goes(p: &[usize; 1184], a: &[usize; 4], b: &[usize; 4], rows: usize, i: usize) -> usize
-    requires { ⌜ (rows ≤ 40) × (i < rows) × Fours (now a) (now b) ⌝ }
-    ensures { λ r. ⌜ (r < 40 → Goes (now (p .entry)) (now (a .entry)) (now (b .entry)) rows i r) ⌝ }
+fn goes(p: &[usize; PLAN_NUMBERS], a: &[usize; 4], b: &[usize; 4], rows: usize, i: usize) -> usize
+    requires { ⌜ (rows ≤ most-rows) × (i < rows) × Fours (now a) (now b) ⌝ }
+    ensures { λ r. ⌜ (r < most-rows → Goes (now (p .entry)) (now (a .entry)) (now (b .entry)) rows i r) ⌝ }
 {
     if becomes(p, a, b, i, i) {
         return i;
@@ -185,14 +162,14 @@ fn goes(p: &[usize; 1184], a: &[usize; 4], b: &[usize; 4], rows: usize, i: usize
 
 // Writes where each listed row goes; false where one goes nowhere.
 fn write_rows(
-    p: &[usize; 1184],
+    p: &[usize; PLAN_NUMBERS],
     a: &[usize; 4],
     b: &[usize; 4],
     rows: usize,
-    to: &mut [usize; 160],
+    to: &mut [usize; MOST_ROWS],
 ) -> bool
-    requires { ⌜ (rows ≤ 40) × (length (now to) ≡ 160) × Fours (now a) (now b) ⌝ }
-    ensures { λ r. ⌜ (r ≡ true → Written (now (p .entry)) (now (a .entry)) (now (b .entry)) rows (now (to .exit)) 40) ⌝ }
+    requires { ⌜ (rows ≤ most-rows) × (length (now to) ≡ most-rows) × Fours (now a) (now b) ⌝ }
+    ensures { λ r. ⌜ (r ≡ true → WrittenCopies (now (p .entry)) (now (a .entry)) (now (b .entry)) rows (now (to .exit)) most-rows) ⌝ }
 {
     let mut i = 0;
     while i < MOST_ROWS {
@@ -210,8 +187,8 @@ fn write_rows(
 }
 
 // Whether each row comes back.
-fn come_back(to: &[usize; 160]) -> bool
-    ensures { λ r. ⌜ (r ≡ true → ComeBack (now (to .entry)) 40) ⌝ }
+fn come_back(to: &[usize; MOST_ROWS]) -> bool
+    ensures { λ r. ⌜ (r ≡ true → ComeBack (now (to .entry)) most-rows) ⌝ }
 {
     let mut i = 0;
     while i < MOST_ROWS {
@@ -228,9 +205,9 @@ fn come_back(to: &[usize; 160]) -> bool
 }
 
 // The copy that copy k becomes.
-fn copy_to(to: &[usize; 160], k: usize) -> usize
-    requires { ⌜ (k < 41) × ComeBack (now to) 40 ⌝ }
-    ensures { λ r. ⌜ (r < 41) × (r ≡ copyTo (now (to .entry)) k) ⌝ }
+fn copy_to(to: &[usize; MOST_ROWS], k: usize) -> usize
+    requires { ⌜ (k < most-copies) × ComeBack (now to) most-rows ⌝ }
+    ensures { λ r. ⌜ (r < most-copies) × (r ≡ copyTo (now (to .entry)) k) ⌝ }
 {
     if k == 0 {
         return 0;
@@ -239,18 +216,18 @@ fn copy_to(to: &[usize; 160], k: usize) -> usize
 }
 
 // Whether the copies of a stray row's made-up values stay.
-fn is_unmoved(to: &[usize; 160], u: &[usize; 4]) -> bool
-    requires { ⌜ ComeBack (now to) 40 ⌝ }
+fn is_unmoved(to: &[usize; MOST_ROWS], u: &[usize; 4]) -> bool
+    requires { ⌜ ComeBack (now to) most-rows ⌝ }
     ensures { λ r. ⌜ (r ≡ true → Unmoved (now (to .entry)) (now (u .entry)) 4) ⌝ }
 {
     let mut c = 0;
     while c < COLUMNS {
         let v = u[c];
         c += 1;
-        if v < TOP {
+        if v < MADE_UP {
             continue;
         }
-        let n = v - TOP;
+        let n = v - MADE_UP;
         if SLOTS <= n {
             continue;
         }
@@ -280,8 +257,8 @@ fn is_copy_turned(
     k: usize,
     m: usize,
 ) -> bool
-    requires { ⌜ (k < 41) × (m < 41) × (length (now ws) ≡ 533) × (length (now lv) ≡ 533) × Fours (now a) (now b) ⌝ }
-    ensures { λ r. ⌜ (r ≡ true → CopyTurned (now (ws .entry)) (now (lv .entry)) (now (marks .entry)) (now (a .entry)) (now (b .entry)) k m 13) ⌝ }
+    requires { ⌜ (k < most-copies) × (m < most-copies) × (length (now ws) ≡ slot-end) × (length (now lv) ≡ slot-end) × Fours (now a) (now b) ⌝ }
+    ensures { λ r. ⌜ (r ≡ true → CopyTurned (now (ws .entry)) (now (lv .entry)) (now (marks .entry)) (now (a .entry)) (now (b .entry)) k m names) ⌝ }
 {
     let mut x = 0;
     while x < NAMES {
@@ -289,7 +266,7 @@ fn is_copy_turned(
         let l = m * NAMES + x;
         x += 1;
         let v = ws[n];
-        if TOP <= v {
+        if MADE_UP <= v {
             continue;
         }
         if !is_kept(lv, marks, n) {
@@ -312,13 +289,13 @@ fn are_copies_turned(
     marks: &[bool],
     a: &[usize; 4],
     b: &[usize; 4],
-    to: &[usize; 160],
+    to: &[usize; MOST_ROWS],
 ) -> bool
-    requires { ⌜ (length (now ws) ≡ 533) × (length (now lv) ≡ 533) × Fours (now a) (now b) × ComeBack (now to) 40 ⌝ }
-    ensures { λ r. ⌜ (r ≡ true → CopiesTurned (now (ws .entry)) (now (lv .entry)) (now (marks .entry)) (now (a .entry)) (now (b .entry)) (now (to .entry)) 41) ⌝ }
+    requires { ⌜ (length (now ws) ≡ slot-end) × (length (now lv) ≡ slot-end) × Fours (now a) (now b) × ComeBack (now to) most-rows ⌝ }
+    ensures { λ r. ⌜ (r ≡ true → CopiesTurned (now (ws .entry)) (now (lv .entry)) (now (marks .entry)) (now (a .entry)) (now (b .entry)) (now (to .entry)) most-copies) ⌝ }
 {
     let mut k = 0;
-    while k < COPIES {
+    while k < MOST_COPIES {
         let m = copy_to(to, k);
         if !is_copy_turned(ws, lv, marks, a, b, k, m) {
             return false;
@@ -329,8 +306,8 @@ fn are_copies_turned(
 }
 
 // Whether listed rows `one` and `other` are alike: exchanging their values changes neither the sheet, nor the kept bound slots, nor the stray row u.
-pub fn is_mirrored(
-    p: &[usize; 1184],
+pub fn are_alike(
+    p: &[usize; PLAN_NUMBERS],
     ws: &[usize],
     lv: &[usize],
     marks: &[bool],
@@ -338,7 +315,7 @@ pub fn is_mirrored(
     one: usize,
     other: usize,
 ) -> bool
-    ensures { λ r. ⌜ (r ≡ true → Mirrors (now (p .entry)) (now (ws .entry)) (now (lv .entry)) (now (marks .entry)) (now (u .entry)) one other) ⌝ }
+    ensures { λ r. ⌜ (r ≡ true → Alike (now (p .entry)) (now (ws .entry)) (now (lv .entry)) (now (marks .entry)) (now (u .entry)) one other) ⌝ }
 {
     if ws.len() != SLOTS {
         return false;
@@ -346,8 +323,8 @@ pub fn is_mirrored(
     if lv.len() != SLOTS {
         return false;
     }
-    let rows = p[ROW_COUNT];
-    let views = p[VIEW_COUNT];
+    let rows = p[ROW_COUNT_AT];
+    let views = p[VIEW_COUNT_AT];
     if MOST_ROWS < rows {
         return false;
     }
@@ -363,18 +340,18 @@ pub fn is_mirrored(
     if one == other {
         return false;
     }
-    let a = row_values(p, one);
-    let b = row_values(p, other);
+    let a = tableau_parts::values_at(p, one);
+    let b = tableau_parts::values_at(p, other);
     if !agrees(u, &a) {
         return false;
     }
     if !is_swapped(&a, &b) {
         return false;
     }
-    if !stays(p, &a, &b, (2 + views) * BLOCK) {
+    if !stays(p, &a, &b, (VIEW_BLOCKS + views) * BLOCK_NUMBERS) {
         return false;
     }
-    let mut to = [0; 160];
+    let mut to = [0; MOST_ROWS];
     if !write_rows(p, &a, &b, rows, &mut to) {
         return false;
     }

@@ -23,7 +23,7 @@ use Rattle.sheet_format.specs.Cause.{kindOf, kind, rest, terms, isHead, isAtom,
 use Rattle.sheet_format.specs.declared.Refusal.{Refusal}
 use Rattle.sheet_format.specs.declared.Seen.{Seen}
 use Rattle.sheet_format.specs.declared.Step.the-variants.{Goes, Stops}
-use Rattle.sheet_causes.specs.Formed.{Formed}
+use Rattle.sheet_causes.specs.Formed.{FormedLines}
 
 -- ---- the lines of a number form
 
@@ -41,7 +41,7 @@ whole-line ws l at j e le h =
     ∙ ap (take 7) h
     ∙ take-take 7 j (drop at ws) le
 
-pub formed-at : {ls : List Line} → Formed ls → (i : ℕ) → i < length ls → null (getD ls i []) ≡ false
+pub formed-at : {ls : List Line} → FormedLines ls → (i : ℕ) → i < length ls → null (getD ls i []) ≡ false
 formed-at {ls} f i h = go ls i (f .each) h
   where
     go : (ls : List Line) (i : ℕ) → all (λ l. not (null l)) ls ≡ true → i < length ls → null (getD ls i []) ≡ false
@@ -210,7 +210,7 @@ missing-none g h = rw (le-ltb (g .block) 2 h) refl
 -- ---- the lines' refusal and then the heads'
 
 module _ (ls : List Line) where
-  pub scan-formed : scan start [] 1 ls .number ≡ 0 → Formed ls
+  pub scan-formed : scan start [] 1 ls .number ≡ 0 → FormedLines ls
   scan-formed h = record { each = lines-formed ls start [] 1 (eq-eqb _ 0 h) }
 
   pub refused-heads : scan start [] 1 ls .number ≡ 0 → heads 1 ls ≡ refusalOf ls

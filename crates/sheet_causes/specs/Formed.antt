@@ -4,5 +4,5 @@ use mathlib.Core.Bool.{true, not}
 use mathlib.Core.List.{List}
 use Rattle.sheet_format.specs.Line.{Line, all, null}
 
-pub record Formed (ls : List Line) : Type 0 where
+pub record FormedLines (ls : List Line) : Type 0 where
   pub each : all (λ l. not (null l)) ls ≡ true

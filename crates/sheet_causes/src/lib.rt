@@ -14,7 +14,7 @@ ghost use lib.ListN.{length, getD, drop};
 ghost use Rattle.sheet_format.specs.Limits.{line-words};
 ghost use Rattle.sheet_format.specs.Line.{all, null, wordLine, wordLines};
 ghost use Rattle.sheet_format.specs.Cause.{kind, rest, terms, isHead, isAtom, atoms, occurs, bound, unsafe, heads, start, scan, refusalOf};
-ghost use Rattle.sheet_causes.specs.Formed.{Formed};
+ghost use Rattle.sheet_causes.specs.Formed.{FormedLines};
 
 // The words of line i, counted from 0.
 fn line_at(ws: &[i32], i: usize) -> [i32; LINE_WORDS]
@@ -83,7 +83,7 @@ fn occurs_in(l: [i32; LINE_WORDS], z: i32) -> bool
 
 // Whether z is among the terms of the atoms that start at line i.
 fn in_atoms(ws: &[i32], i: usize, z: i32) -> bool
-    requires { ⌜ Formed (wordLines (now ws)) ⌝ }
+    requires { ⌜ FormedLines (wordLines (now ws)) ⌝ }
     ensures { λ r. ⌜ r ≡ not (all (λ a. not (occurs z (terms a))) (atoms (drop i (wordLines (now (ws .entry)))))) ⌝ }
 {
     let n = ws.len() / LINE_WORDS;
@@ -103,7 +103,7 @@ fn in_atoms(ws: &[i32], i: usize, z: i32) -> bool
 
 // Whether z is no variable, or one that the atoms that start at line i have.
 fn is_bound(ws: &[i32], i: usize, z: i32) -> bool
-    requires { ⌜ Formed (wordLines (now ws)) ⌝ }
+    requires { ⌜ FormedLines (wordLines (now ws)) ⌝ }
     ensures { λ r. ⌜ r ≡ bound (atoms (drop i (wordLines (now (ws .entry))))) z ⌝ }
 {
     if z < 0 {
@@ -114,7 +114,7 @@ fn is_bound(ws: &[i32], i: usize, z: i32) -> bool
 
 // Whether the atoms after line i bind each of its terms.
 fn all_bound(ws: &[i32], i: usize) -> bool
-    requires { ⌜ Formed (wordLines (now ws)) ⌝ }
+    requires { ⌜ FormedLines (wordLines (now ws)) ⌝ }
     requires { ⌜ i < length (now ws) / line-words ⌝ }
     ensures { λ r. ⌜ r ≡ all (bound (atoms (drop (i + 1) (wordLines (now (ws .entry)))))) (rest (getD (wordLines (now (ws .entry))) i [])) ⌝ }
 {
@@ -132,7 +132,7 @@ fn all_bound(ws: &[i32], i: usize) -> bool
 
 // Whether line i is a head without atoms, or with a variable that none of them has.
 fn is_unsafe(ws: &[i32], i: usize) -> bool
-    requires { ⌜ Formed (wordLines (now ws)) ⌝ }
+    requires { ⌜ FormedLines (wordLines (now ws)) ⌝ }
     requires { ⌜ i < length (now ws) / line-words ⌝ }
     ensures { λ r. ⌜ r ≡ unsafe (getD (wordLines (now (ws .entry))) i []) (atoms (drop (i + 1) (wordLines (now (ws .entry))))) ⌝ }
 {
@@ -152,7 +152,7 @@ fn is_unsafe(ws: &[i32], i: usize) -> bool
 
 // The refusal of the first unsafe head.
 fn by_heads(ws: &[i32]) -> Refusal
-    requires { ⌜ Formed (wordLines (now ws)) ⌝ }
+    requires { ⌜ FormedLines (wordLines (now ws)) ⌝ }
     ensures { λ r. ⌜ r ≡ heads 1 (wordLines (now (ws .entry))) ⌝ }
 {
     let n = ws.len() / LINE_WORDS;

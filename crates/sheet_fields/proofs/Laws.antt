@@ -14,13 +14,14 @@ use lib.Seq.{drop-cons, set-split, drop-at, length-take-le, take-take, take-set-
 use mir.Syntax.{w32}
 use mir.Val.{SFits}
 use borrow.Author.Tests.{ltb-true, ltb-false, lt-ltb, le-ltb, le-leb, lt-leb}
+use Rattle.sheet_format.specs.Limits.{field-end}
 use Rattle.sheet_format.proofs.FieldLaws.{blanks, lead-blank}
 use Rattle.sheet_format.proofs.Lists.{no-way}
 use Rattle.sheet_format.specs.Field.{digit, byte, run, minus, fieldOf, fieldAt, lead, decimal, fieldBytes}
 use Rattle.sheet_format.specs.declared.Digits.{Digits}
 use Rattle.sheet_format.specs.declared.Digits.the-variants.{Blank, Minus, Run, Broken}
 use Rattle.sheet_format.specs.declared.Field.the-variants.{Malformed}
-use Rattle.sheet_fields.specs.Below.{Below}
+use Rattle.sheet_fields.specs.Below.{DigitsBelow}
 
 -- ---- reading: the rest of the eight bytes, from i on
 
@@ -40,22 +41,22 @@ run-done s d i le = ap (λ n. run d (take n s)) (let e : 8 - i ≡ 0 = omega ari
 
 -- ---- the number after i bytes is below 10 ^ i
 
-below-digit : (k : ℕ) (neg : Bool) (v b : ℕ) → v < k → Below (k * 10) (digit neg v b)
+below-digit : (k : ℕ) (neg : Bool) (v b : ℕ) → v < k → DigitsBelow (k * 10) (digit neg v b)
 below-digit k neg v b lt = low (ltb b 48)
   where
-    high : (t : Bool) → ltb 57 b ≡ t → Below (k * 10) (cond t Broken (Run neg (v * 10 + (b - 48))))
+    high : (t : Bool) → ltb 57 b ≡ t → DigitsBelow (k * 10) (cond t Broken (Run neg (v * 10 + (b - 48))))
     high true e = tt
     high false e = let h = ltb-false 57 b e in omega arith
 
-    low : (t : Bool) → Below (k * 10) (cond t Broken (cond (ltb 57 b) Broken (Run neg (v * 10 + (b - 48)))))
+    low : (t : Bool) → DigitsBelow (k * 10) (cond t Broken (cond (ltb 57 b) Broken (Run neg (v * 10 + (b - 48)))))
     low true = tt
     low false = high (ltb 57 b) refl
 
-below-if : (k : ℕ) (t : Bool) (x y : Digits) → Below k x → Below k y → Below k (cond t x y)
+below-if : (k : ℕ) (t : Bool) (x y : Digits) → DigitsBelow k x → DigitsBelow k y → DigitsBelow k (cond t x y)
 below-if k true x y p q = p
 below-if k false x y p q = q
 
-below-byte : (k : ℕ) (d : Digits) (b : ℕ) → 0 < k → Below k d → Below (k * 10) (byte d b)
+below-byte : (k : ℕ) (d : Digits) (b : ℕ) → 0 < k → DigitsBelow k d → DigitsBelow (k * 10) (byte d b)
 below-byte k Blank b lt h = below-if (k * 10) (eqb b 32) Blank _ tt (below-if (k * 10) (eqb b 45) Minus _ tt (below-digit k false 0 b lt))
 below-byte k Minus b lt h = below-if (k * 10) (eqb b 48) Broken _ tt (below-digit k true 0 b lt)
 below-byte k (Run neg v) b lt h = below-if (k * 10) (eqb v 0) Broken _ tt (below-digit k neg v b h)
@@ -64,10 +65,10 @@ below-byte k Broken b lt h = tt
 ten-pos : (i : ℕ) → 1 ≤ 10 ^ i
 ten-pos i = pow-le-pow-right {n = 10} (omega arith) {i = 0} (omega arith)
 
-pub below-next : (i : ℕ) (d : Digits) (b : ℕ) → Below (10 ^ i) d → Below (10 ^ (i + 1)) (byte d b)
-below-next i d b h = subst (λ k. Below k (byte d b)) (sym (ap (λ n. 10 ^ n) (add-one i) ∙ pow-suc 10 i)) (below-byte (10 ^ i) d b (ten-pos i) h)
+pub below-next : (i : ℕ) (d : Digits) (b : ℕ) → DigitsBelow (10 ^ i) d → DigitsBelow (10 ^ (i + 1)) (byte d b)
+below-next i d b h = subst (λ k. DigitsBelow k (byte d b)) (sym (ap (λ n. 10 ^ n) (add-one i) ∙ pow-suc 10 i)) (below-byte (10 ^ i) d b (ten-pos i) h)
 
-pub below-eight : (i : ℕ) (d : Digits) → i ≤ 8 → Below (10 ^ i) d → Below 100000000 d
+pub below-eight : (i : ℕ) (d : Digits) → i ≤ 8 → DigitsBelow (10 ^ i) d → DigitsBelow field-end d
 below-eight i Blank le h = tt
 below-eight i Minus le h = tt
 below-eight i (Run neg v) le h = let p : 10 ^ i ≤ 10 ^ 8 = pow-le-pow-right {n = 10} (omega arith) {i = i} {j = 8} (omega arith) in omega arith
@@ -137,7 +138,7 @@ pub negated : (v : ℕ) → pos 0 -ℤ pos v ≡ minus v
 negated zero = refl
 negated (suc n) = rw (lt-ltb 0 (suc n) (omega arith)) (ap negsuc (let e : suc n - 1 ≡ n = omega arith in e))
 
-pub minus-fits : (v : ℕ) → v < 100000000 → SFits w32 (minus v)
+pub minus-fits : (v : ℕ) → v < field-end → SFits w32 (minus v)
 minus-fits zero lt = record { sfits = omega arith }
 minus-fits (suc n) lt = record { sfits = omega arith }
 

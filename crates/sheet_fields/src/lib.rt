@@ -6,13 +6,14 @@ ghost use mathlib.Core.List.{_++_};
 ghost use Prim.Native.Nat.{ℕ, _+_, _≤_, _<_};
 ghost use lib.IntN.{natAbs};
 ghost use lib.ListN.{length, take, drop, replicate};
+ghost use Rattle.sheet_format.specs.Limits.{field-end};
 ghost use Rattle.sheet_format.specs.Field.{digit, byte, run, signed, told, fieldAt, lead, decimal, fieldBytes};
 ghost use Rattle.sheet_format.specs.declared.Digits.the-variants.{Blank};
-ghost use Rattle.sheet_fields.specs.Below.{Below};
+ghost use Rattle.sheet_fields.specs.Below.{DigitsBelow};
 
 // A number and one digit more.
 fn digit(neg: bool, v: usize, b: u8) -> Digits
-    requires { ⌜ v < 100000000 ⌝ }
+    requires { ⌜ v < field-end ⌝ }
     ensures { λ r. ⌜ r ≡ digit neg v b ⌝ }
 {
     if b < 48 {
@@ -26,7 +27,7 @@ fn digit(neg: bool, v: usize, b: u8) -> Digits
 
 // One byte more.
 fn byte(d: Digits, b: u8) -> Digits
-    requires { ⌜ Below 100000000 d ⌝ }
+    requires { ⌜ DigitsBelow field-end d ⌝ }
     ensures { λ r. ⌜ r ≡ byte d b ⌝ }
 {
     match d {
@@ -58,7 +59,7 @@ fn byte(d: Digits, b: u8) -> Digits
 // The eight bytes at a place.
 fn run(s: &[u8], at: usize) -> Digits
     requires { ⌜ at + 8 ≤ length (now s) ⌝ }
-    ensures { λ r. ⌜ (r ≡ run Blank (take 8 (drop at (now (s .entry))))) × Below 100000000 r ⌝ }
+    ensures { λ r. ⌜ (r ≡ run Blank (take 8 (drop at (now (s .entry))))) × DigitsBelow field-end r ⌝ }
 {
     let mut d = Digits::Blank;
     let mut i = 0;
@@ -71,7 +72,7 @@ fn run(s: &[u8], at: usize) -> Digits
 
 // A number with its sign.
 fn signed(neg: bool, v: usize) -> i32
-    requires { ⌜ v < 100000000 ⌝ }
+    requires { ⌜ v < field-end ⌝ }
     ensures { λ r. ⌜ r ≡ signed neg v ⌝ }
 {
     if neg {
@@ -82,7 +83,7 @@ fn signed(neg: bool, v: usize) -> i32
 
 // What the bytes came to.
 fn told(d: Digits) -> Field
-    requires { ⌜ Below 100000000 d ⌝ }
+    requires { ⌜ DigitsBelow field-end d ⌝ }
     ensures { λ r. ⌜ r ≡ told d ⌝ }
 {
     match d {

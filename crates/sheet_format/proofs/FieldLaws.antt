@@ -10,6 +10,7 @@ use lib.IntN.{ℤ, pos, negsuc}
 use lib.ListN.{length, replicate, length-append, length-replicate}
 use lib.Seq.{append-snoc}
 use borrow.Author.Tests.{ltb-true, ltb-false, lt-ltb, le-ltb, eqb-true, eqb-false, ne-eqb}
+use Rattle.sheet_format.specs.Limits.{field-end, field-minus-end}
 use Rattle.sheet_format.specs.Field.{digit, byte, run, told, fieldOf, lead, decimal, fieldBytes, fits}
 use Rattle.sheet_format.specs.Line.{all}
 use Rattle.sheet_format.specs.declared.Digits.{Digits}
@@ -117,8 +118,8 @@ run-decimal (suc k) neg v h =
 
 pub field-back : (z : ℤ) → fits z ≡ true → fieldOf (fieldBytes z) ≡ Number z
 unfolding Room
-field-back (pos n) e = ap told (run-decimal 8 false n (ltb-true n 100000000 e))
-field-back (negsuc n) e = ap told (run-decimal 8 true (suc n) (omega arith, ltb-true (suc n) 10000000 e))
+field-back (pos n) e = ap told (run-decimal 8 false n (ltb-true n field-end e))
+field-back (negsuc n) e = ap told (run-decimal 8 true (suc n) (omega arith, ltb-true (suc n) field-minus-end e))
 
 -- ---- reading
 
@@ -196,9 +197,9 @@ told-shown : (d : Digits) (s : List ℕ) (z : ℤ) → Shown 8 d s → told d �
 unfolding Shown Room
 told-shown Blank s z h e = none e
 told-shown Minus s z h e = none e
-told-shown (Run false v) s z h e = subst (λ x. (fieldBytes x ≡ s) × (fits x ≡ true)) (same (pos v) z e) (sym (h .0), lt-ltb v 100000000 (h .1))
+told-shown (Run false v) s z h e = subst (λ x. (fieldBytes x ≡ s) × (fits x ≡ true)) (same (pos v) z e) (sym (h .0), lt-ltb v field-end (h .1))
 told-shown (Run true zero) s z h e = absurd (omega arith)
-told-shown (Run true (suc n)) s z h e = subst (λ x. (fieldBytes x ≡ s) × (fits x ≡ true)) (same (negsuc n) z e) (sym (h .0), lt-ltb (suc n) 10000000 (h .1 .1))
+told-shown (Run true (suc n)) s z h e = subst (λ x. (fieldBytes x ≡ s) × (fits x ≡ true)) (same (negsuc n) z e) (sym (h .0), lt-ltb (suc n) field-minus-end (h .1 .1))
 told-shown Broken s z h e = none e
 
 pub field-shown : (s : List ℕ) (z : ℤ) → length s ≡ 8 → fieldOf s ≡ Number z → fieldBytes z ≡ s

@@ -8,3 +8,4 @@ pub mod Endings
 pub mod KindLaws
 pub mod WordLines
 pub mod Slices
+pub mod Returned

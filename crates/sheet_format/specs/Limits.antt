@@ -51,6 +51,10 @@ most-atoms = 6
 abbrev pub most-view-atoms : ℕ
 most-view-atoms = 3
 
+-- a sheet has one saved list
+abbrev pub most-lists : ℕ
+most-lists = 1
+
 abbrev pub most-views : ℕ
 most-views = 8
 

@@ -22,7 +22,17 @@ abbrev pub returned : Ending → Returned
 returned (Done n) = record { number = 0; line = 0; count = n }
 returned (Refused c l) = record { number = c; line = l; count = 0 }
 
--- the refusal if there is one; else 13 if the lent room is below what is wanted; else n
+abbrev pub refusedBy : ℕ → ℕ → Returned
+refusedBy c l = record { number = c; line = l; count = 0 }
+
+abbrev pub doneWith : ℕ → Returned
+doneWith n = record { number = 0; line = 0; count = n }
+
+-- the refusal's number and line if there is one; else 13 if the lent room is below what is wanted; else the count n
+abbrev pub answered : Refusal → ℕ → ℕ → ℕ → Returned
+answered r room wanted n = cond (eqb (r .number) 0) (cond (ltb room wanted) (refusedBy 13 0) (doneWith n)) (refusedBy (r .number) (r .line))
+
+-- the same as an answer: the refusal if there is one; else 13 if the lent room is below what is wanted; else n
 abbrev pub ending : Refusal → ℕ → ℕ → ℕ → Ending
 ending r room wanted n = cond (eqb (r .number) 0) (cond (ltb room wanted) (Refused 13 0) (Done n)) (Refused (r .number) (r .line))
 
@@ -43,6 +53,9 @@ sheetRefusal s = cond (ltb most-sheet-bytes (length s)) (refusal 1 0) (refusalOf
 unfoldable pub readEnding : List ℕ → ℕ → Ending
 readEnding s room = ending (sheetRefusal s) room most-words (length (byteLines s))
 
+abbrev pub readReturned : List ℕ → ℕ → Returned
+readReturned s room = answered (sheetRefusal s) room most-words (length (byteLines s))
+
 unfoldable pub readWords : List ℕ → List ℤ → List ℤ
 readWords s out = lentBy (readEnding s (length out)) (wordsOf (byteLines s)) out
 
@@ -54,6 +67,9 @@ wordsRefusal ws = cond (ltb most-words (length ws)) (refusal 1 0) (cond (eqb (le
 
 unfoldable pub writeEnding : List ℤ → ℕ → Ending
 writeEnding ws room = ending (wordsRefusal ws) room most-bytes (length (bytesOf (wordLines ws)))
+
+abbrev pub writeReturned : List ℤ → ℕ → Returned
+writeReturned ws room = answered (wordsRefusal ws) room most-bytes (length (bytesOf (wordLines ws)))
 
 unfoldable pub writeBytes : List ℤ → List ℕ → List ℕ
 writeBytes ws out = lentBy (writeEnding ws (length out)) (bytesOf (wordLines ws)) out

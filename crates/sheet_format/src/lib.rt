@@ -34,10 +34,13 @@ pub const VARIABLES: i32 = 12;
 // The relations' columns, from relation 1 on: Rower, Strap, Worn, Sig, Beat, Noise, Pulse, Coach, Seat, Pause.
 pub const COLUMNS: [usize; 10] = [2, 1, 3, 2, 2, 2, 3, 2, 4, 1];
 
-// The most atoms of the question or the list, and of a view; the most views; the most rows, of all views together.
+// The most atoms of the question or the list, and of a view; the lists, of which a sheet has one; the most views; the most rows, of all views
+// together.
 pub const MOST_ATOMS: usize = 6;
 
 pub const MOST_VIEW_ATOMS: usize = 3;
+
+pub const MOST_LISTS: usize = 1;
 
 pub const MOST_VIEWS: usize = 8;
 

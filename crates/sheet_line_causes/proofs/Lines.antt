@@ -18,7 +18,7 @@ use Rattle.sheet_format.specs.Cause.Kind.{question, saved, view, atom, row}
 use Rattle.sheet_format.specs.Relations.{columnsOf}
 use Rattle.sheet_format.specs.declared.Seen.{Seen}
 use Rattle.sheet_format.specs.declared.Step.the-variants.{Goes, Stops}
-use Rattle.sheet_line_causes.specs.Parts.{causeBy, Counted, fieldCount, fields}
+use Rattle.sheet_line_causes.specs.Parts.{causeBy, CountedFields, fieldCount, fields}
 
 -- ---- the fields by the words
 
@@ -133,7 +133,7 @@ rowRest g b n ws r =
     (cond (not (eqb (n - 1) (g .columns))) 7
     (cond (eqb (g .last) 5 && not (above (rest b) (slice 2 (n + 1) ws))) 9 0)))
 
-module _ {ws : List ℤ} {n : ℕ} (h : Counted ws n) where
+module _ {ws : List ℤ} {n : ℕ} (h : CountedFields ws n) where
   pub fields-length : length (fields n ws) ≡ n
   fields-length = fields-count n ws (h .seven) (h .most)
 
@@ -216,7 +216,7 @@ room g b k l n d z =
 
 -- ---- the step
 
-pub counted : (ws : List ℤ) (n : ℕ) → length ws ≡ 7 → n ≡ length (wordLine ws) → (n ≡ 0 → ⊥) → Counted ws n
+pub counted : (ws : List ℤ) (n : ℕ) → length ws ≡ 7 → n ≡ length (wordLine ws) → (n ≡ 0 → ⊥) → CountedFields ws n
 counted ws n h e z =
     let m = line-fields ws h .1 in
     record { seven = h; least = omega (arith, z); most = omega arith }
@@ -229,7 +229,7 @@ step-none g b (z ∷ l) e = absurd (omega arith)
 pub step-malformed : (g : Seen) (b : Line) (ws : List ℤ) (n : ℕ) → n ≡ length (wordLine ws) → n ≡ 0 → Stops 2 ≡ stepOf g b (wordLine ws)
 step-malformed g b ws n e z = sym (step-none g b (wordLine ws) (sym e ∙ z))
 
-module _ (g : Seen) (b : Line) (ws : List ℤ) (n : ℕ) (h : Counted ws n) (e : n ≡ length (wordLine ws)) where
+module _ (g : Seen) (b : Line) (ws : List ℤ) (n : ℕ) (h : CountedFields ws n) (e : n ≡ length (wordLine ws)) where
   line-is-fields : wordLine ws ≡ getD ws 1 (pos 0) ∷ slice 2 (n + 1) ws
   line-is-fields = line-fields ws (h .seven) .0 ∙ ap (λ k. fields k ws) (sym e) ∙ fields-cons h
 

@@ -9,6 +9,7 @@ use lib.Signed.{ltZ, leZ}
 use mir.Syntax.{w32}
 use mir.Val.{SFits, ofZ}
 use borrow.Author.Tests.{ltb-true, ltb-false, leb-true, leb-false, lt-ltb, le-ltb, le-leb, lt-leb, ne-eqb, not-true, not-false}
+use Rattle.sheet_format.specs.Limits.{field-end, field-minus-end}
 use Rattle.list_laws.proofs.Words.{word-of}
 use Rattle.sheet_format.proofs.Lists.{no-way}
 use Rattle.sheet_format.specs.Field.{fits}
@@ -24,13 +25,13 @@ failed {r} e n = sym e ∙ not-true r n
 pub held : {r t : Bool} → r ≡ t → not r ≡ false → t ≡ true
 held {r} e n = sym e ∙ not-false r n
 
-pub wide-low : (z : ℤ) → leZ z (negsuc 9999999) ≡ true → false ≡ fits z
+pub wide-low : (z : ℤ) → leZ z (negsuc (field-minus-end - 1)) ≡ true → false ≡ fits z
 wide-low (pos n) e = no-way e
-wide-low (negsuc n) e = sym (le-ltb (suc n) 10000000 (let h = leb-true 9999999 n e in omega arith))
+wide-low (negsuc n) e = sym (le-ltb (suc n) field-minus-end (let h = leb-true (field-minus-end - 1) n e in omega arith))
 
-pub narrow : (z : ℤ) → leZ z (negsuc 9999999) ≡ false → ltZ z (pos 100000000) ≡ fits z
+pub narrow : (z : ℤ) → leZ z (negsuc (field-minus-end - 1)) ≡ false → ltZ z (pos field-end) ≡ fits z
 narrow (pos n) e = refl
-narrow (negsuc n) e = sym (lt-ltb (suc n) 10000000 (let h = leb-false 9999999 n e in omega arith))
+narrow (negsuc n) e = sym (lt-ltb (suc n) field-minus-end (let h = leb-false (field-minus-end - 1) n e in omega arith))
 
 pub zero-bits : (z : ℤ) → SFits w32 z → eqb (ofZ w32 z) 0 ≡ isZero z
 zero-bits (pos n) h = refl

@@ -27,7 +27,7 @@ abbrev pub fieldCount : ℤ → ℕ
 fieldCount z = cond (leb (natural z) most-fields) (natural z) 0
 
 -- the words of a line, with its field count
-pub record Counted (ws : List ℤ) (n : ℕ) : Type 0 where
+pub record CountedFields (ws : List ℤ) (n : ℕ) : Type 0 where
   pub seven : length ws ≡ line-words
   pub least : 1 ≤ n
   pub most : n ≤ most-fields

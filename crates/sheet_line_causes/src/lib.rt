@@ -36,7 +36,7 @@ ghost use Rattle.sheet_format.specs.Cause.{above, atomsOf, constant, kindOf, ne
 ghost use Rattle.sheet_format.specs.Cause.Kind.{question, saved, view, atom, row};
 ghost use Rattle.sheet_format.specs.Field.{fits};
 ghost use Rattle.sheet_format.specs.Line.{all, isZero, wordLine};
-ghost use Rattle.sheet_line_causes.specs.Parts.{causeBy, Counted, fieldCount, fields, passes};
+ghost use Rattle.sheet_line_causes.specs.Parts.{causeBy, CountedFields, fieldCount, fields, passes};
 
 // The largest field count, as a word.
 const LAST_COUNT: i32 = MOST_FIELDS as i32;
@@ -145,7 +145,7 @@ fn count(words: &[i32]) -> usize
 
 // The question's head: its block comes first.
 fn question_cause(g: Seen, words: &[i32], n: usize) -> usize
-    requires { ⌜ Counted (now words) n ⌝ }
+    requires { ⌜ CountedFields (now words) n ⌝ }
     ensures { λ r. ⌜ r ≡ causeBy g [] question (fields n (now (words .entry))) ⌝ }
 {
     let block = g.block;
@@ -163,7 +163,7 @@ fn question_cause(g: Seen, words: &[i32], n: usize) -> usize
 
 // The list's head: in the question's block, and as long as the question's head.
 fn saved_cause(g: Seen, words: &[i32], n: usize) -> usize
-    requires { ⌜ Counted (now words) n ⌝ }
+    requires { ⌜ CountedFields (now words) n ⌝ }
     ensures { λ r. ⌜ r ≡ causeBy g [] saved (fields n (now (words .entry))) ⌝ }
 {
     let block = g.block;
@@ -185,7 +185,7 @@ fn saved_cause(g: Seen, words: &[i32], n: usize) -> usize
 
 // A view's head: in the list's block or a view's.
 fn view_cause(g: Seen, words: &[i32], n: usize) -> usize
-    requires { ⌜ Counted (now words) n ⌝ }
+    requires { ⌜ CountedFields (now words) n ⌝ }
     ensures { λ r. ⌜ r ≡ causeBy g [] view (fields n (now (words .entry))) ⌝ }
 {
     let block = g.block;
@@ -217,7 +217,7 @@ fn most_atoms(block: usize) -> usize
 
 // An atom: after a head or an atom, with the columns of its relation.
 fn atom_cause(g: Seen, words: &[i32], n: usize) -> usize
-    requires { ⌜ Counted (now words) n ⌝ }
+    requires { ⌜ CountedFields (now words) n ⌝ }
     ensures { λ r. ⌜ r ≡ causeBy g [] atom (fields n (now (words .entry))) ⌝ }
 {
     let last = g.last;
@@ -272,7 +272,7 @@ fn is_above(before: &[i32], m: usize, words: &[i32], n: usize) -> bool
 
 // A row after a row, and not above it.
 fn not_above(last: usize, before: &[i32], words: &[i32], n: usize) -> bool
-    requires { ⌜ (length (now before) ≡ 7) × Counted (now words) n ⌝ }
+    requires { ⌜ (length (now before) ≡ 7) × CountedFields (now words) n ⌝ }
     ensures { λ r. ⌜ r ≡ (eqb last 5 && not (above (rest (wordLine (now (before .entry)))) (slice 2 (n + 1) (now (words .entry))))) ⌝ }
 {
     if last != ROW_KIND {
@@ -284,7 +284,7 @@ fn not_above(last: usize, before: &[i32], words: &[i32], n: usize) -> bool
 
 // A row: after a view's atom or a row, constants only, as long as its head, and above the row before it.
 fn row_cause(g: Seen, before: &[i32], words: &[i32], n: usize) -> usize
-    requires { ⌜ (length (now before) ≡ 7) × Counted (now words) n ⌝ }
+    requires { ⌜ (length (now before) ≡ 7) × CountedFields (now words) n ⌝ }
     ensures { λ r. ⌜ r ≡ causeBy g (wordLine (now (before .entry))) row (fields n (now (words .entry))) ⌝ }
 {
     let block = g.block;
@@ -317,7 +317,7 @@ fn row_cause(g: Seen, before: &[i32], words: &[i32], n: usize) -> usize
 
 // The cause of a line by the kind that its first field names.
 fn line_cause(g: Seen, before: &[i32], words: &[i32], n: usize) -> usize
-    requires { ⌜ (length (now before) ≡ 7) × Counted (now words) n ⌝ }
+    requires { ⌜ (length (now before) ≡ 7) × CountedFields (now words) n ⌝ }
     ensures { λ r. ⌜ r ≡ causeBy g (wordLine (now (before .entry))) (kindOf (getD (now (words .entry)) 1 (pos 0))) (fields n (now (words .entry))) ⌝ }
 {
     let kind = words[1];

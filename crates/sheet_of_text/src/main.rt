@@ -3,7 +3,7 @@ use libc::STDERR_FILENO;
 use libc::STDIN_FILENO;
 use libc::STDOUT_FILENO;
 use sheet_format::MOST_BYTES;
-use text_reader::MOST_TEXT;
+use text_begins::MOST_TEXT;
 use text_to_sheet::Made;
 use text_writer::TEXT_ROOM;
 

@@ -8,6 +8,7 @@ use lib.Dec.{eqb}
 use lib.IntN.{ℤ, pos}
 use lib.ListN.{length, take, drop, getD, replicate, length-append, length-drop, drop-of-length-le}
 use lib.Seq.{drop-drop, take-length}
+use Rattle.sheet_format.specs.Limits.{most-lines, line-words}
 use Rattle.sheet_format.specs.Line.{Line, all, null, byteLines, lineOf, lineWords, wordsOf}
 use Rattle.sheet_format.specs.Cause.{scan, start, refusalOf}
 use Rattle.sheet_format.proofs.Lists.{no-way, append-nil, gather-append}
@@ -45,12 +46,12 @@ pub record Parsing (s : List ℕ) (ws : List ℤ) (n at : ℕ) : Type 0 where
   pub count : length lines ≡ n
   pub few : n ≤ 87
   pub inside : at ≤ length s
-  pub room : length ws ≡ 609
+  pub room : length ws ≡ (most-lines + 1) * line-words
   pub words : take (n * 7) ws ≡ wordsOf lines
   pub good : Goods lines
   pub rest : byteLines s ≡ lines ++ byteLines (drop at s)
 
-pub parsing-none : (s : List ℕ) (ws : List ℤ) → length ws ≡ 609 → Parsing s ws 0 0
+pub parsing-none : (s : List ℕ) (ws : List ℤ) → length ws ≡ (most-lines + 1) * line-words → Parsing s ws 0 0
 unfolding wordsOf
 parsing-none s ws h = record { lines = []; count = refl; few = omega arith; inside = omega arith; room = h; words = refl; good = tt; rest = refl }
 

@@ -2,8 +2,9 @@
 ghost use mathlib.Core.Path.{_≡_};
 ghost use Prim.Native.Nat.{_+_, _-_, _*_, _≤_};
 ghost use lib.ListN.{length, take, drop};
+ghost use Rattle.sheet_format.specs.Limits.{most-lines, line-words};
 ghost use Rattle.sheet_format.specs.Line.{lineOf, lineWords};
-ghost use Rattle.sheet_format.specs.Sheet.{readEnding, readWords};
+ghost use Rattle.sheet_format.specs.Sheet.{readEnding, readWords, returned, readReturned};
 ghost use Rattle.list_laws.specs.Wrote.{Wrote};
 ghost use Rattle.sheet_reader.specs.Parsed.{Parsed};
 use sheet_format::Ending;
@@ -75,7 +76,7 @@ fn put_line(ws: &mut [i32], n: usize, l: [i32; LINE_WORDS])
 
 // The lines of a sheet as words, up to the first malformed line and to line 87; how many they are.
 fn parse(s: &[u8], ws: &mut [i32]) -> usize
-    requires { ⌜ length (now ws) ≡ 609 ⌝ }
+    requires { ⌜ length (now ws) ≡ (most-lines + 1) * line-words ⌝ }
     ensures { λ r. ⌜ Parsed (now (s .entry)) (now (ws .exit)) r ⌝ }
 {
     let mut n = 0;
@@ -114,7 +115,7 @@ fn copy(ws: &[i32], n: usize, out: &mut [i32])
 
 // A sheet's bytes to its number form in the lent words.
 pub fn read(sheet: &[u8], out: &mut [i32]) -> Ending
-    ensures { λ r. ⌜ (r ≡ readEnding (now (sheet .entry)) (length (now (out .entry)))) × (now (out .exit) ≡ readWords (now (sheet .entry)) (now (out .entry))) ⌝ }
+    ensures { λ r. ⌜ (r ≡ readEnding (now (sheet .entry)) (length (now (out .entry)))) × (now (out .exit) ≡ readWords (now (sheet .entry)) (now (out .entry))) × (returned r ≡ readReturned (now (sheet .entry)) (length (now (out .entry)))) ⌝ }
 {
     if MOST_SHEET_BYTES < sheet.len() {
         return Ending::Refused(TOO_LONG, 0);

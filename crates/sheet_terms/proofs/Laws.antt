@@ -8,6 +8,7 @@ use lib.IntN.{ℤ, pos, negsuc, _-ℤ_}
 use lib.ListN.{getD, List·getD-eq-default}
 use lib.Signed.{ltZ}
 use borrow.Author.Tests.{ltb-true, ltb-false, lt-ltb, le-ltb}
+use Rattle.sheet_format.specs.Limits.{constant-end}
 use Rattle.sheet_format.specs.Line.{natural}
 use Rattle.sheet_format.proofs.Lists.{no-way}
 use Rattle.sheet_format.specs.Cause.{termOf, orOut}
@@ -30,15 +31,15 @@ unfolding termOf
 term-low (pos n) e = no-way e
 term-low (negsuc n) e = ap (λ b. orOut b (Variable (suc n))) (sym (le-ltb n 12 (let h = ltb-true 11 n e in omega arith)))
 
-pub constant : (z : ℤ) → ltZ z (pos 0) ≡ false → ltZ z (pos 1000000) ≡ true → (n : ℕ) × (n < 1000000) × (z ≡ pos n)
-constant (pos n) e f = (n, ltb-true n 1000000 f, refl)
+pub constant : (z : ℤ) → ltZ z (pos 0) ≡ false → ltZ z (pos constant-end) ≡ true → (n : ℕ) × (n < constant-end) × (z ≡ pos n)
+constant (pos n) e f = (n, ltb-true n constant-end f, refl)
 constant (negsuc n) e f = no-way (sym e)
 
-pub term-constant : (n : ℕ) → n < 1000000 → Constant n ≡ termOf (pos n)
+pub term-constant : (n : ℕ) → n < constant-end → Constant n ≡ termOf (pos n)
 unfolding termOf
-term-constant n h = ap (λ b. orOut b (Constant n)) (sym (lt-ltb n 1000000 h))
+term-constant n h = ap (λ b. orOut b (Constant n)) (sym (lt-ltb n constant-end h))
 
-pub term-high : (z : ℤ) → ltZ z (pos 1000000) ≡ false → OutOfRange ≡ termOf z
+pub term-high : (z : ℤ) → ltZ z (pos constant-end) ≡ false → OutOfRange ≡ termOf z
 unfolding termOf
 term-high (pos n) e = ap (λ b. orOut b (Constant n)) (sym e)
 term-high (negsuc n) e = no-way (sym e)

@@ -3,10 +3,11 @@ ghost use mathlib.Core.Path.{_≡_};
 ghost use mathlib.Core.Bool.{false};
 ghost use Prim.Native.Nat.{_+_, _*_, _≤_};
 ghost use lib.ListN.{length, take, drop};
+ghost use Rattle.sheet_format.specs.Limits.{most-bytes};
 ghost use Rattle.sheet_format.specs.Field.{fieldBytes};
 ghost use Rattle.sheet_format.specs.Line.{lineBytes, bytesOf, wordLine, wordLines, null};
 ghost use Rattle.sheet_format.specs.Cause.{refusalOf};
-ghost use Rattle.sheet_format.specs.Sheet.{writeEnding, writeBytes};
+ghost use Rattle.sheet_format.specs.Sheet.{writeEnding, writeBytes, returned, writeReturned};
 ghost use Rattle.list_laws.specs.Wrote.{Wrote};
 use sheet_format::Ending;
 use sheet_format::FIELD_BYTES;
@@ -56,7 +57,7 @@ fn put_bytes(words: &[i32], i: usize, out: &mut [u8], at: usize) -> usize
 
 // The bytes of all lines of the words; how many they are.
 fn put_lines(words: &[i32], out: &mut [u8]) -> usize
-    requires { ⌜ (refusalOf (wordLines (now words)) .number ≡ 0) × (4214 ≤ length (now out)) ⌝ }
+    requires { ⌜ (refusalOf (wordLines (now words)) .number ≡ 0) × (most-bytes ≤ length (now out)) ⌝ }
     ensures { λ r. ⌜ Wrote (now (out .entry)) (now (out .exit)) 0 r (bytesOf (wordLines (now (words .entry)))) ⌝ }
 {
     let n = words.len() / LINE_WORDS;
@@ -71,7 +72,7 @@ fn put_lines(words: &[i32], out: &mut [u8]) -> usize
 
 // A number form to its sheet's bytes in the lent bytes.
 pub fn write(words: &[i32], out: &mut [u8]) -> Ending
-    ensures { λ r. ⌜ (r ≡ writeEnding (now (words .entry)) (length (now (out .entry)))) × (now (out .exit) ≡ writeBytes (now (words .entry)) (now (out .entry))) ⌝ }
+    ensures { λ r. ⌜ (r ≡ writeEnding (now (words .entry)) (length (now (out .entry)))) × (now (out .exit) ≡ writeBytes (now (words .entry)) (now (out .entry))) × (returned r ≡ writeReturned (now (words .entry)) (length (now (out .entry)))) ⌝ }
 {
     if MOST_WORDS < words.len() {
         return Ending::Refused(TOO_LONG, 0);

@@ -9,30 +9,33 @@ use lib.Dec.{ltb}
 use lib.ListN.{length, getD, drop, length-drop, length-map, length-append, drop-of-length-le, List·getD-append}
 use lib.Seq.{drop-cons, drop-drop, drop-at, getD-drop}
 use borrow.Author.Tests.{ltb-true, ltb-false, eq-eqb, ne-eqb}
+use Rattle.query_layout.specs.Layout.{block-width}
+use Rattle.tableau_layout.specs.Layout.{blocks-at, plan-numbers, rows-at, sizes-at, tableau-atoms, view-block}
+use Rattle.sheet_format.specs.Limits.{most-atoms, most-rows}
 use Rattle.query_encoding.proofs.Lists.{at-in}
 use Rattle.list_laws.proofs.Lists.{part-get}
 use Rattle.query_meaning.specs.Meaning.{Atom, Block}
-use Rattle.query_encoding.specs.Numbers.{number, termAt, atomAt, BlockNumbers}
+use Rattle.query_encoding.specs.Encoding.{number, termAt, atomAt, BlockNumbers}
 use Rattle.case_verdicts.specs.Tableau.{copy}
 use Rattle.tableau_plan.specs.Plan.{blockNumbers, blockSize, slotValue}
-use Rattle.tableau_plan.specs.Parts.{Kept, slotOf, placedNumber, sourceOf, noBlock, Placed, unplaced, atomsFrom, Sources, PlacedNumbers, TableauDone}
+use Rattle.tableau_plan.specs.Parts.{KeptOutside, slotOf, placedNumber, sourceOf, noBlock, PlacedAtom, unplaced, atomsFrom, Sources, PlacedNumbers, TableauDone}
 use Rattle.tableau_plan.proofs.Blocks.{numbers-same}
 use Rattle.tableau_plan.proofs.Tableau.{slot-value, term-fine}
 
 -- ---- blocks and rows that stay
 
-source-same : (p q : List ℕ) (k : ℕ) → Kept p q 0 630 → sourceOf q k ≡ sourceOf p k
+source-same : (p q : List ℕ) (k : ℕ) → KeptOutside p q 0 rows-at → sourceOf q k ≡ sourceOf p k
 source-same p q zero h = refl
-source-same p q (suc r) h = ap (λ n. 2 + n) (h .above (630 + r * 5 + 0) (omega arith))
+source-same p q (suc r) h = ap view-block (h .above (rows-at + r * 5 + 0) (omega arith))
 
-pub sources-kept : (p q : List ℕ) (n : ℕ) (bs : List Block) → length p ≡ 1184 → Kept p q 0 630 → Sources p n bs → Sources q n bs
+pub sources-kept : (p q : List ℕ) (n : ℕ) (bs : List Block) → length p ≡ plan-numbers → KeptOutside p q 0 rows-at → Sources p n bs → Sources q n bs
 sources-kept p q n bs s h d = record {
   count = d .count;
   low = λ k l. let e = source-same p q k h in let w = d .low k l in omega arith;
   numbers = λ k l.
       let w = d .low k l in
       subst (λ b. BlockNumbers (blockNumbers q b) (blockSize q b) (getD bs k noBlock)) (sym (source-same p q k h))
-      (subst (λ z. BlockNumbers (blockNumbers q (sourceOf p k)) z (getD bs k noBlock)) (sym (h .above (1170 + sourceOf p k) (omega arith)))
+      (subst (λ z. BlockNumbers (blockNumbers q (sourceOf p k)) z (getD bs k noBlock)) (sym (h .above (sizes-at + sourceOf p k) (omega arith)))
       (numbers-same p q (sourceOf p k) (λ z. BlockNumbers z (blockSize p (sourceOf p k)) (getD bs k noBlock)) s (h .same ∙ s) w (λ y g v. h .above y (omega arith)) (d .numbers k l)));
   fine = d .fine;
   few = d .few;
@@ -45,7 +48,7 @@ placed-get k [] j h = absurd (omega arith)
 placed-get k (a ∷ l) zero h = refl
 placed-get k (a ∷ l) (suc j) h = placed-get k l j (omega arith)
 
-pub placed-same : (p q : List ℕ) (i : ℕ) (a : Placed) → ((c : ℕ) → c < 5 → getD q (i * 5 + c) 0 ≡ getD p (i * 5 + c) 0) → PlacedNumbers p i a → PlacedNumbers q i a
+pub placed-same : (p q : List ℕ) (i : ℕ) (a : PlacedAtom) → ((c : ℕ) → c < 5 → getD q (i * 5 + c) 0 ≡ getD p (i * 5 + c) 0) → PlacedNumbers p i a → PlacedNumbers q i a
 placed-same p q i a e h = record {
   relation = e 0 (omega arith) ∙ h .relation;
   terms = λ s c l.
@@ -62,7 +65,7 @@ placed-term : (k j c t : ℕ) → c < 4 → placedNumber k (j * 5 + 1 + c) t ≡
 unfolding placedNumber
 placed-term k j c t h = simp (ne-eqb ((j * 5 + 1 + c) % 5) 0 (λ e. omega arith))
 
-module _ (p : List ℕ) (n : ℕ) (bs : List Block) (k m : ℕ) (d : Sources p n bs) (lt : k < length bs) (few : k ≤ 40) (h : TableauDone p k m bs) where
+module _ (p : List ℕ) (n : ℕ) (bs : List Block) (k m : ℕ) (d : Sources p n bs) (lt : k < length bs) (few : k ≤ most-rows) (h : TableauDone p k m bs) where
   -- the block of the copy, and how many atoms it has
   abbrev block : Block
   block = getD bs k noBlock
@@ -70,13 +73,13 @@ module _ (p : List ℕ) (n : ℕ) (bs : List Block) (k m : ℕ) (d : Sources p n
   abbrev size : ℕ
   size = blockSize p (sourceOf p k)
 
-  abbrev own : List Placed
+  abbrev own : List PlacedAtom
   own = map (λ a. record { number = k; atom = a }) (block .atoms)
 
   sized : size ≡ length (block .atoms)
   sized = d .numbers k lt .count
 
-  pub size-few : size ≤ 6
+  pub size-few : size ≤ most-atoms
   size-few = d .numbers k lt .few
 
   ahead : drop m (atomsFrom 0 bs) ≡ own ++ atomsFrom (suc k) (drop (suc k) bs)
@@ -102,7 +105,7 @@ module _ (p : List ℕ) (n : ℕ) (bs : List Block) (k m : ℕ) (d : Sources p n
       ∙ List·getD-append own (atomsFrom (suc k) (drop (suc k) bs)) unplaced j (omega arith)
       ∙ placed-get k (block .atoms) j (omega arith)
 
-  module _ (q : List ℕ) (kept : Kept p q (m * 5) (m * 5 + size * 5)) (xs : (x : ℕ) → x < size * 5 → getD q (m * 5 + x) 0 ≡ placedNumber k x (getD p (830 + sourceOf p k * 34 + x) 0)) where
+  module _ (q : List ℕ) (kept : KeptOutside p q (m * 5) (m * 5 + size * 5)) (xs : (x : ℕ) → x < size * 5 → getD q (m * 5 + x) 0 ≡ placedNumber k x (getD p (blocks-at + sourceOf p k * block-width + x) 0)) where
     own-numbers : (j : ℕ) → j < size → PlacedNumbers q (m + j) (record { number = k; atom = atomAt (block .atoms) j })
     own-numbers j l =
         let six = size-few in
@@ -112,7 +115,7 @@ module _ (p : List ℕ) (n : ℕ) (bs : List Block) (k m : ℕ) (d : Sources p n
               ap (λ y. getD q y 0) (let e : (m + j) * 5 + 0 ≡ m * 5 + j * 5 = omega arith in e)
               ∙ xs (j * 5) (omega arith)
               ∙ placed-relation k j _
-              ∙ sym (part-get p (830 + sourceOf p k * 34) 34 (j * 5) 0 (omega arith))
+              ∙ sym (part-get p (blocks-at + sourceOf p k * block-width) block-width (j * 5) 0 (omega arith))
               ∙ d .numbers k lt .relation j l;
           terms = λ s c f.
               let u = termAt (atomAt (block .atoms) j .terms) c in
@@ -120,7 +123,7 @@ module _ (p : List ℕ) (n : ℕ) (bs : List Block) (k m : ℕ) (d : Sources p n
               ap (λ y. getD q y 0) (let e : (m + j) * 5 + 1 + c ≡ m * 5 + (j * 5 + 1 + c) = omega arith in e)
               ∙ xs (j * 5 + 1 + c) (omega arith)
               ∙ placed-term k j c _ f
-              ∙ ap (slotOf k) (sym (part-get p (830 + sourceOf p k * 34) 34 (j * 5 + 1 + c) 0 (omega arith)) ∙ d .numbers k lt .columns j l c f) in
+              ∙ ap (slotOf k) (sym (part-get p (blocks-at + sourceOf p k * block-width) block-width (j * 5 + 1 + c) 0 (omega arith)) ∙ d .numbers k lt .columns j l c f) in
               ap (slotValue s) e
               ∙ slot-value s k u few (term-fine (atomAt (block .atoms) j .terms) (d .fine k lt (atomAt (block .atoms) j) (at-in _ (block .atoms) j (omega arith))) c);
         }
@@ -160,16 +163,16 @@ copies-all p k m bs le h =
     omega arith
 
 -- the same, where b is the block of the copy
-pub copy-stored : (p q : List ℕ) (n : ℕ) (bs : List Block) (k m b : ℕ) → b ≡ sourceOf p k → Sources p n bs → k < length bs → k ≤ 40 → TableauDone p k m bs → Kept p q (m * 5) (m * 5 + blockSize p b * 5)
-    → ((x : ℕ) → x < blockSize p b * 5 → getD q (m * 5 + x) 0 ≡ placedNumber k x (getD p (830 + b * 34 + x) 0)) → TableauDone q (k + 1) (m + blockSize p b) bs
+pub copy-stored : (p q : List ℕ) (n : ℕ) (bs : List Block) (k m b : ℕ) → b ≡ sourceOf p k → Sources p n bs → k < length bs → k ≤ most-rows → TableauDone p k m bs → KeptOutside p q (m * 5) (m * 5 + blockSize p b * 5)
+    → ((x : ℕ) → x < blockSize p b * 5 → getD q (m * 5 + x) 0 ≡ placedNumber k x (getD p (blocks-at + b * block-width + x) 0)) → TableauDone q (k + 1) (m + blockSize p b) bs
 copy-stored p q n bs k m b e d lt few h =
     subst
-    (λ b. Kept p q (m * 5) (m * 5 + blockSize p b * 5) → ((x : ℕ) → x < blockSize p b * 5 → getD q (m * 5 + x) 0 ≡ placedNumber k x (getD p (830 + b * 34 + x) 0)) → TableauDone q (k + 1) (m + blockSize p b) bs)
+    (λ b. KeptOutside p q (m * 5) (m * 5 + blockSize p b * 5) → ((x : ℕ) → x < blockSize p b * 5 → getD q (m * 5 + x) 0 ≡ placedNumber k x (getD p (blocks-at + b * block-width + x) 0)) → TableauDone q (k + 1) (m + blockSize p b) bs)
     (sym e)
     (λ kept xs. copy-more p n bs k m d lt few h q kept xs)
 
 -- a copy is not too large, and has room
-pub copy-few : (p : List ℕ) (n : ℕ) (bs : List Block) (k m b : ℕ) → b ≡ sourceOf p k → Sources p n bs → k < length bs → k ≤ 40 → TableauDone p k m bs → (blockSize p b ≤ 6) × (m + blockSize p b ≤ 126)
+pub copy-few : (p : List ℕ) (n : ℕ) (bs : List Block) (k m b : ℕ) → b ≡ sourceOf p k → Sources p n bs → k < length bs → k ≤ most-rows → TableauDone p k m bs → (blockSize p b ≤ most-atoms) × (m + blockSize p b ≤ tableau-atoms)
 copy-few p n bs k m b e d lt few h =
     let s = size-few p n bs k m d lt few h in
     let r = room p n bs k m d lt few h in

@@ -5,8 +5,10 @@ use Prim.Native.Nat.{ℕ, zero, suc, _+_, _-_, _*_, _<_, _≤_}
 use native.Mathlib.Omega.{arith}
 use lib.ListN.{length, getD, take, drop, set, length-set}
 use lib.Seq.{getD-set-same, getD-set-other, ext-getD}
+use Rattle.query_layout.specs.Layout.{block-width}
+use Rattle.tableau_layout.specs.Layout.{asked-size-at, blocks-at, most-blocks, plan-numbers, row-count-at, rows-at, sizes-at, tableau-size-at, view-block, view-count-at}
 use Rattle.list_laws.proofs.Lists.{part-get, part-length}
-use Rattle.tableau_plan.specs.Parts.{Kept, BlockStored, sourceOf, Closed}
+use Rattle.tableau_plan.specs.Parts.{KeptOutside, BlockStored, sourceOf, Closed}
 
 -- ---- parts
 
@@ -22,57 +24,57 @@ part-same p q o n h s e =
 pub source-first : (p : List ℕ) (k : ℕ) → k ≡ 0 → 0 ≡ sourceOf p k
 source-first p k e = sym (ap (sourceOf p) e)
 
-pub source-row : (p : List ℕ) (k : ℕ) → (k ≡ 0 → ⊥) → getD p (630 + (k - 1) * 5) 0 + 2 ≡ sourceOf p k
+pub source-row : (p : List ℕ) (k : ℕ) → (k ≡ 0 → ⊥) → view-block (getD p (rows-at + (k - 1) * 5) 0) ≡ sourceOf p k
 source-row p zero ne = absurd (ne refl)
 source-row p (suc r) ne =
-    let e : 630 + (suc r - 1) * 5 ≡ 630 + r * 5 + 0 = omega arith in
+    let e : rows-at + (suc r - 1) * 5 ≡ rows-at + r * 5 + 0 = omega arith in
     let f = ap (λ y. getD p y 0) e in
     omega arith
 
 -- ---- single stores
 
 -- a block's numbers, and then its size
-pub block-put : (p q : List ℕ) (b n : ℕ) (blk : List ℕ) → b < 10 → length p ≡ 1184 → Kept p q (830 + b * 34) (830 + b * 34 + 34) → ((x : ℕ) → x < 34 → getD q (830 + b * 34 + x) 0 ≡ getD blk x 0)
-    → BlockStored p (set q (1170 + b) n) b n blk
+pub block-put : (p q : List ℕ) (b n : ℕ) (blk : List ℕ) → b < most-blocks → length p ≡ plan-numbers → KeptOutside p q (blocks-at + b * block-width) (blocks-at + b * block-width + block-width) → ((x : ℕ) → x < block-width → getD q (blocks-at + b * block-width + x) 0 ≡ getD blk x 0)
+    → BlockStored p (set q (sizes-at + b) n) b n blk
 block-put p q b n blk lt s k e = record {
-  long = length-set q (1170 + b) n ∙ k .same ∙ s;
-  kept = λ y h. getD-set-other q (1170 + b) y n 0 (λ g. absurd (omega arith)) ∙ k .below y h;
-  sizes = λ c h. getD-set-other q (1170 + b) (1170 + c) n 0 (λ g. absurd (omega arith)) ∙ k .above (1170 + c) (omega arith);
-  numbers = λ x h. getD-set-other q (1170 + b) (830 + b * 34 + x) n 0 (λ g. absurd (omega arith)) ∙ e x h;
-  size = let l = k .same in getD-set-same q (1170 + b) n 0 (omega arith);
+  long = length-set q (sizes-at + b) n ∙ k .same ∙ s;
+  kept = λ y h. getD-set-other q (sizes-at + b) y n 0 (λ g. absurd (omega arith)) ∙ k .below y h;
+  sizes = λ c h. getD-set-other q (sizes-at + b) (sizes-at + c) n 0 (λ g. absurd (omega arith)) ∙ k .above (sizes-at + c) (omega arith);
+  numbers = λ x h. getD-set-other q (sizes-at + b) (blocks-at + b * block-width + x) n 0 (λ g. absurd (omega arith)) ∙ e x h;
+  size = let l = k .same in getD-set-same q (sizes-at + b) n 0 (omega arith);
 }
 
 -- the four counts
-module _ (p : List ℕ) (a l v : ℕ) (s : length p ≡ 1184) where
+module _ (p : List ℕ) (a l v : ℕ) (s : length p ≡ plan-numbers) where
   one : List ℕ
-  one = set p 1180 a
+  one = set p tableau-size-at a
 
   two : List ℕ
-  two = set one 1181 (getD p 1170 0)
+  two = set one asked-size-at (getD p sizes-at 0)
 
   three : List ℕ
-  three = set two 1182 l
+  three = set two row-count-at l
 
   four : List ℕ
-  four = set three 1183 v
+  four = set three view-count-at v
 
-  counted : (length one ≡ 1184) × (length two ≡ 1184) × (length three ≡ 1184) × (length four ≡ 1184)
+  counted : (length one ≡ plan-numbers) × (length two ≡ plan-numbers) × (length three ≡ plan-numbers) × (length four ≡ plan-numbers)
   unfolding one two three four
   counted =
-      let a1 = length-set p 1180 a ∙ s in
-      let a2 = length-set one 1181 (getD p 1170 0) ∙ a1 in
-      let a3 = length-set two 1182 l ∙ a2 in
-      (a1, a2, a3, length-set three 1183 v ∙ a3)
+      let a1 = length-set p tableau-size-at a ∙ s in
+      let a2 = length-set one asked-size-at (getD p sizes-at 0) ∙ a1 in
+      let a3 = length-set two row-count-at l ∙ a2 in
+      (a1, a2, a3, length-set three view-count-at v ∙ a3)
 
-  pub closed : Closed p (set (set (set (set p 1180 a) 1181 (getD p 1170 0)) 1182 l) 1183 v) a l v
+  pub closed : Closed p (set (set (set (set p tableau-size-at a) asked-size-at (getD p sizes-at 0)) row-count-at l) view-count-at v) a l v
   unfolding one two three four
   closed =
       let n = counted in
       record {
         same = n .3 ∙ sym s;
-        kept = λ y h. getD-set-other three 1183 y v 0 (λ g. absurd (omega arith)) ∙ getD-set-other two 1182 y l 0 (λ g. absurd (omega arith)) ∙ getD-set-other one 1181 y (getD p 1170 0) 0 (λ g. absurd (omega arith)) ∙ getD-set-other p 1180 y a 0 (λ g. absurd (omega arith));
-        atoms-is = getD-set-other three 1183 1180 v 0 (λ g. absurd (omega arith)) ∙ getD-set-other two 1182 1180 l 0 (λ g. absurd (omega arith)) ∙ getD-set-other one 1181 1180 (getD p 1170 0) 0 (λ g. absurd (omega arith)) ∙ getD-set-same p 1180 a 0 (omega arith);
-        asked-is = getD-set-other three 1183 1181 v 0 (λ g. absurd (omega arith)) ∙ getD-set-other two 1182 1181 l 0 (λ g. absurd (omega arith)) ∙ getD-set-same one 1181 (getD p 1170 0) 0 (omega arith);
-        listed-is = getD-set-other three 1183 1182 v 0 (λ g. absurd (omega arith)) ∙ getD-set-same two 1182 l 0 (omega arith);
-        views-is = getD-set-same three 1183 v 0 (omega arith);
+        kept = λ y h. getD-set-other three view-count-at y v 0 (λ g. absurd (omega arith)) ∙ getD-set-other two row-count-at y l 0 (λ g. absurd (omega arith)) ∙ getD-set-other one asked-size-at y (getD p sizes-at 0) 0 (λ g. absurd (omega arith)) ∙ getD-set-other p tableau-size-at y a 0 (λ g. absurd (omega arith));
+        atoms-is = getD-set-other three view-count-at tableau-size-at v 0 (λ g. absurd (omega arith)) ∙ getD-set-other two row-count-at tableau-size-at l 0 (λ g. absurd (omega arith)) ∙ getD-set-other one asked-size-at tableau-size-at (getD p sizes-at 0) 0 (λ g. absurd (omega arith)) ∙ getD-set-same p tableau-size-at a 0 (omega arith);
+        asked-is = getD-set-other three view-count-at asked-size-at v 0 (λ g. absurd (omega arith)) ∙ getD-set-other two row-count-at asked-size-at l 0 (λ g. absurd (omega arith)) ∙ getD-set-same one asked-size-at (getD p sizes-at 0) 0 (omega arith);
+        listed-is = getD-set-other three view-count-at row-count-at v 0 (λ g. absurd (omega arith)) ∙ getD-set-same two row-count-at l 0 (omega arith);
+        views-is = getD-set-same three view-count-at v 0 (omega arith);
       }

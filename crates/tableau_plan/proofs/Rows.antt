@@ -21,7 +21,8 @@ use Rattle.query_blocks.proofs.Accepted.{scan-first}
 use Rattle.case_verdicts.specs.Tableau.{Job, listed, jobs}
 use Rattle.case_verdicts.specs.Sheets.{isView}
 use Rattle.case_verdicts.proofs.Lists.{in-left, in-right, in-cases}
-use Rattle.tableau_plan.specs.Parts.{Accepted, Listed, unlisted, rowsFrom}
+use Rattle.tableau_plan.specs.Parts.{ViewRow, unlisted, rowsFrom}
+use Rattle.query_blocks.specs.Parts.{AcceptedLines}
 
 -- ---- a line's kind by its word
 
@@ -52,7 +53,7 @@ not-row n h = ap (λ t. isRow (cond (eqb n 1) question (cond (eqb n 2) saved (co
 
 -- ---- the rows by the lines
 
-listedAt : ℕ → List ℕ → Listed
+listedAt : ℕ → List ℕ → ViewRow
 listedAt v r = record { view = v; row = r }
 
 module _ (v : ℕ) (l : Line) (ls : List Line) where
@@ -71,7 +72,7 @@ module _ (v : ℕ) (l : Line) (ls : List Line) where
 -- ---- the rows by the views
 
 -- of the views, the first of which is view v
-abbrev pub flatFrom : ℕ → List View → List Listed
+abbrev pub flatFrom : ℕ → List View → List ViewRow
 flatFrom v [] = []
 flatFrom v (w ∷ ws) = map (λ r. record { view = v; row = r }) (w .rows) ++ flatFrom (suc v) ws
 
@@ -97,7 +98,7 @@ front-by l ls row e = simp e
 front-by l ls other e = simp e
 
 -- where a view's block is read, the rows at the front are its own
-record Walked (block last v : ℕ) (all : List Listed) (ahead now : List (List ℕ)) (later : List Listed) : Type 0 where
+record Walked (block last v : ℕ) (all : List ViewRow) (ahead now : List (List ℕ)) (later : List ViewRow) : Type 0 where
   outside : (block ≡ 3 → ⊥) → all ≡ later
   before : block ≡ 3 → last ≤ 4 → all ≡ map (λ r. record { view = v - 1; row = r }) ahead ++ later
   after : block ≡ 3 → 5 ≤ last → all ≡ map (λ r. record { view = v - 1; row = r }) now ++ later
@@ -127,7 +128,7 @@ walked-by g v l ls atom n p ih =
     record { outside = λ h. ih v .outside h; before = λ h i. ih v .before h (omega arith); after = λ h i. absurd (omega arith) }
 walked-by g v l ls row n p ih =
     let e = eqb-true (g .block) 3 (and-left _ _ p) in
-    let r = ap (λ (t : List Listed). record { view = v - 1; row = map natural (rest l) } ∷ t) (ih v .after e (omega arith)) in
+    let r = ap (λ (t : List ViewRow). record { view = v - 1; row = map natural (rest l) } ∷ t) (ih v .after e (omega arith)) in
     record { outside = λ h. absurd (h e); before = λ h i. r; after = λ h i. r }
 walked-by g v l ls other n p ih = no-way p
 
@@ -140,13 +141,13 @@ walked (l ∷ ls) g b n s v =
     (walked-by g v l ls (kind l) (length (rest l)) (c .placed) (λ u. walked ls (next g l) l (n + 1) r u))
 
 -- the rows by the lines are the rows by the views
-pub rows-walked : (ls : List Line) → Accepted ls → rowsFrom 0 ls ≡ flatFrom 0 (blocks isView ls)
+pub rows-walked : (ls : List Line) → AcceptedLines ls → rowsFrom 0 ls ≡ flatFrom 0 (blocks isView ls)
 rows-walked ls ok = walked ls start [] 1 (eqb-true _ 0 (accepted-scan ls ok)) 0 .outside (λ z. omega arith)
 
 -- ---- the jobs of the views, row by row
 
 -- the job of a listed row, where f gives the views by their numbers
-abbrev pub jobOf : (ℕ → View) → Listed → Job
+abbrev pub jobOf : (ℕ → View) → ViewRow → Job
 jobOf f l = record { block = f (l .view) .block; is = map con (l .row) }
 
 -- views by their numbers, the first of them v
@@ -178,15 +179,15 @@ view-jobs f v (w ∷ ws) h =
 
 -- ---- a listed row is a row of its view
 
-pub record OfView (f : ℕ → View) (end : ℕ) (l : Listed) : Type 0 where
+pub record OfView (f : ℕ → View) (end : ℕ) (l : ViewRow) : Type 0 where
   pub low : l .view < end
   pub listed-in : In (l .row) (f (l .view) .rows)
 
-row-of : (v : ℕ) (rs : List (List ℕ)) (l : Listed) → In l (map (λ r. record { view = v; row = r }) rs) → (l .view ≡ v) × In (l .row) rs
-row-of v (r ∷ rs) l (inl e) = (ap (λ (x : Listed). x .view) e, inl (ap (λ (x : Listed). x .row) e))
+row-of : (v : ℕ) (rs : List (List ℕ)) (l : ViewRow) → In l (map (λ r. record { view = v; row = r }) rs) → (l .view ≡ v) × In (l .row) rs
+row-of v (r ∷ rs) l (inl e) = (ap (λ (x : ViewRow). x .view) e, inl (ap (λ (x : ViewRow). x .row) e))
 row-of v (r ∷ rs) l (inr m) = let (a, b) = row-of v rs l m in (a, inr b)
 
-pub flat-of : (f : ℕ → View) (v : ℕ) (ws : List View) → Views f v ws → (l : Listed) → In l (flatFrom v ws) → OfView f (v + length ws) l
+pub flat-of : (f : ℕ → View) (v : ℕ) (ws : List View) → Views f v ws → (l : ViewRow) → In l (flatFrom v ws) → OfView f (v + length ws) l
 flat-of f v [] h l m = absurd m
 flat-of f v (w ∷ ws) h l m =
     ⊎-elim

@@ -6,28 +6,31 @@ use Prim.Native.Nat.{ℕ, zero, suc, _+_, _-_, _*_, _<_, _≤_}
 use native.Mathlib.Omega.{arith}
 use lib.ListN.{length, getD, length-map, List·getD-map}
 use borrow.Author.Tests.{lt-ltb, le-ltb}
+use Rattle.query_layout.specs.Layout.{names}
+use Rattle.sheet_format.specs.Limits.{constant-end, most-rows}
+use Rattle.tableau_layout.specs.Layout.{slot-end}
 use Rattle.sheet_format.specs.Line.{gather}
 use Rattle.sheet_format.proofs.Lists.{map-append}
 use Rattle.query_meaning.specs.Meaning.{Term, con, var, Fact, value, fact, factOf, Atom, Block}
-use Rattle.query_encoding.specs.Numbers.{number, termAt, FactNumbers}
+use Rattle.query_encoding.specs.Encoding.{number, termAt, FactNumbers}
 use Rattle.case_verdicts.specs.Accepted.{width, FineTerm, Fine}
 use Rattle.case_verdicts.specs.Sheets.{top}
 use Rattle.case_verdicts.specs.Verdict.{Sheet}
 use Rattle.case_verdicts.specs.Tableau.{Job, Copy, later, numbered, State, copy, copyFacts, facts, jobs, listed, bare}
 use Rattle.tableau_plan.specs.Plan.{tableauAt, slotValue, tableauFacts}
-use Rattle.tableau_plan.specs.Parts.{slotOf, Placed, unplaced, atomsFrom, PlacedNumbers}
+use Rattle.tableau_plan.specs.Parts.{slotOf, PlacedAtom, unplaced, atomsFrom, PlacedNumbers}
 
 -- ---- a term of a copy under a state
 
-pub slot-value : (s : State) (k : ℕ) (t : Term) → k ≤ 40 → FineTerm top t → slotValue s (slotOf k (number t)) ≡ value (copy s k) t
+pub slot-value : (s : State) (k : ℕ) (t : Term) → k ≤ most-rows → FineTerm top t → slotValue s (slotOf k (number t)) ≡ value (copy s k) t
 unfolding slotValue slotOf width
 slot-value s k (con c) h f =
-    let e : c + 13 + 520 - 533 ≡ c = omega arith in
-    let a : slotOf k (c + 13) ≡ c + 13 + 520 = simp (le-ltb (c + 13) 13 (omega arith), lt-ltb (c + 13) 1000013 (omega arith)) in
-    ap (slotValue s) a ∙ simp (le-ltb (c + 13 + 520) 533 (omega arith)) e
+    let e : c + names + (slot-end - names) - slot-end ≡ c = omega arith in
+    let a : slotOf k (c + names) ≡ c + names + (slot-end - names) = simp (le-ltb (c + names) names (omega arith), lt-ltb (c + names) (constant-end + names) (omega arith)) in
+    ap (slotValue s) a ∙ simp (le-ltb (c + names + (slot-end - names)) slot-end (omega arith)) e
 slot-value s k (var x) h f =
-    let a : slotOf k x ≡ k * 13 + x = simp (lt-ltb x 13 f) in
-    ap (slotValue s) a ∙ simp (lt-ltb (k * 13 + x) 533 (omega arith))
+    let a : slotOf k x ≡ k * names + x = simp (lt-ltb x names f) in
+    ap (slotValue s) a ∙ simp (lt-ltb (k * names + x) slot-end (omega arith))
 
 pub term-fine : (ts : List Term) → Fine top ts → (c : ℕ) → FineTerm top (termAt ts c)
 term-fine [] h c = omega arith
@@ -62,10 +65,10 @@ tableau-term p s a (suc n) (suc i) c h f =
     ap (λ y. getD (tableauFacts p s a (suc n)) y 0) e ∙ tableau-term p s (suc a) n i c (omega arith) f ∙ ap (λ y. slotValue s (getD p y 0)) (let e : (suc a + i) * 5 + 1 + c ≡ (a + suc i) * 5 + 1 + c = omega arith in e)
 
 -- an atom of a copy as a fact
-abbrev pub factIn : State → Placed → Fact
+abbrev pub factIn : State → PlacedAtom → Fact
 factIn s a = factOf (copy s (a .number)) (a .atom)
 
-pub placed-facts : (p : List ℕ) (s : State) (l : List Placed) (a : ℕ) → ((i : ℕ) → i < length l → PlacedNumbers p (a + i) (getD l i unplaced)) → FactNumbers (tableauFacts p s a (length l)) (map (factIn s) l)
+pub placed-facts : (p : List ℕ) (s : State) (l : List PlacedAtom) (a : ℕ) → ((i : ℕ) → i < length l → PlacedNumbers p (a + i) (getD l i unplaced)) → FactNumbers (tableauFacts p s a (length l)) (map (factIn s) l)
 placed-facts p s l a h =
     let m = length-map l (factIn s) in
     record {

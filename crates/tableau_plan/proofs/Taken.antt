@@ -10,13 +10,15 @@ use lib.ListN.{length, getD, drop, set, length-drop, length-map, drop-of-length-
 use lib.Seq.{drop-cons, getD-set-same, getD-set-other}
 use borrow.Author.Count.{below-more}
 use borrow.Author.Tests.{leb-true}
+use Rattle.sheet_format.specs.Limits.{most-rows}
+use Rattle.tableau_layout.specs.Layout.{blocks-at, plan-numbers, rows-at}
 use Rattle.list_laws.proofs.Ranges.{kept-set, kept-wide}
 use Rattle.list_laws.proofs.Lists.{drop-next}
 use Rattle.sheet_format.specs.Line.{Line, natural, gather, wordLines}
 use Rattle.sheet_format.specs.Cause.{Kind, question, saved, view, atom, row, other, kindAt, kind, rest, possible}
 use Rattle.sheet_format.proofs.Lists.{no-way}
 use Rattle.query_meaning.specs.Blocks.{isRow, blocks, nth}
-use Rattle.query_encoding.specs.Numbers.{padded}
+use Rattle.query_encoding.specs.Encoding.{padded}
 use Rattle.query_blocks.proofs.Accepted.{accepted-clean}
 use Rattle.query_blocks.proofs.Words.{rest-word}
 use Rattle.query_blocks.proofs.Parts.{inside, formed, kind-of}
@@ -24,7 +26,8 @@ use Rattle.case_verdicts.specs.Sheets.{isView}
 use Rattle.case_verdicts.specs.Tableau.{listed}
 use Rattle.case_verdicts.proofs.Sizes.{accepted-jobs}
 use Rattle.tableau_plan.specs.Plan.{rowAt, rowValues}
-use Rattle.tableau_plan.specs.Parts.{Accepted, Kept, Listed, unlisted, rowsFrom, RowNumbers, RowsDone}
+use Rattle.tableau_plan.specs.Parts.{KeptOutside, ViewRow, unlisted, rowsFrom, RowNumbers, RowsDone}
+use Rattle.query_blocks.specs.Parts.{AcceptedLines}
 use Rattle.tableau_plan.proofs.Rows.{kind-natural, not-view, not-row, rows-view, rows-row, rows-other, flatFrom, rows-walked, jobOf, views-all, view-jobs}
 
 -- ---- a row of at most four values
@@ -43,7 +46,7 @@ pub done-start : (p : List ℕ) (ls : List Line) → RowsDone p ls 0 0 0
 done-start p ls = record { within = omega arith; left = refl; each = λ k h. absurd (omega arith) }
 
 -- the numbers of a row stay
-pub row-same : (p q : List ℕ) (k : ℕ) (l : Listed) → ((c : ℕ) → c < 5 → getD q (630 + k * 5 + c) 0 ≡ getD p (630 + k * 5 + c) 0) → RowNumbers p k l → RowNumbers q k l
+pub row-same : (p q : List ℕ) (k : ℕ) (l : ViewRow) → ((c : ℕ) → c < 5 → getD q (rows-at + k * 5 + c) 0 ≡ getD p (rows-at + k * 5 + c) 0) → RowNumbers p k l → RowNumbers q k l
 row-same p q k l e h = record {
   view = e 0 (omega arith) ∙ h .view;
   values =
@@ -71,7 +74,7 @@ module _ (p : List ℕ) (ls : List Line) (i v r : ℕ) (lt : i < length ls) (h :
   }
 
   -- a row's line is row r
-  abbrev this : Listed
+  abbrev this : ViewRow
   this = record { view = v - 1; row = map natural (rest (getD ls i [])) }
 
   ahead : kind (getD ls i []) ≡ row → drop r (rowsFrom 0 ls) ≡ this ∷ rowsFrom v (drop (i + 1) ls)
@@ -83,7 +86,7 @@ module _ (p : List ℕ) (ls : List Line) (i v r : ℕ) (lt : i < length ls) (h :
       let b = length-drop r (rowsFrom 0 ls) in
       omega arith
 
-  pub done-row : (q : List ℕ) → kind (getD ls i []) ≡ row → ((y : ℕ) → y < 630 + r * 5 → getD q y 0 ≡ getD p y 0) → RowNumbers q r this → RowsDone q ls (i + 1) v (r + 1)
+  pub done-row : (q : List ℕ) → kind (getD ls i []) ≡ row → ((y : ℕ) → y < rows-at + r * 5 → getD q y 0 ≡ getD p y 0) → RowNumbers q r this → RowsDone q ls (i + 1) v (r + 1)
   done-row q e k n =
       let w = one-left e in
       let c = sym (drop-cons (rowsFrom 0 ls) r unlisted w) ∙ ahead e in
@@ -92,12 +95,12 @@ module _ (p : List ℕ) (ls : List Line) (i v r : ℕ) (lt : i < length ls) (h :
       record {
         within = omega arith;
         left = ap (λ m. drop m (rowsFrom 0 ls)) (add-one r) ∙ g;
-        each = below-more _ r (λ j lt. row-same p q j _ (λ c f. k (630 + j * 5 + c) (omega arith)) (h .each j lt)) (subst (RowNumbers q r) (sym f) n);
+        each = below-more _ r (λ j lt. row-same p q j _ (λ c f. k (rows-at + j * 5 + c) (omega arith)) (h .each j lt)) (subst (RowNumbers q r) (sym f) n);
       }
 
 -- ---- by the words of an accepted sheet
 
-pub few-listed : (ls : List Line) → Accepted ls → length (rowsFrom 0 ls) ≤ 40
+pub few-listed : (ls : List Line) → AcceptedLines ls → length (rowsFrom 0 ls) ≤ most-rows
 few-listed ls ok =
     let f = nth (blocks isView ls) in
     let e : length (gather listed (blocks isView ls)) ≡ length (map (jobOf f) (flatFrom 0 (blocks isView ls))) = ap length (view-jobs f 0 (blocks isView ls) (views-all (blocks isView ls))) in
@@ -118,7 +121,7 @@ rest-few : (l : Line) → length l ≤ 5 → length (rest l) ≤ 4
 rest-few [] h = omega arith
 rest-few (k ∷ l) h = omega arith
 
-module _ (ws : List ℤ) (i : ℕ) (lt : i < length ws / 7) (a : Accepted (wordLines ws)) where
+module _ (ws : List ℤ) (i : ℕ) (lt : i < length ws / 7) (a : AcceptedLines (wordLines ws)) where
   kind-number : kind (getD (wordLines ws) i []) ≡ kindAt (natural (getD ws (7 * i + 1) (pos 0)))
   kind-number = kind-of ws i lt a ∙ kind-natural (getD ws (7 * i + 1) (pos 0))
 
@@ -138,7 +141,7 @@ module _ (ws : List ℤ) (i : ℕ) (lt : i < length ws / 7) (a : Accepted (wordL
   line-value : (c : ℕ) → c < 4 → natural (getD ws (7 * i + 2 + c) (pos 0)) ≡ getD (map natural (rest (getD (wordLines ws) i []))) c 0
   line-value c h = ap natural (sym (rest-word ws i lt (formed ws i lt a) c (omega arith))) ∙ sym (List·getD-map natural (rest (getD (wordLines ws) i [])) c (pos 0))
 
-  pub line-values : (q : List ℕ) (r : ℕ) → kind (getD (wordLines ws) i []) ≡ row → ((c : ℕ) → c < 4 → getD q (630 + r * 5 + 1 + c) 0 ≡ natural (getD ws (7 * i + 2 + c) (pos 0)))
+  pub line-values : (q : List ℕ) (r : ℕ) → kind (getD (wordLines ws) i []) ≡ row → ((c : ℕ) → c < 4 → getD q (rows-at + r * 5 + 1 + c) 0 ≡ natural (getD ws (7 * i + 2 + c) (pos 0)))
       → rowValues q r ≡ padded (map natural (rest (getD (wordLines ws) i [])))
   line-values q r e h =
       let s = rest-few (getD (wordLines ws) i []) (row-sized _ _ e (accepted-clean (wordLines ws) a i (inside ws i lt a) .1 .sized)) in
@@ -151,27 +154,27 @@ module _ (ws : List ℤ) (i : ℕ) (lt : i < length ws / 7) (a : Accepted (wordL
       let all : rowValues q r ≡ getD (map natural (rest (getD (wordLines ws) i []))) 0 0 ∷ getD (map natural (rest (getD (wordLines ws) i []))) 1 0 ∷ getD (map natural (rest (getD (wordLines ws) i []))) 2 0 ∷ getD (map natural (rest (getD (wordLines ws) i []))) 3 0 ∷ [] = cc in
       all ∙ sym o
     where
-      place : (c d : ℕ) → c ≡ 1 + d → rowAt q r c ≡ getD q (630 + r * 5 + 1 + d) 0
-      place c d e = ap (λ y. getD q y 0) (let z : 630 + r * 5 + c ≡ 630 + r * 5 + 1 + d = omega arith in z)
+      place : (c d : ℕ) → c ≡ 1 + d → rowAt q r c ≡ getD q (rows-at + r * 5 + 1 + d) 0
+      place c d e = ap (λ y. getD q y 0) (let z : rows-at + r * 5 + c ≡ rows-at + r * 5 + 1 + d = omega arith in z)
 
 -- ---- the stores for a row: its values, and then its view
 
-pub row-kept : (p q : List ℕ) (r u : ℕ) → r < 40 → Kept p q (630 + r * 5 + 1) (630 + r * 5 + 1 + 4) → Kept p (set q (630 + r * 5) u) 630 830
+pub row-kept : (p q : List ℕ) (r u : ℕ) → r < most-rows → KeptOutside p q (rows-at + r * 5 + 1) (rows-at + r * 5 + 1 + 4) → KeptOutside p (set q (rows-at + r * 5) u) rows-at blocks-at
 row-kept p q r u lt k =
-    kept-set p q 630 830 (630 + r * 5) u (omega arith) (omega arith) (kept-wide p q (630 + r * 5 + 1) (630 + r * 5 + 1 + 4) 630 830 (omega arith) (omega arith) k)
+    kept-set p q rows-at blocks-at (rows-at + r * 5) u (omega arith) (omega arith) (kept-wide p q (rows-at + r * 5 + 1) (rows-at + r * 5 + 1 + 4) rows-at blocks-at (omega arith) (omega arith) k)
 
-pub row-taken : (ws : List ℤ) (i : ℕ) → i < length ws / 7 → Accepted (wordLines ws) → (p q : List ℕ) (v r u : ℕ) → r < 40 → length p ≡ 1184 → Kept p q (630 + r * 5 + 1) (630 + r * 5 + 1 + 4)
-    → ((c : ℕ) → c < 4 → getD q (630 + r * 5 + 1 + c) 0 ≡ natural (getD ws (7 * i + 2 + c) (pos 0))) → u ≡ v - 1 → natural (getD ws (7 * i + 1) (pos 0)) ≡ 5
-    → RowsDone p (wordLines ws) i v r → RowsDone (set q (630 + r * 5) u) (wordLines ws) (i + 1) v (r + 1)
+pub row-taken : (ws : List ℤ) (i : ℕ) → i < length ws / 7 → AcceptedLines (wordLines ws) → (p q : List ℕ) (v r u : ℕ) → r < most-rows → length p ≡ plan-numbers → KeptOutside p q (rows-at + r * 5 + 1) (rows-at + r * 5 + 1 + 4)
+    → ((c : ℕ) → c < 4 → getD q (rows-at + r * 5 + 1 + c) 0 ≡ natural (getD ws (7 * i + 2 + c) (pos 0))) → u ≡ v - 1 → natural (getD ws (7 * i + 1) (pos 0)) ≡ 5
+    → RowsDone p (wordLines ws) i v r → RowsDone (set q (rows-at + r * 5) u) (wordLines ws) (i + 1) v (r + 1)
 row-taken ws i lt a p q v r u few s k xs e is h =
     let kr = kind-row ws i lt a is in
     let t = k .same in
-    let z : 630 + r * 5 + 0 ≡ 630 + r * 5 = omega arith in
-    done-row p (wordLines ws) i v r (inside ws i lt a) h (set q (630 + r * 5) u) kr
-    (λ y l. getD-set-other q (630 + r * 5) y u 0 (λ g. absurd (omega arith)) ∙ k .below y (omega arith))
+    let z : rows-at + r * 5 + 0 ≡ rows-at + r * 5 = omega arith in
+    done-row p (wordLines ws) i v r (inside ws i lt a) h (set q (rows-at + r * 5) u) kr
+    (λ y l. getD-set-other q (rows-at + r * 5) y u 0 (λ g. absurd (omega arith)) ∙ k .below y (omega arith))
     (record {
-      view = ap (λ y. getD (set q (630 + r * 5) u) y 0) z ∙ getD-set-same q (630 + r * 5) u 0 (omega arith) ∙ e;
-      values = line-values ws i lt a (set q (630 + r * 5) u) r kr (λ c l. getD-set-other q (630 + r * 5) (630 + r * 5 + 1 + c) u 0 (λ g. absurd (omega arith)) ∙ xs c l);
+      view = ap (λ y. getD (set q (rows-at + r * 5) u) y 0) z ∙ getD-set-same q (rows-at + r * 5) u 0 (omega arith) ∙ e;
+      values = line-values ws i lt a (set q (rows-at + r * 5) u) r kr (λ c l. getD-set-other q (rows-at + r * 5) (rows-at + r * 5 + 1 + c) u 0 (λ g. absurd (omega arith)) ∙ xs c l);
     })
 
 -- all lines have been walked: all rows have been taken

@@ -6,22 +6,25 @@ use Prim.Native.Nat.{ℕ, zero, suc, _+_, _-_, _*_, _<_, _≤_}
 use native.Mathlib.Omega.{arith}
 use lib.ListN.{length, getD, length-map, length-append}
 use lib.Seq.{getD-append-add}
+use Rattle.tableau_layout.specs.Layout.{blocks-at, most-blocks, plan-numbers, rows-at, sizes-at, tableau-atoms, tableau-size-at, question-block, list-block, view-block}
+use Rattle.sheet_format.specs.Limits.{most-rows}
 use Rattle.query_encoding.proofs.Lists.{at-in}
 use Rattle.sheet_format.specs.Line.{Line, gather}
 use Rattle.query_meaning.specs.Meaning.{con, Atom, Block, In}
 use Rattle.query_meaning.specs.Blocks.{View, blocks, nth, blockAt}
-use Rattle.query_encoding.specs.Numbers.{BlockNumbers, FactNumbers, padded}
+use Rattle.query_encoding.specs.Encoding.{BlockNumbers, FactNumbers, padded}
 use Rattle.case_verdicts.specs.Verdict.{Sheet}
 use Rattle.case_verdicts.specs.Handed.{rowAtoms, size}
 use Rattle.case_verdicts.specs.Accepted.{Fine}
 use Rattle.case_verdicts.specs.Sheets.{top, isView, sheetOf}
 use Rattle.case_verdicts.specs.Tableau.{Job, State, listed, jobs, facts, bare}
 use Rattle.case_verdicts.proofs.Lists.{total, total-each, total-append, total-map}
-use Rattle.case_verdicts.proofs.Order.{block-question, block-list, block-view, block-count}
+use Rattle.case_verdicts.proofs.Order.{block-question, list-count, block-list, block-view, block-count}
 use Rattle.case_verdicts.proofs.Sizes.{accepted-size}
 use Rattle.case_verdicts.proofs.Accepted.{accepted-sheet}
-use Rattle.tableau_plan.specs.Plan.{rowAt, rowValues, blockNumbers, blockSize, tableauSize, askedSize, rowCount, viewCount, tableauFacts, RowOf, Plan}
-use Rattle.tableau_plan.specs.Parts.{Accepted, Kept, Blocks, Listed, unlisted, rowsFrom, RowNumbers, RowsDone, sourceOf, noBlock, Placed, unplaced, atomsFrom, Sources, PlacedNumbers, TableauDone, Closed}
+use Rattle.tableau_plan.specs.Plan.{rowAt, rowValues, blockNumbers, blockSize, tableauSize, askedSize, rowCount, viewCount, listCount, listAt, tableauFacts, RowOf, Plan}
+use Rattle.tableau_plan.specs.Parts.{KeptOutside, Blocks, ViewRow, unlisted, rowsFrom, RowNumbers, RowsDone, sourceOf, noBlock, PlacedAtom, unplaced, atomsFrom, Sources, PlacedNumbers, TableauDone, Closed}
+use Rattle.query_blocks.specs.Parts.{AcceptedLines}
 use Rattle.tableau_plan.proofs.Blocks.{accepted-views, numbers-same}
 use Rattle.tableau_plan.proofs.Rows.{flatFrom, rows-walked, jobOf, views-all, view-jobs, OfView, flat-of, flat-place}
 use Rattle.tableau_plan.proofs.Taken.{row-same, all-taken}
@@ -48,7 +51,7 @@ jobSize j = length (j .block .atoms)
 atoms-length : (k : ℕ) (js : List Job) → length (atomsFrom k (map (λ (j : Job). j .block) js)) ≡ total jobSize js
 atoms-length k [] = refl
 atoms-length k (j ∷ js) =
-    let f : Atom → Placed = λ a. record { number = k; atom = a } in
+    let f : Atom → PlacedAtom = λ a. record { number = k; atom = a } in
     let a = length-append (map f (j .block .atoms)) (atomsFrom (suc k) (map (λ (j : Job). j .block) js)) in
     let b = length-map (j .block .atoms) f in
     let c = atoms-length (suc k) js in
@@ -69,16 +72,16 @@ rows-size (w ∷ ws) =
 
 -- numbers that are the same from the rows on to the counts
 record Agree (q p : List ℕ) (from : ℕ) : Type 0 where
-  long : length q ≡ 1184
-  long-too : length p ≡ 1184
-  same : (y : ℕ) → from ≤ y → y < 1180 → getD p y 0 ≡ getD q y 0
+  long : length q ≡ plan-numbers
+  long-too : length p ≡ plan-numbers
+  same : (y : ℕ) → from ≤ y → y < tableau-size-at → getD p y 0 ≡ getD q y 0
 
-block-moved : (q p : List ℕ) (b : ℕ) (k : Block) → b < 10 → Agree q p 830 → BlockNumbers (blockNumbers q b) (blockSize q b) k → BlockNumbers (blockNumbers p b) (blockSize p b) k
+block-moved : (q p : List ℕ) (b : ℕ) (k : Block) → b < most-blocks → Agree q p blocks-at → BlockNumbers (blockNumbers q b) (blockSize q b) k → BlockNumbers (blockNumbers p b) (blockSize p b) k
 block-moved q p b k lt a h =
-    subst (λ z. BlockNumbers (blockNumbers p b) z k) (sym (a .same (1170 + b) (omega arith) (omega arith)))
+    subst (λ z. BlockNumbers (blockNumbers p b) z k) (sym (a .same (sizes-at + b) (omega arith) (omega arith)))
     (numbers-same q p b (λ z. BlockNumbers z (blockSize q b) k) (a .long) (a .long-too) lt (λ y g w. a .same y (omega arith) (omega arith)) h)
 
-module _ (ls : List Line) (ok : Accepted ls) where
+module _ (ls : List Line) (ok : AcceptedLines ls) where
   abbrev sheet : Sheet
   sheet = sheetOf ls
 
@@ -116,7 +119,7 @@ module _ (ls : List Line) (ok : Accepted ls) where
       let d : Job = record { block = noBlock; is = [] } in
       map-get (λ (j : Job). j .block) d noBlock rest i (omega arith) ∙ ap (λ (j : Job). j .block) (rest-at i h d)
 
-  few-atoms : length (atomsFrom 0 blockList) ≤ 126
+  few-atoms : length (atomsFrom 0 blockList) ≤ tableau-atoms
   few-atoms =
       let a = atoms-length 0 (jobs sheet) in
       let b = rows-size views in
@@ -130,9 +133,9 @@ module _ (ls : List Line) (ok : Accepted ls) where
   view-fine j h a m = accepted-sheet ls ok .views (nth views j) (nth-in views j h) .atoms a m .terms
 
   -- ---- the blocks of the copies stand in q
-  module _ (q : List ℕ) (r : ℕ) (each : (b : ℕ) → b < 2 + length views → BlockNumbers (blockNumbers q b) (blockSize q b) (blockAt ls (suc b)))
+  module _ (q : List ℕ) (r : ℕ) (each : (b : ℕ) → b < view-block (length views) → BlockNumbers (blockNumbers q b) (blockSize q b) (blockAt ls (suc b)))
       (count : r ≡ length (rowsFrom 0 ls)) (rows : (k : ℕ) → k < r → RowNumbers q k (getD (rowsFrom 0 ls) k unlisted)) where
-    source-low : (k : ℕ) → k < length blockList → sourceOf q k < 2 + length views
+    source-low : (k : ℕ) → k < length blockList → sourceOf q k < view-block (length views)
     source-low zero h = omega arith
     source-low (suc i) h =
         let n = list-length in
@@ -141,13 +144,14 @@ module _ (ls : List Line) (ok : Accepted ls) where
         omega arith
 
     source-numbers : (k : ℕ) → k < length blockList → BlockNumbers (blockNumbers q (sourceOf q k)) (blockSize q (sourceOf q k)) (getD blockList k noBlock)
-    source-numbers zero h = subst (BlockNumbers (blockNumbers q 0) (blockSize q 0)) (block-question ls ok) (each 0 (omega arith))
+    source-numbers zero h = subst (BlockNumbers (blockNumbers q question-block) (blockSize q question-block)) (block-question ls ok) (each 0 (omega arith))
     source-numbers (suc i) h =
         let n = list-length in
         let e = rows i (omega arith) .view in
-        let b = each (2 + rowAt q i 0) (source-low (suc i) h) in
-        let z : suc (2 + rowAt q i 0) ≡ suc (suc (suc (rowAt q i 0))) = omega arith in
-        subst (BlockNumbers (blockNumbers q (2 + rowAt q i 0)) (blockSize q (2 + rowAt q i 0)))
+        let b = each (view-block (rowAt q i 0)) (source-low (suc i) h) in
+        let c = list-count ls ok in
+        let z : suc (view-block (rowAt q i 0)) ≡ suc (suc (length (sheet .lists) + rowAt q i 0)) = omega arith in
+        subst (BlockNumbers (blockNumbers q (view-block (rowAt q i 0))) (blockSize q (view-block (rowAt q i 0))))
         (ap (blockAt ls) z ∙ block-view ls ok (rowAt q i 0) ∙ ap (λ v. nth views v .block) e ∙ sym (list-at i (omega arith)))
         b
 
@@ -169,45 +173,45 @@ module _ (ls : List Line) (ok : Accepted ls) where
         }
 
   -- ---- all parts together
-  module _ (q1 q2 q3 p : List ℕ) (nb i v r m : ℕ) (s : length q1 ≡ 1184) (bl : Blocks q1 ls nb) (k2 : Kept q1 q2 630 830) (few : r ≤ 40) (end : length ls ≤ i) (rd : RowsDone q2 ls i v r) (k3 : Kept q2 q3 0 630)
-      (most : m ≤ 126) (td : (bs : List Block) → Sources q2 r bs → TableauDone q3 (r + 1) m bs) (cl : Closed q3 p m r (nb - 2)) where
+  module _ (q1 q2 q3 p : List ℕ) (nb i v r m : ℕ) (s : length q1 ≡ plan-numbers) (bl : Blocks q1 ls nb) (k2 : KeptOutside q1 q2 rows-at blocks-at) (few : r ≤ most-rows) (end : length ls ≤ i) (rd : RowsDone q2 ls i v r) (k3 : KeptOutside q2 q3 0 rows-at)
+      (most : m ≤ tableau-atoms) (td : (bs : List Block) → Sources q2 r bs → TableauDone q3 (r + 1) m bs) (cl : Closed q3 p m r (nb - 2)) where
     count : r ≡ length (rowsFrom 0 ls)
     count = all-taken q2 ls i v r end rd
 
-    blocks-count : nb ≡ 2 + length views
-    blocks-count = bl .count ∙ block-count ls ok
+    blocks-count : nb ≡ view-block (length views)
+    blocks-count = let c = list-count ls ok in bl .count ∙ block-count ls ok ∙ omega arith
 
-    agree2 : Agree q1 q2 830
+    agree2 : Agree q1 q2 blocks-at
     agree2 = record { long = s; long-too = k2 .same ∙ s; same = λ y g h. k2 .above y g }
 
-    agree : Agree q2 p 630
+    agree : Agree q2 p rows-at
     agree = record {
       long = k2 .same ∙ s;
       long-too = cl .same ∙ k3 .same ∙ k2 .same ∙ s;
       same = λ y g h. cl .kept y h ∙ k3 .above y g;
     }
 
-    agree-blocks : Agree q2 p 830
+    agree-blocks : Agree q2 p blocks-at
     agree-blocks = record { long = agree .long; long-too = agree .long-too; same = λ y g h. agree .same y (omega arith) h }
 
-    each2 : (b : ℕ) → b < 2 + length views → BlockNumbers (blockNumbers q2 b) (blockSize q2 b) (blockAt ls (suc b))
+    each2 : (b : ℕ) → b < view-block (length views) → BlockNumbers (blockNumbers q2 b) (blockSize q2 b) (blockAt ls (suc b))
     each2 b h =
         let n = blocks-count in
         let w = accepted-views ls ok in
         block-moved q1 q2 b (blockAt ls (suc b)) (omega arith) agree2 (bl .each b (omega arith))
 
-    each : (b : ℕ) → b < 2 + length views → BlockNumbers (blockNumbers p b) (blockSize p b) (blockAt ls (suc b))
+    each : (b : ℕ) → b < view-block (length views) → BlockNumbers (blockNumbers p b) (blockSize p b) (blockAt ls (suc b))
     each b h =
         let w = accepted-views ls ok in
         block-moved q2 p b (blockAt ls (suc b)) (omega arith) agree-blocks (each2 b h)
 
     row-numbers : (k : ℕ) → k < r → RowNumbers p k (getD (rowsFrom 0 ls) k unlisted)
-    row-numbers k h = row-same q2 p k (getD (rowsFrom 0 ls) k unlisted) (λ c f. agree .same (630 + k * 5 + c) (omega arith) (omega arith)) (rd .each k h)
+    row-numbers k h = row-same q2 p k (getD (rowsFrom 0 ls) k unlisted) (λ c f. agree .same (rows-at + k * 5 + c) (omega arith) (omega arith)) (rd .each k h)
 
     done : TableauDone q3 (r + 1) m blockList
     done = td blockList (sources q2 r each2 count (rd .each))
 
-    abbrev placed : List Placed
+    abbrev placed : List PlacedAtom
     placed = atomsFrom 0 blockList
 
     size-is : m ≡ length placed
@@ -225,16 +229,16 @@ module _ (ls : List Line) (ok : Accepted ls) where
         subst (λ n. FactNumbers (tableauFacts p t 0 n) (facts sheet t)) (sym e) (subst (FactNumbers (tableauFacts p t 0 (length placed))) (sym (facts-placed sheet t)) f)
 
     -- the question's atoms come first
-    abbrev own : List Placed
+    abbrev own : List PlacedAtom
     own = map (λ a. record { number = 0; atom = a }) (sheet .question .atoms)
 
-    abbrev others : List Placed
+    abbrev others : List PlacedAtom
     others = atomsFrom 1 (map (λ (j : Job). j .block) rest)
 
     own-length : length own ≡ askedSize p
     own-length =
         let q = subst (BlockNumbers (blockNumbers q2 0) (blockSize q2 0)) (block-question ls ok) (each2 0 (omega arith)) in
-        length-map (sheet .question .atoms) (λ a. record { number = 0; atom = a }) ∙ sym (q .count) ∙ sym (k3 .above 1170 (omega arith)) ∙ sym (cl .asked-is)
+        length-map (sheet .question .atoms) (λ a. record { number = 0; atom = a }) ∙ sym (q .count) ∙ sym (k3 .above sizes-at (omega arith)) ∙ sym (cl .asked-is)
 
     both-length : length placed ≡ askedSize p + length others
     both-length = length-append own others ∙ ap (λ n. n + length others) own-length
@@ -250,6 +254,17 @@ module _ (ls : List Line) (ok : Accepted ls) where
 
     views-count : viewCount p ≡ length views
     views-count = let n = blocks-count in let c = cl .views-is in omega arith
+
+    lists-count : listCount p ≡ length (sheet .lists)
+    unfolding listCount
+    lists-count = sym (list-count ls ok)
+
+    list-numbers : (i : ℕ) → i < listCount p → BlockNumbers (blockNumbers p (list-block i)) (blockSize p (list-block i)) (listAt sheet i)
+    list-numbers i h =
+        let c = lists-count in
+        let n = list-count ls ok in
+        let z : suc (list-block i) ≡ suc (suc i) = omega arith in
+        subst (BlockNumbers (blockNumbers p (list-block i)) (blockSize p (list-block i))) (ap (blockAt ls) z ∙ block-list ls ok i (omega arith)) (each (list-block i) (omega arith))
 
     row-in : (k : ℕ) → k < rowCount p → RowOf p sheet k
     row-in k h =
@@ -277,7 +292,7 @@ module _ (ls : List Line) (ok : Accepted ls) where
         let c = count in
         let z = ap length (rows-walked ls ok) in
         let w = row-numbers k (omega arith) in
-        (k, omega arith, w .view ∙ ap (λ (l : Listed). l .view) f, w .values ∙ ap (λ (l : Listed). padded (l .row)) f)
+        (k, omega arith, w .view ∙ ap (λ (l : ViewRow). l .view) f, w .values ∙ ap (λ (l : ViewRow). padded (l .row)) f)
 
     pub plan-of : Plan p sheet
     plan-of =
@@ -292,17 +307,18 @@ module _ (ls : List Line) (ok : Accepted ls) where
           few = omega arith;
           asked = omega arith;
           rows-few = omega arith;
+          lists-few = let c = lists-count in let l = list-count ls ok in omega arith;
           views-few = omega arith;
           whole = whole-facts;
           agreeing = agreeing-facts;
-          question = subst (BlockNumbers (blockNumbers p 0) (blockSize p 0)) (block-question ls ok) (each 0 (omega arith));
-          saved = blockAt ls 2;
-          lists = block-list ls ok;
-          list = each 1 (omega arith);
+          question = subst (BlockNumbers (blockNumbers p question-block) (blockSize p question-block)) (block-question ls ok) (each 0 (omega arith));
+          lists = lists-count;
+          list = list-numbers;
           views = views-count;
           view = λ j h.
-              let z : suc (2 + j) ≡ suc (suc (suc j)) = omega arith in
-              subst (BlockNumbers (blockNumbers p (2 + j)) (blockSize p (2 + j))) (ap (blockAt ls) z ∙ block-view ls ok j) (each (2 + j) (omega arith));
+              let c = list-count ls ok in
+              let z : suc (view-block j) ≡ suc (suc (length (sheet .lists) + j)) = omega arith in
+              subst (BlockNumbers (blockNumbers p (view-block j)) (blockSize p (view-block j))) (ap (blockAt ls) z ∙ block-view ls ok j) (each (view-block j) (omega arith));
           rows = row-in;
           every-row = row-place;
           copies = let l = rest-length in let c = count in omega arith;

@@ -5,33 +5,33 @@ use mathlib.Core.List.{List, [], _∷_, _++_, map}
 use Prim.Native.Nat.{ℕ, zero, suc, _+_, _-_, _*_, _%_, _<_, _≤_}
 use lib.Dec.{eqb, ltb}
 use lib.ListN.{length, getD, drop}
+use Rattle.query_layout.specs.Layout.{block-width, names}
+use Rattle.tableau_layout.specs.Layout.{blocks-at, most-blocks, plan-numbers, sizes-at, slot-end, tableau-atoms, tableau-size-at, question-block, view-block}
+use Rattle.sheet_format.specs.Limits.{constant-end}
 use Rattle.list_laws.specs.Kept as ranges
 use Rattle.sheet_format.specs.Line.{Line, natural}
 use Rattle.sheet_format.specs.Cause.{kind, rest, refusalOf}
 use Rattle.query_meaning.specs.Meaning.{value, Atom, Block, In}
 use Rattle.query_meaning.specs.Blocks.{isRow, allBlocks, nowhere, blockAt}
-use Rattle.query_encoding.specs.Numbers.{termAt, BlockNumbers, padded}
+use Rattle.query_encoding.specs.Encoding.{termAt, BlockNumbers, padded}
 use Rattle.case_verdicts.specs.Accepted.{Fine}
 use Rattle.case_verdicts.specs.Sheets.{top, isView}
 use Rattle.case_verdicts.specs.Tableau.{State, copy}
 use Rattle.tableau_plan.specs.Plan.{tableauAt, rowAt, rowValues, blockNumbers, blockSize, tableauSize, askedSize, rowCount, viewCount, slotValue}
 
-abbrev pub Accepted : List Line → Type 0
-Accepted ls = refusalOf ls .number ≡ 0
-
 -- q is p but for the places from `from` to before `end`
-abbrev pub Kept : List ℕ → List ℕ → ℕ → ℕ → Type 0
-Kept p q from end = ranges.Kept 0 p q from end
+abbrev pub KeptOutside : List ℕ → List ℕ → ℕ → ℕ → Type 0
+KeptOutside p q from end = ranges.Kept 0 p q from end
 
 -- ---- the blocks
 
 -- block b has been stored, with its size; the blocks before it stay
 pub record BlockStored (p q : List ℕ) (b n : ℕ) (blk : List ℕ) : Type 0 where
-  pub long : length q ≡ 1184
-  pub kept : (y : ℕ) → y < 830 + b * 34 → getD q y 0 ≡ getD p y 0
-  pub sizes : (c : ℕ) → c < b → getD q (1170 + c) 0 ≡ getD p (1170 + c) 0
-  pub numbers : (x : ℕ) → x < 34 → getD q (830 + b * 34 + x) 0 ≡ getD blk x 0
-  pub size : getD q (1170 + b) 0 ≡ n
+  pub long : length q ≡ plan-numbers
+  pub kept : (y : ℕ) → y < blocks-at + b * block-width → getD q y 0 ≡ getD p y 0
+  pub sizes : (c : ℕ) → c < b → getD q (sizes-at + c) 0 ≡ getD p (sizes-at + c) 0
+  pub numbers : (x : ℕ) → x < block-width → getD q (blocks-at + b * block-width + x) 0 ≡ getD blk x 0
+  pub size : getD q (sizes-at + b) 0 ≡ n
 
 pub record Blocks (p : List ℕ) (ls : List Line) (n : ℕ) : Type 0 where
   pub count : n ≡ length (allBlocks ls)
@@ -40,19 +40,19 @@ pub record Blocks (p : List ℕ) (ls : List Line) (n : ℕ) : Type 0 where
 -- ---- the listed rows
 
 -- a row with its view, from 0
-pub record Listed : Type 0 where
+pub record ViewRow : Type 0 where
   pub view : ℕ
   pub row : List ℕ
 
-abbrev pub unlisted : Listed
+abbrev pub unlisted : ViewRow
 unlisted = record { view = 0; row = [] }
 
 -- the rows of the lines, where v views have begun before
-unfoldable pub rowsFrom : ℕ → List Line → List Listed
+unfoldable pub rowsFrom : ℕ → List Line → List ViewRow
 rowsFrom v [] = []
 rowsFrom v (l ∷ ls) = cond (isView (kind l)) (rowsFrom (suc v) ls) (cond (isRow (kind l)) (record { view = v - 1; row = map natural (rest l) } ∷ rowsFrom v ls) (rowsFrom v ls))
 
-pub record RowNumbers (p : List ℕ) (i : ℕ) (l : Listed) : Type 0 where
+pub record RowNumbers (p : List ℕ) (i : ℕ) (l : ViewRow) : Type 0 where
   pub view : rowAt p i 0 ≡ l .view
   pub values : rowValues p i ≡ padded (l .row)
 
@@ -66,7 +66,7 @@ pub record RowsDone (p : List ℕ) (ls : List Line) (i v r : ℕ) : Type 0 where
 
 -- a term of a block as one of copy k
 unfoldable pub slotOf : ℕ → ℕ → ℕ
-slotOf k t = cond (ltb t 13) (k * 13 + t) (cond (ltb t 1000013) (t + 520) 0)
+slotOf k t = cond (ltb t names) (k * names + t) (cond (ltb t (constant-end + names)) (t + (slot-end - names)) 0)
 
 -- number x of the atoms of copy k
 unfoldable pub placedNumber : ℕ → ℕ → ℕ → ℕ
@@ -75,34 +75,34 @@ placedNumber k x t = cond (eqb (x % 5) 0) t (slotOf k t)
 -- the block of a copy, by the rows
 abbrev pub sourceOf : List ℕ → ℕ → ℕ
 sourceOf p zero = 0
-sourceOf p (suc r) = 2 + rowAt p r 0
+sourceOf p (suc r) = view-block (rowAt p r 0)
 
 abbrev pub noBlock : Block
 noBlock = nowhere .block
 
 -- an atom with the number of its copy
-pub record Placed : Type 0 where
+pub record PlacedAtom : Type 0 where
   pub number : ℕ
   pub atom : Atom
 
-abbrev pub unplaced : Placed
+abbrev pub unplaced : PlacedAtom
 unplaced = record { number = 0; atom = record { rel = 0; terms = [] } }
 
 -- the atoms of the blocks, which are copies from k on
-abbrev pub atomsFrom : ℕ → List Block → List Placed
+abbrev pub atomsFrom : ℕ → List Block → List PlacedAtom
 atomsFrom k [] = []
 atomsFrom k (b ∷ bs) = map (λ a. record { number = k; atom = a }) (b .atoms) ++ atomsFrom (suc k) bs
 
 -- the blocks of a tableau with n rows stand in p
 pub record Sources (p : List ℕ) (n : ℕ) (bs : List Block) : Type 0 where
   pub count : length bs ≡ suc n
-  pub low : (k : ℕ) → k < length bs → sourceOf p k < 10
+  pub low : (k : ℕ) → k < length bs → sourceOf p k < most-blocks
   pub numbers : (k : ℕ) → k < length bs → BlockNumbers (blockNumbers p (sourceOf p k)) (blockSize p (sourceOf p k)) (getD bs k noBlock)
   pub fine : (k : ℕ) → k < length bs → (a : Atom) → In a (getD bs k noBlock .atoms) → Fine top (a .terms)
-  pub few : length (atomsFrom 0 bs) ≤ 126
+  pub few : length (atomsFrom 0 bs) ≤ tableau-atoms
 
 -- atom i of the tableau under every state
-pub record PlacedNumbers (p : List ℕ) (i : ℕ) (a : Placed) : Type 0 where
+pub record PlacedNumbers (p : List ℕ) (i : ℕ) (a : PlacedAtom) : Type 0 where
   pub relation : tableauAt p i 0 ≡ a .atom .rel
   pub terms : (s : State) (c : ℕ) → c < 4 → slotValue s (getD p (i * 5 + 1 + c) 0) ≡ value (copy s (a .number)) (termAt (a .atom .terms) c)
 
@@ -116,8 +116,8 @@ pub record TableauDone (p : List ℕ) (k n : ℕ) (bs : List Block) : Type 0 whe
 
 pub record Closed (p q : List ℕ) (atoms listed views : ℕ) : Type 0 where
   pub same : length q ≡ length p
-  pub kept : (y : ℕ) → y < 1180 → getD q y 0 ≡ getD p y 0
+  pub kept : (y : ℕ) → y < tableau-size-at → getD q y 0 ≡ getD p y 0
   pub atoms-is : tableauSize q ≡ atoms
-  pub asked-is : askedSize q ≡ blockSize p 0
+  pub asked-is : askedSize q ≡ blockSize p question-block
   pub listed-is : rowCount q ≡ listed
   pub views-is : viewCount q ≡ views

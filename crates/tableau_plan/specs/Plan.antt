@@ -6,17 +6,16 @@ use mathlib.Core.List.{List, [], _∷_, map}
 use Prim.Native.Nat.{ℕ, zero, suc, _+_, _-_, _*_, _<_, _≤_}
 use lib.Dec.{ltb}
 use lib.ListN.{length, getD, take, drop}
+use Rattle.query_layout.specs.Layout.{block-width}
+use Rattle.tableau_layout.specs.Layout.{asked-size-at, blocks-at, plan-numbers, row-count-at, rows-at, sizes-at, slot-end, tableau-atoms, tableau-size-at, view-count-at, question-block, list-block, view-block}
+use Rattle.sheet_format.specs.Limits.{most-lists, most-rows, most-views}
 use Rattle.query_meaning.specs.Meaning.{Term, con, Block, In}
-use Rattle.query_meaning.specs.Blocks.{View, nth}
-use Rattle.query_encoding.specs.Numbers.{BlockNumbers, FactNumbers, padded}
+use Rattle.query_meaning.specs.Blocks.{View, nowhere, nth}
+use Rattle.query_encoding.specs.Encoding.{BlockNumbers, FactNumbers, padded}
 use Rattle.case_verdicts.specs.Verdict.{Sheet}
 use Rattle.case_verdicts.specs.Tableau.{Job, State, jobs, facts, bare}
 
 -- ---- the layout of the 1,184 numbers
-
--- slots: 13 for each of at most 41 copies. A term of the tableau below this is a slot, and from it on a constant
-abbrev pub slot-end : ℕ
-slot-end = 533
 
 -- number c of atom i of the tableau: 0 its relation, 1 to 4 its terms
 abbrev pub tableauAt : List ℕ → ℕ → ℕ → ℕ
@@ -24,27 +23,35 @@ tableauAt p i c = getD p (i * 5 + c) 0
 
 -- number c of listed row i: 0 its view, from 0, and 1 to 4 its values
 abbrev pub rowAt : List ℕ → ℕ → ℕ → ℕ
-rowAt p i c = getD p (630 + i * 5 + c) 0
+rowAt p i c = getD p (rows-at + i * 5 + c) 0
 
--- block b: 0 the question, 1 the list, 2 + v view v; and how many atoms it has
+-- block b, the question, a list or a view; and how many atoms it has
 abbrev pub blockNumbers : List ℕ → ℕ → List ℕ
-blockNumbers p b = take 34 (drop (830 + b * 34) p)
+blockNumbers p b = take block-width (drop (blocks-at + b * block-width) p)
 
 abbrev pub blockSize : List ℕ → ℕ → ℕ
-blockSize p b = getD p (1170 + b) 0
+blockSize p b = getD p (sizes-at + b) 0
 
 -- how many atoms the tableau has, how many of them, in front, are the question's, how many rows there are, and how many views
 abbrev pub tableauSize : List ℕ → ℕ
-tableauSize p = getD p 1180 0
+tableauSize p = getD p tableau-size-at 0
 
 abbrev pub askedSize : List ℕ → ℕ
-askedSize p = getD p 1181 0
+askedSize p = getD p asked-size-at 0
 
 abbrev pub rowCount : List ℕ → ℕ
-rowCount p = getD p 1182 0
+rowCount p = getD p row-count-at 0
 
 abbrev pub viewCount : List ℕ → ℕ
-viewCount p = getD p 1183 0
+viewCount p = getD p view-count-at 0
+
+-- how many lists: a sheet has as many as it may have
+unfoldable pub listCount : List ℕ → ℕ
+listCount p = most-lists
+
+-- list i of a sheet
+abbrev pub listAt : Sheet → ℕ → Block
+listAt x i = getD (x .lists) i (nowhere .block)
 
 -- ---- the tableau under a state
 
@@ -70,21 +77,21 @@ pub record RowOf (p : List ℕ) (x : Sheet) (i : ℕ) : Type 0 where
   pub copy : getD (jobs x) (suc i) (record { block = x .question; is = [] }) ≡ record { block = nth (x .views) (rowAt p i 0) .block; is = map con row }
 
 pub record Plan (p : List ℕ) (x : Sheet) : Type 0 where
-  pub size : length p ≡ 1184
-  pub few : tableauSize p ≤ 126
+  pub size : length p ≡ plan-numbers
+  pub few : tableauSize p ≤ tableau-atoms
   pub asked : askedSize p ≤ tableauSize p
-  pub rows-few : rowCount p ≤ 40
-  pub views-few : viewCount p ≤ 8
+  pub rows-few : rowCount p ≤ most-rows
+  pub lists-few : listCount p ≤ most-lists
+  pub views-few : viewCount p ≤ most-views
   -- the tableau's facts, with the question's and without
   pub whole : (s : State) → FactNumbers (tableauFacts p s 0 (tableauSize p)) (facts x s)
   pub agreeing : (s : State) → FactNumbers (tableauFacts p s (askedSize p) (tableauSize p - askedSize p)) (facts (bare x) s)
   -- the blocks
-  pub question : BlockNumbers (blockNumbers p 0) (blockSize p 0) (x .question)
-  pub saved : Block
-  pub lists : x .lists ≡ saved ∷ []
-  pub list : BlockNumbers (blockNumbers p 1) (blockSize p 1) saved
+  pub question : BlockNumbers (blockNumbers p question-block) (blockSize p question-block) (x .question)
+  pub lists : listCount p ≡ length (x .lists)
+  pub list : (i : ℕ) → i < listCount p → BlockNumbers (blockNumbers p (list-block i)) (blockSize p (list-block i)) (listAt x i)
   pub views : viewCount p ≡ length (x .views)
-  pub view : (v : ℕ) → v < viewCount p → BlockNumbers (blockNumbers p (2 + v)) (blockSize p (2 + v)) (nth (x .views) v .block)
+  pub view : (v : ℕ) → v < viewCount p → BlockNumbers (blockNumbers p (view-block v)) (blockSize p (view-block v)) (nth (x .views) v .block)
   -- the listed rows: each row of the plan is one, and each one is a row of the plan
   pub rows : (i : ℕ) → i < rowCount p → RowOf p x i
   pub every-row : (v : ℕ) → v < viewCount p → (r : List ℕ) → In r (nth (x .views) v .rows) → (i : ℕ) × (i < rowCount p) × (rowAt p i 0 ≡ v) × (rowValues p i ≡ padded r)

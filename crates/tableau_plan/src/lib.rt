@@ -1,52 +1,44 @@
 // A sheet in plain numbers, as the search for a case works on it.
 use query_blocks::Numbers;
 use query_encoding::BLOCK_NUMBERS;
+use query_layout::COLUMNS;
+use query_layout::FACT_NUMBERS;
+use query_layout::MADE_UP;
+use query_layout::NAMES;
 use sheet_format::LINE_WORDS;
 use sheet_format::MOST_ATOMS;
 use sheet_format::MOST_ROWS;
+use sheet_format::MOST_VIEWS;
 use sheet_format::ROW_KIND;
 use sheet_format::VIEW_KIND;
+use tableau_layout::BLOCKS_AT;
+use tableau_layout::MOST_BLOCKS;
+use tableau_layout::PLAN_NUMBERS;
+use tableau_layout::ROW_NUMBERS;
+use tableau_layout::ROWS_AT;
+use tableau_layout::SIZES_AT;
+use tableau_layout::SLOTS;
+use tableau_layout::TABLEAU_ATOMS;
+use tableau_layout::TABLEAU_SIZE_AT;
+use tableau_layout::VIEW_BLOCKS;
 ghost use mathlib.Core.Path.{_≡_};
 ghost use mathlib.Core.List.{List};
 ghost use Prim.Native.Nat.{ℕ, _+_, _-_, _*_, _/_, _<_, _≤_};
 ghost use lib.IntN.{pos};
 ghost use lib.ListN.{length, getD};
+ghost use Rattle.query_layout.specs.Layout.{block-width};
+ghost use Rattle.tableau_layout.specs.Layout.{blocks-at, most-blocks, plan-numbers, rows-at, tableau-atoms};
+ghost use Rattle.sheet_format.specs.Limits.{most-rows};
 ghost use Rattle.sheet_format.specs.Line.{natural, wordLines};
 ghost use Rattle.sheet_format.specs.Cause.{refusalOf};
 ghost use Rattle.query_meaning.specs.Meaning.{Block};
 ghost use Rattle.case_verdicts.specs.Sheets.{sheetOf};
 ghost use Rattle.tableau_plan.specs.Plan.{Plan};
-ghost use Rattle.tableau_plan.specs.Parts.{Kept, Accepted, BlockStored, Blocks, slotOf, placedNumber, sourceOf, RowsDone, Sources, TableauDone, Closed};
+ghost use Rattle.tableau_plan.specs.Parts.{KeptOutside, BlockStored, Blocks, slotOf, placedNumber, sourceOf, RowsDone, Sources, TableauDone, Closed};
+ghost use Rattle.query_blocks.specs.Parts.{AcceptedLines};
 
-// The layout: the tableau's atoms, the listed rows, the blocks, the blocks' sizes, and four counts.
-const PLAN_NUMBERS: usize = 1184;
-
-const ATOM_NUMBERS: usize = 5;
-
-const MOST_TABLEAU: usize = 126;
-
-const ROWS: usize = 630;
-
-const BLOCKS: usize = 830;
-
-const SIZES: usize = 1170;
-
-const MOST_BLOCKS: usize = 10;
-
-const COUNTS: usize = 1180;
-
-// A row's numbers: its view and four values.
-const ROW_NUMBERS: usize = 5;
-
-const VALUES: usize = 4;
-
-// Variables are below this in a block, and constants from it on; slots are 13 to a copy and below 533 in the tableau.
-const NAMES: usize = 13;
-
-const SLOTS: usize = 533;
-
-// Terms of a block are below this: constants are below 1,000,000.
-const TERMS: usize = 1_000_013;
+// Terms of a block are below this.
+const TERMS: usize = MADE_UP + NAMES;
 
 // How many views have begun, and how many rows have been taken.
 struct Walk {
@@ -65,9 +57,9 @@ fn number_at(ws: &[i32], i: usize) -> usize
 }
 
 // A block's numbers at a place.
-fn put_numbers(p: &mut [usize], at: usize, numbers: &[usize; 34])
-    requires { ⌜ at + 34 ≤ length (now p) ⌝ }
-    ensures { λ r. ⌜ Kept (now (p .entry)) (now (p .exit)) at (at + 34) × ((x : ℕ) → x < 34 → getD (now (p .exit)) (at + x) 0 ≡ getD (now (numbers .entry)) x 0) ⌝ }
+fn put_numbers(p: &mut [usize], at: usize, numbers: &[usize; BLOCK_NUMBERS])
+    requires { ⌜ at + block-width ≤ length (now p) ⌝ }
+    ensures { λ r. ⌜ KeptOutside (now (p .entry)) (now (p .exit)) at (at + block-width) × ((x : ℕ) → x < block-width → getD (now (p .exit)) (at + x) 0 ≡ getD (now (numbers .entry)) x 0) ⌝ }
 {
     let mut x = 0;
     while x < BLOCK_NUMBERS {
@@ -78,18 +70,18 @@ fn put_numbers(p: &mut [usize], at: usize, numbers: &[usize; 34])
 
 // Block b with its size.
 fn put_block(p: &mut [usize], b: usize, found: Numbers)
-    requires { ⌜ (length (now p) ≡ 1184) × (b < 10) ⌝ }
+    requires { ⌜ (length (now p) ≡ plan-numbers) × (b < most-blocks) ⌝ }
     ensures { λ r. ⌜ BlockStored (now (p .entry)) (now (p .exit)) b (found .atoms) (found .numbers) ⌝ }
 {
     let numbers = found.numbers;
-    put_numbers(p, BLOCKS + b * BLOCK_NUMBERS, &numbers);
-    p[SIZES + b] = found.atoms;
+    put_numbers(p, BLOCKS_AT + b * BLOCK_NUMBERS, &numbers);
+    p[SIZES_AT + b] = found.atoms;
 }
 
 // All blocks, and how many there are.
 fn put_blocks(ws: &[i32], p: &mut [usize]) -> usize
-    requires { ⌜ length (now p) ≡ 1184 ⌝ }
-    ensures { λ r. ⌜ (length (now (p .exit)) ≡ 1184) × (Accepted (wordLines (now (ws .entry))) → Blocks (now (p .exit)) (wordLines (now (ws .entry))) r) ⌝ }
+    requires { ⌜ length (now p) ≡ plan-numbers ⌝ }
+    ensures { λ r. ⌜ (length (now (p .exit)) ≡ plan-numbers) × (AcceptedLines (wordLines (now (ws .entry))) → Blocks (now (p .exit)) (wordLines (now (ws .entry))) r) ⌝ }
 {
     let mut b = 0;
     while b < MOST_BLOCKS {
@@ -106,10 +98,10 @@ fn put_blocks(ws: &[i32], p: &mut [usize]) -> usize
 // The values of the row on line i, at a place.
 fn put_values(ws: &[i32], i: usize, p: &mut [usize], at: usize)
     requires { ⌜ (i < length (now ws) / 7) × (at + 4 ≤ length (now p)) ⌝ }
-    ensures { λ r. ⌜ Kept (now (p .entry)) (now (p .exit)) at (at + 4) × ((c : ℕ) → c < 4 → getD (now (p .exit)) (at + c) 0 ≡ natural (getD (now (ws .entry)) (7 * i + 2 + c) (pos 0))) ⌝ }
+    ensures { λ r. ⌜ KeptOutside (now (p .entry)) (now (p .exit)) at (at + 4) × ((c : ℕ) → c < 4 → getD (now (p .exit)) (at + c) 0 ≡ natural (getD (now (ws .entry)) (7 * i + 2 + c) (pos 0))) ⌝ }
 {
     let mut c = 0;
-    while c < VALUES {
+    while c < COLUMNS {
         p[at + c] = number_at(ws, LINE_WORDS * i + 2 + c);
         c += 1;
     }
@@ -127,8 +119,8 @@ fn view_of(views: usize) -> usize
 
 // One line more.
 fn take_line(ws: &[i32], i: usize, p: &mut [usize], walk: Walk) -> Walk
-    requires { ⌜ (i < length (now ws) / 7) × (length (now p) ≡ 1184) × (walk .views ≤ i) × (walk .rows ≤ 40) ⌝ }
-    ensures { λ r. ⌜ (r .views ≤ i + 1) × (r .rows ≤ 40) × Kept (now (p .entry)) (now (p .exit)) 630 830 × (Accepted (wordLines (now (ws .entry))) → RowsDone (now (p .entry)) (wordLines (now (ws .entry))) i (walk .views) (walk .rows) → RowsDone (now (p .exit)) (wordLines (now (ws .entry))) (i + 1) (r .views) (r .rows)) ⌝ }
+    requires { ⌜ (i < length (now ws) / 7) × (length (now p) ≡ plan-numbers) × (walk .views ≤ i) × (walk .rows ≤ most-rows) ⌝ }
+    ensures { λ r. ⌜ (r .views ≤ i + 1) × (r .rows ≤ most-rows) × KeptOutside (now (p .entry)) (now (p .exit)) rows-at blocks-at × (AcceptedLines (wordLines (now (ws .entry))) → RowsDone (now (p .entry)) (wordLines (now (ws .entry))) i (walk .views) (walk .rows) → RowsDone (now (p .exit)) (wordLines (now (ws .entry))) (i + 1) (r .views) (r .rows)) ⌝ }
 {
     let kind = number_at(ws, LINE_WORDS * i + 1);
     let views = walk.views;
@@ -145,15 +137,15 @@ fn take_line(ws: &[i32], i: usize, p: &mut [usize], walk: Walk) -> Walk
     if MOST_ROWS <= r {
         return walk;
     }
-    put_values(ws, i, p, ROWS + r * ROW_NUMBERS + 1);
-    p[ROWS + r * ROW_NUMBERS] = view_of(views);
+    put_values(ws, i, p, ROWS_AT + r * ROW_NUMBERS + 1);
+    p[ROWS_AT + r * ROW_NUMBERS] = view_of(views);
     Walk { views, rows: r + 1 }
 }
 
 // All listed rows with their views, and how many there are.
 fn put_rows(ws: &[i32], p: &mut [usize]) -> usize
-    requires { ⌜ length (now p) ≡ 1184 ⌝ }
-    ensures { λ r. ⌜ (r ≤ 40) × Kept (now (p .entry)) (now (p .exit)) 630 830 × (Accepted (wordLines (now (ws .entry))) → (v : ℕ) × RowsDone (now (p .exit)) (wordLines (now (ws .entry))) (length (now (ws .entry)) / 7) v r) ⌝ }
+    requires { ⌜ length (now p) ≡ plan-numbers ⌝ }
+    ensures { λ r. ⌜ (r ≤ most-rows) × KeptOutside (now (p .entry)) (now (p .exit)) rows-at blocks-at × (AcceptedLines (wordLines (now (ws .entry))) → (v : ℕ) × RowsDone (now (p .exit)) (wordLines (now (ws .entry))) (length (now (ws .entry)) / 7) v r) ⌝ }
 {
     let n = ws.len() / LINE_WORDS;
     let mut walk = Walk { views: 0, rows: 0 };
@@ -167,7 +159,7 @@ fn put_rows(ws: &[i32], p: &mut [usize]) -> usize
 
 // A block's term in the tableau: a slot of the copy, or a constant.
 fn slot(copy: usize, term: usize) -> usize
-    requires { ⌜ copy ≤ 40 ⌝ }
+    requires { ⌜ copy ≤ most-rows ⌝ }
     ensures { λ r. ⌜ r ≡ slotOf copy term ⌝ }
 {
     if term < NAMES {
@@ -181,10 +173,10 @@ fn slot(copy: usize, term: usize) -> usize
 
 // Number x of a copy's atoms: a relation as it is, or a term.
 fn placed(copy: usize, x: usize, number: usize) -> usize
-    requires { ⌜ copy ≤ 40 ⌝ }
+    requires { ⌜ copy ≤ most-rows ⌝ }
     ensures { λ r. ⌜ r ≡ placedNumber copy x number ⌝ }
 {
-    if x % ATOM_NUMBERS == 0 {
+    if x % FACT_NUMBERS == 0 {
         return number;
     }
     slot(copy, number)
@@ -192,8 +184,8 @@ fn placed(copy: usize, x: usize, number: usize) -> usize
 
 // The atoms of a copy, n numbers.
 fn put_atoms(p: &mut [usize], copy: usize, from: usize, at: usize, n: usize)
-    requires { ⌜ (length (now p) ≡ 1184) × (copy ≤ 40) × (630 ≤ from) × (from + n ≤ 1184) × (at + n ≤ 630) ⌝ }
-    ensures { λ r. ⌜ Kept (now (p .entry)) (now (p .exit)) at (at + n) × ((x : ℕ) → x < n → getD (now (p .exit)) (at + x) 0 ≡ placedNumber copy x (getD (now (p .entry)) (from + x) 0)) ⌝ }
+    requires { ⌜ (length (now p) ≡ plan-numbers) × (copy ≤ most-rows) × (rows-at ≤ from) × (from + n ≤ plan-numbers) × (at + n ≤ rows-at) ⌝ }
+    ensures { λ r. ⌜ KeptOutside (now (p .entry)) (now (p .exit)) at (at + n) × ((x : ℕ) → x < n → getD (now (p .exit)) (at + x) 0 ≡ placedNumber copy x (getD (now (p .entry)) (from + x) 0)) ⌝ }
 {
     let mut x = 0;
     while x < n {
@@ -204,46 +196,46 @@ fn put_atoms(p: &mut [usize], copy: usize, from: usize, at: usize, n: usize)
 
 // The block of a copy: the question, or the view of a row.
 fn source(p: &[usize], copy: usize) -> usize
-    requires { ⌜ (length (now p) ≡ 1184) × (copy ≤ 40) ⌝ }
-    ensures { λ r. ⌜ (sourceOf (now (p .entry)) copy < 10 → r ≡ sourceOf (now (p .entry)) copy) × (r < 10) ⌝ }
+    requires { ⌜ (length (now p) ≡ plan-numbers) × (copy ≤ most-rows) ⌝ }
+    ensures { λ r. ⌜ (sourceOf (now (p .entry)) copy < most-blocks → r ≡ sourceOf (now (p .entry)) copy) × (r < most-blocks) ⌝ }
 {
     if copy == 0 {
         return 0;
     }
-    let view = p[ROWS + (copy - 1) * ROW_NUMBERS];
-    if view < 8 {
-        return view + 2;
+    let view = p[ROWS_AT + (copy - 1) * ROW_NUMBERS];
+    if view < MOST_VIEWS {
+        return VIEW_BLOCKS + view;
     }
     0
 }
 
 // One copy more, its atoms from atom `at` on.
 fn put_copy(p: &mut [usize], copy: usize, at: usize) -> usize
-    requires { ⌜ (length (now p) ≡ 1184) × (copy ≤ 40) × (at ≤ 126) ⌝ }
-    ensures { λ r. ⌜ (r ≤ 126) × Kept (now (p .entry)) (now (p .exit)) 0 630 × ((n : ℕ) (bs : List Block) → copy < length bs → Sources (now (p .entry)) n bs → TableauDone (now (p .entry)) copy at bs → TableauDone (now (p .exit)) (copy + 1) r bs) ⌝ }
+    requires { ⌜ (length (now p) ≡ plan-numbers) × (copy ≤ most-rows) × (at ≤ tableau-atoms) ⌝ }
+    ensures { λ r. ⌜ (r ≤ tableau-atoms) × KeptOutside (now (p .entry)) (now (p .exit)) 0 rows-at × ((n : ℕ) (bs : List Block) → copy < length bs → Sources (now (p .entry)) n bs → TableauDone (now (p .entry)) copy at bs → TableauDone (now (p .exit)) (copy + 1) r bs) ⌝ }
 {
     let b = source(p, copy);
-    let n = p[SIZES + b];
+    let n = p[SIZES_AT + b];
     if MOST_ATOMS < n {
         return at;
     }
-    if MOST_TABLEAU - at < n {
+    if TABLEAU_ATOMS - at < n {
         return at;
     }
     put_atoms(
         p,
         copy,
-        BLOCKS + b * BLOCK_NUMBERS,
-        at * ATOM_NUMBERS,
-        n * ATOM_NUMBERS,
+        BLOCKS_AT + b * BLOCK_NUMBERS,
+        at * FACT_NUMBERS,
+        n * FACT_NUMBERS,
     );
     at + n
 }
 
 // The tableau of the blocks and rows, and how many atoms it has.
 fn put_tableau(p: &mut [usize], n: usize) -> usize
-    requires { ⌜ (length (now p) ≡ 1184) × (n ≤ 40) ⌝ }
-    ensures { λ r. ⌜ (r ≤ 126) × Kept (now (p .entry)) (now (p .exit)) 0 630 × ((bs : List Block) → Sources (now (p .entry)) n bs → TableauDone (now (p .exit)) (n + 1) r bs) ⌝ }
+    requires { ⌜ (length (now p) ≡ plan-numbers) × (n ≤ most-rows) ⌝ }
+    ensures { λ r. ⌜ (r ≤ tableau-atoms) × KeptOutside (now (p .entry)) (now (p .exit)) 0 rows-at × ((bs : List Block) → Sources (now (p .entry)) n bs → TableauDone (now (p .exit)) (n + 1) r bs) ⌝ }
 {
     let mut at = 0;
     let mut copy = 0;
@@ -256,20 +248,20 @@ fn put_tableau(p: &mut [usize], n: usize) -> usize
 
 // The four counts.
 fn put_counts(p: &mut [usize], atoms: usize, listed: usize, blocks: usize)
-    requires { ⌜ length (now p) ≡ 1184 ⌝ }
+    requires { ⌜ length (now p) ≡ plan-numbers ⌝ }
     ensures { λ r. ⌜ Closed (now (p .entry)) (now (p .exit)) atoms listed (blocks - 2) ⌝ }
 {
-    let asked = p[SIZES];
-    p[COUNTS] = atoms;
-    p[COUNTS + 1] = asked;
-    p[COUNTS + 2] = listed;
-    p[COUNTS + 3] = view_of(view_of(blocks));
+    let asked = p[SIZES_AT];
+    p[TABLEAU_SIZE_AT] = atoms;
+    p[TABLEAU_SIZE_AT + 1] = asked;
+    p[TABLEAU_SIZE_AT + 2] = listed;
+    p[TABLEAU_SIZE_AT + 3] = view_of(view_of(blocks));
 }
 
 // The plan of an accepted number form, in 1,184 words; more or fewer words are left as they are.
 pub fn plan(ws: &[i32], p: &mut [usize])
-    ensures { λ r. ⌜ (length (now (p .entry)) ≡ 1184 → refusalOf (wordLines (now (ws .entry))) .number ≡ 0 → Plan (now (p .exit)) (sheetOf (wordLines (now (ws .entry))))) ⌝ }
-    ensures { λ r. ⌜ ((length (now (p .entry)) ≡ 1184 → ⊥) → now (p .exit) ≡ now (p .entry)) ⌝ }
+    ensures { λ r. ⌜ (length (now (p .entry)) ≡ plan-numbers → refusalOf (wordLines (now (ws .entry))) .number ≡ 0 → Plan (now (p .exit)) (sheetOf (wordLines (now (ws .entry))))) ⌝ }
+    ensures { λ r. ⌜ ((length (now (p .entry)) ≡ plan-numbers → ⊥) → now (p .exit) ≡ now (p .entry)) ⌝ }
 {
     if p.len() != PLAN_NUMBERS {
         return;

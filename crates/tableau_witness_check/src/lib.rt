@@ -1,23 +1,21 @@
 // Whether facts at given places give a block a row: the atoms become those facts, and the head the row, by the same values.
+use query_layout::BLOCK_NUMBERS;
+use query_layout::COLUMNS;
+use query_layout::FACT_NUMBERS;
+use query_layout::HEAD_AT;
+use query_layout::NAMES;
+use sheet_format::MOST_ATOMS;
 ghost use mathlib.Core.Path.{_≡_};
 ghost use mathlib.Core.Bool.{true};
 ghost use Prim.Native.Nat.{_/_, _≤_, _<_, min};
 ghost use lib.ListN.{length};
+ghost use Rattle.sheet_format.specs.Limits.{most-atoms};
 ghost use Rattle.query_join.specs.Joins.{valueOf, headRow, Becomes};
 ghost use Rattle.query_answers.specs.Answers.{WitnessAt};
 ghost use Rattle.tableau_parts.specs.Walks.{valued, Become};
 
-// The variables, and the numbers of an atom or a fact.
-const NAMES: usize = 13;
-
-const WIDTH: usize = 5;
-
-const COLUMNS: usize = 4;
-
-const MOST_ATOMS: usize = 6;
-
 // A term's value, where the variables have these values.
-fn value_of(vals: &[usize; 13], t: usize) -> usize
+fn value_of(vals: &[usize; NAMES], t: usize) -> usize
     ensures { λ r. ⌜ r ≡ valueOf (valued (now (vals .entry))) t ⌝ }
 {
     if t < NAMES {
@@ -27,15 +25,21 @@ fn value_of(vals: &[usize; 13], t: usize) -> usize
 }
 
 // The values, with those that the variables of atom j have where it becomes fact i.
-fn learn(blk: &[usize; 34], j: usize, facts: &[usize], i: usize, vals: [usize; 13]) -> [usize; 13]
-    requires { ⌜ (j < 6) × (i < length (now facts) / 5) ⌝ }
+fn learn(
+    blk: &[usize; BLOCK_NUMBERS],
+    j: usize,
+    facts: &[usize],
+    i: usize,
+    vals: [usize; NAMES],
+) -> [usize; NAMES]
+    requires { ⌜ (j < most-atoms) × (i < length (now facts) / 5) ⌝ }
 {
     let mut all = vals;
     let mut c = 0;
     while c < COLUMNS {
-        let t = blk[j * WIDTH + 1 + c];
+        let t = blk[j * FACT_NUMBERS + 1 + c];
         if t < NAMES {
-            all[t] = facts[i * WIDTH + 1 + c];
+            all[t] = facts[i * FACT_NUMBERS + 1 + c];
         }
         c += 1;
     }
@@ -43,11 +47,16 @@ fn learn(blk: &[usize; 34], j: usize, facts: &[usize], i: usize, vals: [usize; 1
 }
 
 // The values that variables have where the first n atoms become the facts at these places.
-fn values_by(blk: &[usize; 34], n: usize, facts: &[usize], at: [usize; 6]) -> [usize; 13]
-    requires { ⌜ n ≤ 6 ⌝ }
+fn values_by(
+    blk: &[usize; BLOCK_NUMBERS],
+    n: usize,
+    facts: &[usize],
+    at: [usize; MOST_ATOMS],
+) -> [usize; NAMES]
+    requires { ⌜ n ≤ most-atoms ⌝ }
 {
-    let m = facts.len() / WIDTH;
-    let mut vals = [0usize; 13];
+    let m = facts.len() / FACT_NUMBERS;
+    let mut vals = [0usize; NAMES];
     let mut j = 0;
     while j < n {
         let i = at[j];
@@ -61,17 +70,23 @@ fn values_by(blk: &[usize; 34], n: usize, facts: &[usize], at: [usize; 6]) -> [u
 }
 
 // Whether atom j becomes fact i by the values.
-fn becomes(blk: &[usize; 34], j: usize, facts: &[usize], i: usize, vals: &[usize; 13]) -> bool
-    requires { ⌜ (j < 6) × (i < length (now facts) / 5) ⌝ }
+fn becomes(
+    blk: &[usize; BLOCK_NUMBERS],
+    j: usize,
+    facts: &[usize],
+    i: usize,
+    vals: &[usize; NAMES],
+) -> bool
+    requires { ⌜ (j < most-atoms) × (i < length (now facts) / 5) ⌝ }
     ensures { λ r. ⌜ (r ≡ true → Becomes (now (blk .entry)) (now (facts .entry)) (valued (now (vals .entry))) j i) ⌝ }
 {
-    if facts[i * WIDTH] != blk[j * WIDTH] {
+    if facts[i * FACT_NUMBERS] != blk[j * FACT_NUMBERS] {
         return false;
     }
     let mut c = 0;
     while c < COLUMNS {
-        let u = value_of(vals, blk[j * WIDTH + 1 + c]);
-        if facts[i * WIDTH + 1 + c] != u {
+        let u = value_of(vals, blk[j * FACT_NUMBERS + 1 + c]);
+        if facts[i * FACT_NUMBERS + 1 + c] != u {
             return false;
         }
         c += 1;
@@ -81,16 +96,16 @@ fn becomes(blk: &[usize; 34], j: usize, facts: &[usize], i: usize, vals: &[usize
 
 // Whether the first n atoms become the facts at these places by the values.
 fn all_become(
-    blk: &[usize; 34],
+    blk: &[usize; BLOCK_NUMBERS],
     n: usize,
     facts: &[usize],
-    at: [usize; 6],
-    vals: &[usize; 13],
+    at: [usize; MOST_ATOMS],
+    vals: &[usize; NAMES],
 ) -> bool
-    requires { ⌜ n ≤ 6 ⌝ }
+    requires { ⌜ n ≤ most-atoms ⌝ }
     ensures { λ r. ⌜ (r ≡ true → Become (now (blk .entry)) n (now (facts .entry)) (valued (now (vals .entry))) at) ⌝ }
 {
-    let m = facts.len() / WIDTH;
+    let m = facts.len() / FACT_NUMBERS;
     let mut j = 0;
     while j < n {
         let i = at[j];
@@ -106,19 +121,25 @@ fn all_become(
 }
 
 // Whether the values make the head the row.
-fn head_is(blk: &[usize; 34], vals: &[usize; 13], row: [usize; 4]) -> bool
+fn head_is(blk: &[usize; BLOCK_NUMBERS], vals: &[usize; NAMES], row: [usize; 4]) -> bool
     ensures { λ r. ⌜ (r ≡ true → headRow (valued (now (vals .entry))) (now (blk .entry)) ≡ row) ⌝ }
 {
-    let a = value_of(vals, blk[30]);
-    let b = value_of(vals, blk[31]);
-    let c = value_of(vals, blk[32]);
-    let d = value_of(vals, blk[33]);
+    let a = value_of(vals, blk[HEAD_AT]);
+    let b = value_of(vals, blk[(HEAD_AT + 1)]);
+    let c = value_of(vals, blk[(HEAD_AT + 2)]);
+    let d = value_of(vals, blk[(HEAD_AT + 3)]);
     tableau_parts::same([a, b, c, d], row)
 }
 
 // Whether the block is given a row by the facts at these places, one for each of its atoms.
-pub fn shows(blk: &[usize; 34], n: usize, facts: &[usize], row: [usize; 4], at: [usize; 6]) -> bool
-    ensures { λ r. ⌜ (r ≡ true → WitnessAt (now (blk .entry)) (min n 6) (now (facts .entry)) row at) ⌝ }
+pub fn shows(
+    blk: &[usize; BLOCK_NUMBERS],
+    n: usize,
+    facts: &[usize],
+    row: [usize; 4],
+    at: [usize; MOST_ATOMS],
+) -> bool
+    ensures { λ r. ⌜ (r ≡ true → WitnessAt (now (blk .entry)) (min n most-atoms) (now (facts .entry)) row at) ⌝ }
 {
     let mut most = n;
     if MOST_ATOMS < n {

@@ -8,8 +8,8 @@
 use libc::STDOUT_FILENO;
 use sheet_format::Ending;
 use sheet_format::MOST_BYTES;
-use text_calls::Made;
-use text_calls::TEXT_ROOM;
+use text_to_sheet::Made;
+use text_writer::TEXT_ROOM;
 ghost use Prim.Native.Nat.{_≤_};
 ghost use lib.ListN.{length};
 
@@ -73,7 +73,7 @@ fn run(case: &[u8], out: &mut [u8]) -> usize {
 
 fn run_given(given: &[u8], out: &mut [u8], at: usize) -> usize {
     let mut words = [0u8; TEXT_ROOM];
-    let n = text_calls::answer(given, &mut words);
+    let n = text_answer::answer(given, &mut words);
     let end = put_part(out, at, &words, n);
     run_text(given, out, end)
 }
@@ -81,7 +81,7 @@ fn run_given(given: &[u8], out: &mut [u8], at: usize) -> usize {
 // The sheet of a text, if it has one, and back.
 fn run_text(given: &[u8], out: &mut [u8], at: usize) -> usize {
     let mut sheet = [0u8; MOST_BYTES];
-    let Made::Sheet(n) = text_calls::sheet_of(given, &mut sheet) else {
+    let Made::Sheet(n) = text_to_sheet::sheet_of(given, &mut sheet) else {
         return at;
     };
     if n <= sheet.len() {
@@ -93,7 +93,7 @@ fn run_text(given: &[u8], out: &mut [u8], at: usize) -> usize {
 // The text of a sheet, and whether it has the same sheet.
 fn run_back(sheet: &[u8], out: &mut [u8], at: usize) -> usize {
     let mut back = [0u8; TEXT_ROOM];
-    let Ending::Done(n) = text_calls::text_of(sheet, &mut back) else {
+    let Ending::Done(n) = text_from_sheet::text_of(sheet, &mut back) else {
         return at;
     };
     let end = put_part(out, at, &back, n);
@@ -105,7 +105,7 @@ fn run_back(sheet: &[u8], out: &mut [u8], at: usize) -> usize {
 
 fn run_again(sheet: &[u8], back: &[u8], out: &mut [u8], at: usize) -> usize {
     let mut again = [0u8; MOST_BYTES];
-    let Made::Sheet(n) = text_calls::sheet_of(back, &mut again) else {
+    let Made::Sheet(n) = text_to_sheet::sheet_of(back, &mut again) else {
         return text_buffer::put(out, at, b"!\n");
     };
     if n <= again.len() {

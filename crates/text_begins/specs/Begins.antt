@@ -4,6 +4,10 @@ use mathlib.Core.List.{List, [], _∷_}
 use Prim.Native.Nat.{ℕ, suc}
 use lib.Dec.{eqb, leb}
 
+-- a text has at most so many bytes
+abbrev pub most-text : ℕ
+most-text = 65536
+
 -- the letter of a block's kind: "q" for the question, "l" for the saved list, "v" for a view
 abbrev pub letterOf : ℕ → ℕ
 letterOf kind = cond (eqb kind 1) 113 (cond (eqb kind 2) 108 118)

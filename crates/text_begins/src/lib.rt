@@ -4,6 +4,9 @@ ghost use Prim.Native.Nat.{_≤_};
 ghost use lib.ListN.{length};
 ghost use Rattle.text_begins.specs.Begins.{letterOf, isBlank, beginsText, isText, blanks};
 
+// A text has at most so many bytes.
+pub const MOST_TEXT: usize = 65536;
+
 // The letter of a block's kind.
 pub fn letter(block: usize) -> u8
     ensures { λ r. ⌜ r ≡ letterOf block ⌝ }

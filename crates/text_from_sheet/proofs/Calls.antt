@@ -16,7 +16,7 @@ use Rattle.sheet_format.proofs.LineLaws.{bytes-good, all-words-length}
 use Rattle.sheet_format.proofs.ScanLaws.{accepted-length}
 use Rattle.sheet_format.proofs.RoundTrip.{ending-done, bytes-clean}
 use Rattle.sheet.proofs.Calls.{clean-sheet, refused-by}
-use Rattle.list_laws.proofs.Endings.{refused-way, short-way, done-way}
+use Rattle.sheet_format.proofs.Endings.{refused-way, short-way, done-way}
 use Rattle.text_buffer.specs.Puts.{Put}
 use Rattle.text_buffer.proofs.Laws.{said}
 use Rattle.text_writer.specs.Rooms.{text-room}

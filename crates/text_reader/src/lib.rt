@@ -10,6 +10,7 @@ use sheet_format::QUESTION_KIND;
 use sheet_format::ROW_KIND;
 use sheet_format::SAVED_KIND;
 use sheet_format::VIEW_KIND;
+use text_begins::MOST_TEXT;
 use text_begins::blanks;
 use text_begins::letter;
 ghost use mathlib.Core.Path.{_≡_};
@@ -21,9 +22,6 @@ ghost use Rattle.text_begins.specs.Begins.{blanks};
 const LINES: usize = MOST_LINES + 1;
 
 pub const WORDS: usize = LINES * LINE_WORDS;
-
-// The longest text.
-pub const MOST_TEXT: usize = 65536;
 
 // The variables of a block that have names: one more is a variable too many, whatever its name.
 const NAMED: usize = 12;

@@ -2,8 +2,8 @@
 use sheet_format::Ending;
 use sheet_format::LINE_WORDS;
 use sheet_format::MOST_LINES;
+use text_begins::MOST_TEXT;
 use text_reader::EXPECT_SHORTER;
-use text_reader::MOST_TEXT;
 use text_reader::WORDS;
 ghost use mathlib.Core.Path.{_≡_};
 ghost use Prim.Native.Nat.{_≤_};

@@ -24,7 +24,7 @@ use Rattle.query_meaning.specs.Blocks.{asTerm, blocks}
 use Rattle.query_meaning.specs.Evaluate.{answer-words}
 use Rattle.query_blocks.proofs.Accepted.{Clean, scan-first}
 use Rattle.case_verdicts.specs.Sheets.{isQuestion, sheetOf}
-use Rattle.judge.specs.Judged.{least-room, Judged, Sent}
+use Rattle.judge.specs.Judged.{least-room, Judged, SheetSent}
 use Rattle.judge.specs.declared.Judgement.{Judgement}
 use Rattle.text_buffer.specs.Puts.{Put}
 use Rattle.text_buffer.specs.Words.{bytes}
@@ -130,7 +130,7 @@ module _ (s out : List ℕ) (room : text-room ≤ length out) (after : List ℤ)
 
   -- a sheet whose verdict is not 9 is accepted
   accepted : (j .verdict ≡ 9 → ⊥) → sheetRefusal s .number ≡ 0
-  accepted n = ⊎-elim (λ (d : Sent s lent after j). absurd (n (ap (λ (q : Judgement). q .verdict) (d .result)))) (λ d. d .0) judged
+  accepted n = ⊎-elim (λ (d : SheetSent s lent after j). absurd (n (ap (λ (q : Judgement). q .verdict) (d .result)))) (λ d. d .0) judged
 
   pub case : (j .verdict ≡ 0 → ⊥) → (j .verdict ≡ 2 → ⊥) → (j .verdict ≡ 9 → ⊥) → length (j .missing) ≡ answer-words → length after ≡ least-room
       → (columns : ℕ) → columns ≡ length (lineAt s 1) / field-bytes - 1 → Put out new 0 (caseBytes columns (j .missing) (j .count) after) r → Verdict s out new r

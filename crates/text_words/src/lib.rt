@@ -1,6 +1,6 @@
 // What was expected, in words, put at a place of a buffer.
+use text_begins::MOST_TEXT;
 use text_buffer::put;
-use text_reader::MOST_TEXT;
 use text_writer::put_number;
 use text_writer::put_relation;
 ghost use Rattle.text_buffer.specs.Puts.{Put};

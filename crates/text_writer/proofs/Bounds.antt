@@ -23,7 +23,8 @@ use Rattle.sheet_format.proofs.Lists.{and-left, and-right, and-both}
 use Rattle.text_buffer.specs.Puts.{Put}
 use Rattle.text_buffer.specs.Words.{bytes}
 use Rattle.text_buffer.proofs.Laws.{below, reached-all, placed-all}
-use Rattle.text_writer.specs.Rooms.{most-text, text-room}
+use Rattle.text_begins.specs.Begins.{most-text}
+use Rattle.text_writer.specs.Rooms.{text-room}
 use Rattle.text_writer.specs.Texts.{plain, following, separated, groups, wordBytes, numberBytes, termAs, termBytes, termsBytes, relationNames, relationBytes, factBytes, factsBytes, small, lineTerms, headBytes, atomBytes, valuesBytes, rowBytes, kindBytes, lineBytes, blockAt, lineKind, firstKind, linesFrom, linesBytes, causes, causeBytes, placeBytes, refusalBytes, counts, countBytes, columnsBytes, expectations, lengthBytes, whatBytes, expectedBytes}
 use Rattle.text_writer.specs.Says.{Silent, Spoken}
 use Rattle.text_writer.proofs.Parts.{groups-length}

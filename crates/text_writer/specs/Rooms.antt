@@ -1,10 +1,7 @@
--- The sizes of texts, each behind one name.
+-- The room that texts want.
 use Prim.Native.Nat.{ℕ}
+use Rattle.sheet_format.specs.Limits.{most-sheet-bytes}
 
--- a text has at most so many bytes
-abbrev pub most-text : ℕ
-most-text = 65536
-
--- the room that the text of a sheet, and all that is said in words, want
+-- the room that the text of a sheet, and all that is said in words, want: as many bytes as a sheet may have
 abbrev pub text-room : ℕ
-text-room = 8192
+text-room = most-sheet-bytes

@@ -14,7 +14,7 @@ use Rattle.sheet_format.specs.declared.Term.{Term}
 use Rattle.sheet_format.specs.declared.Term.the-variants.{Constant, Variable, OutOfRange}
 use Rattle.text_buffer.specs.Words.{bytes}
 use Rattle.text_begins.specs.Begins.{letterOf}
-use Rattle.text_writer.specs.Rooms.{most-text}
+use Rattle.text_begins.specs.Begins.{most-text}
 
 -- ---- parts
 
@@ -170,7 +170,7 @@ causes =
     ∷ bytes "a line is out of place, or the question or the list is missing"
     ∷ bytes "no such relation, or not its columns"
     ∷ bytes "a term is out of range, or a row has a variable"
-    ∷ bytes "one atom, view or row too many"
+    ∷ bytes "more atoms, views or rows than fit"
     ∷ bytes "a head or a row has the wrong length"
     ∷ bytes "a block has no atoms, or a variable of its head is in none"
     ∷ bytes "a row is not above the one before it"

@@ -1,6 +1,7 @@
 // Numbers, terms and names of relations, as bytes, and what the bytes of texts are. Each function puts bytes at a place of a buffer, and returns
 // the place after them; what does not fit is left out.
 use sheet_format::FIELD_END;
+use sheet_format::MOST_SHEET_BYTES;
 use sheet_format::Term;
 use text_buffer::put_byte;
 use text_reader::NAME;
@@ -14,8 +15,8 @@ ghost use Rattle.text_buffer.specs.Puts.{Put};
 ghost use Rattle.text_buffer.specs.Words.{bytes};
 ghost use Rattle.text_writer.specs.Texts.{plain, wordBytes, numberBytes, variableLetter, termBytes, termsBytes, relationBytes};
 
-// The room that the text of a sheet, and all that is said in words, want.
-pub const TEXT_ROOM: usize = 8192;
+// The room that the text of a sheet, and all that is said in words, want: as many bytes as a sheet may have.
+pub const TEXT_ROOM: usize = MOST_SHEET_BYTES;
 
 // A byte that is no blank.
 fn put_unless_blank(out: &mut [u8], at: usize, b: u8) -> usize

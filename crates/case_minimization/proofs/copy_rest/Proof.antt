@@ -1,6 +1,6 @@
 -- `shrink::copy_rest` meets its contract: the copy, with its first gap closed, is the facts without the first. Assumes nothing.
 use mathlib.Core.List.{List}
-use Rattle.case_minimization.specs.Shrink.{without}
+use Rattle.case_minimization.specs.Minimization.{without}
 use mathlib.Core.Path.{ap, _∙_}
 use Prim.Native.Nat.{ℕ}
 use borrow.Author.Needs.{needs}

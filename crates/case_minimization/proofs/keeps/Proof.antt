@@ -1,8 +1,9 @@
 -- `shrink::keeps` meets its contract: the loop's invariant: the rows before r are given. The measure is what is left of the rows. Assumes nothing.
 use mathlib.Core.Path.{subst, _≡_}
 use borrow.Author.Tests.{not-true, not-false}
+use Rattle.tableau_layout.specs.Layout.{view-block}
 use Rattle.tableau_plan.specs.Plan.{rowAt, rowValues, rowCount}
-use Rattle.tableau_parts.specs.Walks.{Ready, GivenTo, GivesAtBy}
+use Rattle.tableau_parts.specs.Walks.{FormedPlan, GivenTo, GivesAtBy}
 use Rattle.tableau_parts.proofs.Laws.{given-none, given-more}
 use Prim.Native.Nat.{_≤_, _-_, _+_}
 use native.Mathlib.Omega.{arith}
@@ -11,7 +12,7 @@ use Rattle.case_minimization.proofs.keeps.Statement.{statement}
 use Rattle.case_minimization.proofs.keeps.Tie as tie
 
 abbrev Inv-loop : tie.InvT-loop
-Inv-loop p facts by i rows r₀ r = (r ≤ rows) × (Ready p → GivenTo p facts r)
+Inv-loop p facts by i rows r₀ r = (r ≤ rows) × (FormedPlan p → GivenTo p facts r)
 
 abbrev μ-loop : tie.MeasureT-loop
 μ-loop p facts by i rows r₀ r = rows - r
@@ -38,7 +39,7 @@ returns c =
     let q = c .before .row-given-by in
     λ ready g.
     let e = l .before .row-count .ensures .exact (ready .rows-few) in
-    subst (λ b. GivesAtBy b (s .args .p .now) (2 + rowAt (s .args .p .now) (l .loop .r) 0) (s .args .facts .now) (rowValues (s .args .p .now) (l .loop .r))) (not-true (q .result) (c .if1 .taken)) (q .ensures ready (omega arith)) (g .all (l .loop .r) (omega arith))
+    subst (λ b. GivesAtBy b (s .args .p .now) (view-block (rowAt (s .args .p .now) (l .loop .r) 0)) (s .args .facts .now) (rowValues (s .args .p .now) (l .loop .r))) (not-true (q .result) (c .if1 .taken)) (q .ensures ready (omega arith)) (g .all (l .loop .r) (omega arith))
 
 add-r : tie.Need-add-r Inv-loop μ-loop
 add-r c = search needs
@@ -55,7 +56,7 @@ loop-again c =
       λ ready.
           let e = l .before .row-count .ensures .exact (ready .rows-few) in
           given-more (s .args .p .now) (s .args .facts .now) (l .loop .r) (l .loop .inv .1 ready)
-          (subst (λ b. GivesAtBy b (s .args .p .now) (2 + rowAt (s .args .p .now) (l .loop .r) 0) (s .args .facts .now) (rowValues (s .args .p .now) (l .loop .r))) (not-false (q .result) (c .if1 .left)) (q .ensures ready (omega arith))),
+          (subst (λ b. GivesAtBy b (s .args .p .now) (view-block (rowAt (s .args .p .now) (l .loop .r) 0)) (s .args .facts .now) (rowValues (s .args .p .now) (l .loop .r))) (not-false (q .result) (c .if1 .left)) (q .ensures ready (omega arith))),
     )
 
 returns-2 : tie.Need-returns-2 Inv-loop μ-loop

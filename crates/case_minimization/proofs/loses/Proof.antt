@@ -2,6 +2,7 @@
 use mathlib.Core.Bool.{true≢false}
 use mathlib.Core.Path.{subst, sym}
 use borrow.Author.Tests.{not-true}
+use Rattle.tableau_layout.specs.Layout.{view-block}
 use Rattle.tableau_plan.specs.Plan.{rowAt, rowValues}
 use Rattle.tableau_parts.specs.Walks.{GivesAtBy}
 use Prim.Native.Nat.{_≤_, _-_, _+_}
@@ -38,7 +39,7 @@ returns c =
     let q = c .before .row-given-by in
     λ ready _ g.
     let e = l .before .row-count .ensures .exact (ready .rows-few) in
-    subst (λ b. GivesAtBy b (s .args .p .now) (2 + rowAt (s .args .p .now) (l .loop .r) 0) (s .args .facts .now) (rowValues (s .args .p .now) (l .loop .r))) (not-true (q .result) (c .if2 .taken)) (q .ensures ready (omega arith)) (g .all (l .loop .r) (omega arith))
+    subst (λ b. GivesAtBy b (s .args .p .now) (view-block (rowAt (s .args .p .now) (l .loop .r) 0)) (s .args .facts .now) (rowValues (s .args .p .now) (l .loop .r))) (not-true (q .result) (c .if2 .taken)) (q .ensures ready (omega arith)) (g .all (l .loop .r) (omega arith))
 
 add-r : tie.Need-add-r Inv-loop μ-loop
 add-r c = search needs

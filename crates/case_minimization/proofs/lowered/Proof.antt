@@ -1,14 +1,15 @@
 -- `shrink::lowered` is safe and ends. The measure is what is left of the places. Assumes nothing.
 use Prim.Native.Nat.{_≤_, _-_}
 use borrow.Author.Needs.{needs}
+use Rattle.sheet_format.specs.Limits.{most-atoms}
 use Rattle.case_minimization.proofs.lowered.Statement.{statement}
 use Rattle.case_minimization.proofs.lowered.Tie as tie
 
 abbrev Inv-loop : tie.InvT-loop
-Inv-loop i low₀ j₀ low j = j ≤ 6
+Inv-loop i low₀ j₀ low j = j ≤ most-atoms
 
 abbrev μ-loop : tie.MeasureT-loop
-μ-loop i low₀ j₀ low j = 6 - j
+μ-loop i low₀ j₀ low j = most-atoms - j
 
 loop-holds : tie.Need-loop-holds Inv-loop μ-loop
 loop-holds c = search needs

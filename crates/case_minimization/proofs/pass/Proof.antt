@@ -4,9 +4,10 @@ use mathlib.Core.Bool.{Bool}
 use mathlib.Core.Path.{subst, _≡_, refl, sym, ap, _∙_}
 use lib.ListN.{take, length}
 use lib.Seq.{length-take-le}
-use Rattle.tableau_parts.specs.Walks.{Ready}
-use Rattle.case_minimization.specs.Shrink.{IsCase, CaseBy, without}
-use Rattle.case_minimization.specs.Parts.{Tried}
+use Rattle.tableau_layout.specs.Layout.{tableau-numbers}
+use Rattle.tableau_parts.specs.Walks.{FormedPlan}
+use Rattle.case_minimization.specs.Minimization.{IsCase, CaseBy, without}
+use Rattle.case_minimization.specs.Parts.{TriedFact}
 use Rattle.case_minimization.proofs.Laws.{left-without, tried-none, tried-kept, tried-dropped}
 use Prim.Native.Nat.{ℕ, _≤_, _<_, _-_, _*_}
 use native.Mathlib.Omega.{arith}
@@ -19,9 +20,9 @@ Inv-loop p facts₀ n by₀ room₀ seen₀ m₀ i₀ facts by room seen m i =
     (i ≤ m)
     × (m ≤ n)
     × (length facts ≡ length facts₀)
-    × (length room ≡ 630)
+    × (length room ≡ tableau-numbers)
     × (i < m → take ((m - 1) * 5) room ≡ without (take (m * 5) facts) i)
-    × (Ready p → IsCase p (take (n * 5) facts₀) → Tried p (take (n * 5) facts₀) n (take (m * 5) facts) m n i)
+    × (FormedPlan p → IsCase p (take (n * 5) facts₀) → TriedFact p (take (n * 5) facts₀) n (take (m * 5) facts) m n i)
 
 abbrev μ-loop : tie.MeasureT-loop
 μ-loop p facts₀ n by₀ room₀ seen₀ m₀ i₀ facts by room seen m i = m - i
@@ -81,7 +82,7 @@ loop-again c =
           let was = l .inv .5 ready k in
           let left = subst (λ (b : Bool). CaseBy b (a .p .now) (without ms (l .i))) (c .before .before .before .before .before .before .before .before .before .before .before .if1 .taken)
           (left-without (d .result .some) (a .p .now) ms (take ((l .m - 1) * 5) (l .room)) (l .m) (l .i) long t (l .inv .4 t) (was .still .0 .1) (d .ensures ready)) in
-          subst (λ (ks : List ℕ). Tried (a .p .now) (take (a .n * 5) (a .facts .now)) (a .n) ks (l .m - 1) (a .n) (l .i)) (sym (g .ensures))
+          subst (λ (ks : List ℕ). TriedFact (a .p .now) (take (a .n * 5) (a .facts .now)) (a .n) ks (l .m - 1) (a .n) (l .i)) (sym (g .ensures))
           (tried-dropped (a .p .now) (take (a .n * 5) (a .facts .now)) (a .n) ms (l .m) (l .i) long t (omega arith) left was),
     )
 
@@ -128,7 +129,7 @@ returns c =
     let l = c .before .loop in
     let a = c .before .before .before .before .before .before .before .args in
     let e : l .i ≡ l .m = omega arith in
-    (omega arith, λ ready k. subst (λ (i : ℕ). Tried (a .p .now) (take (a .n * 5) (a .facts .now)) (a .n) (take (l .m * 5) (l .facts)) (l .m) (a .n) i) e (l .inv .5 ready k))
+    (omega arith, λ ready k. subst (λ (i : ℕ). TriedFact (a .p .now) (take (a .n * 5) (a .facts .now)) (a .n) (take (l .m * 5) (l .facts)) (l .m) (a .n) i) e (l .inv .5 ready k))
 
 pub pass-spec : {M : Type 1} → statement M
 pass-spec =

@@ -1,9 +1,9 @@
 -- `shrink::shrink` meets its contract. The loop's invariant: m facts are left, a case, and where the last pass dropped none, none is to spare. The measure is how many facts there were before the last pass. Assumes nothing.
 use lib.ListN.{take, length}
 use lib.Seq.{length-take-le}
-use Rattle.tableau_parts.specs.Walks.{Ready}
-use Rattle.case_minimization.specs.Shrink.{IsCase}
-use Rattle.case_minimization.specs.Parts.{Tried}
+use Rattle.tableau_parts.specs.Walks.{FormedPlan}
+use Rattle.case_minimization.specs.Minimization.{IsCase}
+use Rattle.case_minimization.specs.Parts.{TriedFact}
 use Rattle.case_minimization.proofs.Laws.{tried-start, tried-again, shrunk}
 use mathlib.Core.Path.{_≡_, refl, _∙_}
 use Prim.Native.Nat.{_≤_, _+_, _*_}
@@ -13,7 +13,7 @@ use Rattle.case_minimization.proofs.shrink.Statement.{statement}
 use Rattle.case_minimization.proofs.shrink.Tie as tie
 
 abbrev Inv-loop : tie.InvT-loop
-Inv-loop p facts₀ n by₀ before₀ m₀ facts by before m = (m ≤ n) × (m ≤ before) × (length facts ≡ length facts₀) × (Ready p → IsCase p (take (n * 5) facts₀) → Tried p (take (n * 5) facts₀) n (take (m * 5) facts) m before m)
+Inv-loop p facts₀ n by₀ before₀ m₀ facts by before m = (m ≤ n) × (m ≤ before) × (length facts ≡ length facts₀) × (FormedPlan p → IsCase p (take (n * 5) facts₀) → TriedFact p (take (n * 5) facts₀) n (take (m * 5) facts) m before m)
 
 abbrev μ-loop : tie.MeasureT-loop
 μ-loop p facts₀ n by₀ before₀ m₀ facts by before m = before

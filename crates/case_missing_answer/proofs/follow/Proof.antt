@@ -1,4 +1,5 @@
 -- `missing::follow` meets its contract: what is found is above the row before, or there is none. Assumes nothing.
+use Rattle.sheet_format.specs.Limits.{most-atoms}
 use Rattle.tableau_parts.proofs.Laws.{Words, room-falls, room-ends, follow-none}
 use Rattle.tableau_parts.specs.Walks.{BelowBy}
 use Rattle.query_join.specs.Joins.{NextBy}
@@ -24,8 +25,8 @@ returns c =
     let s = c .before .before .before .before .before .before .before .before in
     let n = c .before .before .before .before .before .before in
     let no = subst (λ b. BelowBy b (s .args .after .values) (n .next .result .values)) (not-true (c .before .before .below .result) (c .before .if2 .taken)) (c .before .before .below .ensures) in (
-      λ safe. subst (λ b. NextBy b (s .args .blk .now) (min (s .args .n) 6) (s .args .facts .now) (s .args .after .some) (s .args .after .values) (c .none .result .values)) (sym (c .none .ensures))
-          (follow-none (n .next .result .some) (s .args .blk .now) (min (s .args .n) 6) (s .args .facts .now) (s .args .after .some) (s .args .after .values) (n .next .result .values) (c .before .before .before .if1 .taken) no (n .next .ensures .0 safe)),
+      λ safe. subst (λ b. NextBy b (s .args .blk .now) (min (s .args .n) most-atoms) (s .args .facts .now) (s .args .after .some) (s .args .after .values) (c .none .result .values)) (sym (c .none .ensures))
+          (follow-none (n .next .result .some) (s .args .blk .now) (min (s .args .n) most-atoms) (s .args .facts .now) (s .args .after .some) (s .args .after .values) (n .next .result .values) (c .before .before .before .if1 .taken) no (n .next .ensures .0 safe)),
       λ e. rw (c .none .ensures, e) (room-ends (s .args .after .values) (c .none .result .values)),
     )
 

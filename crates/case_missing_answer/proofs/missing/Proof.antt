@@ -1,8 +1,8 @@
--- `missing::missing` meets its contract: the loop's invariant: of the rows given to the question, each is given to the list or not passed yet. The measure is how many rows can follow. Assumes nothing.
+-- `missing::missing` meets its contract: the loop's invariant: of the rows given to the question, each is given to a list or not passed yet. The measure is how many rows can follow. Assumes nothing.
 use Rattle.tableau_parts.proofs.Laws.{WalkAt, start-at, on-at, missing-yes, missing-no}
-use Rattle.tableau_parts.specs.Walks.{Ready, GivesAtBy, room}
-use Rattle.tableau_parts.specs.Views.{GivenAt}
-use borrow.Author.Tests.{not-true, not-false}
+use Rattle.tableau_parts.specs.Walks.{FormedPlan, room}
+use Rattle.tableau_parts.specs.Views.{GivenToList}
+use mathlib.Core.Logic.{inl}
 use mathlib.Core.Path.{refl, sym, subst}
 use Prim.Native.Nat.{_<_}
 use native.Mathlib.Omega.{arith}
@@ -11,7 +11,7 @@ use Rattle.case_missing_answer.proofs.missing.Statement.{statement}
 use Rattle.case_missing_answer.proofs.missing.Tie as tie
 
 abbrev Inv-loop : tie.InvT-loop
-Inv-loop p facts blk n passed₀ cur₀ passed cur = Ready p → WalkAt (GivenAt p 1 facts) p 0 facts (cur .some) (cur .values)
+Inv-loop p facts blk n passed₀ cur₀ passed cur = FormedPlan p → WalkAt (GivenToList p facts) p 0 facts (cur .some) (cur .values)
 
 abbrev μ-loop : tie.MeasureT-loop
 μ-loop p facts blk n passed₀ cur₀ passed cur = room (cur .some) (cur .values)
@@ -32,18 +32,18 @@ loop-holds : tie.Need-loop-holds Inv-loop μ-loop
 loop-holds c =
     let b = c .before .before .before .before in
     let s = b .before .before in
-    λ ready. start-at (GivenAt (s .args .p .now) 1 (s .args .facts .now)) (s .args .p .now) 0 (s .args .facts .now) (b .block-at .result) (c .follow .result .some) (c .before .before .none .result .some) (c .before .before .none .result .values) (c .follow .result .values)
-    ready (omega arith) (b .block-at .ensures (search needs) (ready .size)) (c .before .before .none .ensures) (c .follow .ensures .0)
+    λ ready. start-at (GivenToList (s .args .p .now) (s .args .facts .now)) (s .args .p .now) 0 (s .args .facts .now) (b .block-at .result) (c .follow .result .some) (c .before .before .none .result .some) (c .before .before .none .result .values) (c .follow .result .values)
+    ready (inl refl) (b .block-at .ensures (search needs) (ready .size)) (c .before .before .none .ensures) (c .follow .ensures .0)
 
-list-gives-requires : tie.Need-list-gives-requires Inv-loop μ-loop
-list-gives-requires c κs = search needs
+giving-list-requires : tie.Need-giving-list-requires Inv-loop μ-loop
+giving-list-requires c κs = search needs
 
 returns : tie.Need-returns Inv-loop μ-loop
 returns c =
     let l = c .before .before .before .before in
     let s = l .before .before .before .before .before .before .before in
     λ ready. missing-yes (s .args .p .now) (s .args .facts .now) (l .loop .cur .some) (l .loop .cur .values) (l .loop .inv ready) (c .before .before .before .loop-test .taken)
-    (subst (λ b. GivesAtBy b (s .args .p .now) 1 (s .args .facts .now) (l .loop .cur .values)) (not-true (c .before .list-gives .result) (c .if1 .taken)) (c .before .list-gives .ensures ready))
+    (c .before .giving-list .ensures ready .none (c .if1 .taken))
 
 onward-requires : tie.Need-onward-requires Inv-loop μ-loop
 onward-requires c κs = search needs
@@ -67,9 +67,11 @@ loop-again c =
     let l = i .before in
     let b = l .before .before .before .before .before in
     let s = b .before .before in
-    λ ready. on-at (GivenAt (s .args .p .now) 1 (s .args .facts .now)) (s .args .p .now) 0 (s .args .facts .now) (b .block-at .result) (c .follow2 .result .some) (l .loop .cur .some) (l .loop .cur .values) (o .onward .result .values) (c .follow2 .result .values)
-    ready (omega arith) (b .block-at .ensures (search needs) (ready .size)) (i .loop-test .taken) (c .follow2 .ensures .0) (l .loop .inv ready)
-    (o .onward .ensures .0 ready (subst (λ x. GivesAtBy x (s .args .p .now) 1 (s .args .facts .now) (l .loop .cur .values)) (not-false (g .list-gives .result) (o .before .if1 .left)) (g .list-gives .ensures ready)) .passed)
+    λ ready.
+    let (lt, given) = g .giving-list .ensures ready .given (let left = o .before .if1 .left in omega arith) in
+    on-at (GivenToList (s .args .p .now) (s .args .facts .now)) (s .args .p .now) 0 (s .args .facts .now) (b .block-at .result) (c .follow2 .result .some) (l .loop .cur .some) (l .loop .cur .values) (o .onward .result .values) (c .follow2 .result .values)
+    ready (inl refl) (b .block-at .ensures (search needs) (ready .size)) (i .loop-test .taken) (c .follow2 .ensures .0) (l .loop .inv ready)
+    (o .onward .ensures .0 ready lt given .passed)
 
 returns-2 : tie.Need-returns-2 Inv-loop μ-loop
 returns-2 c =
@@ -88,7 +90,7 @@ missing-spec =
     none-requires
     follow-requires
     loop-holds
-    list-gives-requires
+    giving-list-requires
     returns
     onward-requires
     follow-requires-2

@@ -6,20 +6,21 @@ use native.Mathlib.Omega.{arith}
 use borrow.Author.Needs.{needs}
 use borrow.Author.Tests.{not-true, not-false}
 use lib.ListN.{length, getD, drop}
+use Rattle.sheet_format.specs.Limits.{most-atoms}
 use Rattle.list_laws.proofs.Words.{word-back}
 use Rattle.sheet_format.proofs.WordLines.{lines-length}
 use Rattle.sheet_format.specs.Line.{wordLines}
 use Rattle.sheet_format.specs.Cause.{kind, isAtom, atoms}
-use Rattle.query_blocks.specs.Parts.{Accepted}
+use Rattle.query_blocks.specs.Parts.{AcceptedLines}
 use Rattle.query_blocks.proofs.Parts.{kind-of, count-start, count-on, no-atom, past-atoms}
 use Rattle.query_blocks.proofs.atom_count.Statement.{statement}
 use Rattle.query_blocks.proofs.atom_count.Tie as tie
 
 abbrev Inv-loop : tie.InvT-loop
-Inv-loop ws from n j₀ j = (j ≤ 6) × (Accepted (wordLines ws) → length (atoms (drop from (wordLines ws))) ≡ j + length (atoms (drop (from + j) (wordLines ws))))
+Inv-loop ws from n j₀ j = (j ≤ most-atoms) × (AcceptedLines (wordLines ws) → length (atoms (drop from (wordLines ws))) ≡ j + length (atoms (drop (from + j) (wordLines ws))))
 
 abbrev μ-loop : tie.MeasureT-loop
-μ-loop ws from n j₀ j = 6 - j
+μ-loop ws from n j₀ j = most-atoms - j
 
 loop-holds : tie.Need-loop-holds Inv-loop μ-loop
 loop-holds c = (omega arith, λ _. count-start (wordLines (c .args .ws .now)) (c .args .from))
@@ -53,7 +54,7 @@ shared-slice-copy-out-is-atom c = search needs
 within : (c : tie.After-is-atom Inv-loop μ-loop) → c .before .before .before .before .before .args .from + c .before .before .before .before .loop .j < length (wordLines (c .before .before .before .before .before .args .ws .now))
 within c = let n = lines-length (c .before .before .before .before .before .args .ws .now) in omega arith
 
-tested : (c : tie.After-is-atom Inv-loop μ-loop) → Accepted (wordLines (c .before .before .before .before .before .args .ws .now))
+tested : (c : tie.After-is-atom Inv-loop μ-loop) → AcceptedLines (wordLines (c .before .before .before .before .before .args .ws .now))
     → isAtom (kind (getD (wordLines (c .before .before .before .before .before .args .ws .now)) (c .before .before .before .before .before .args .from + c .before .before .before .before .loop .j) [])) ≡ c .is-atom .result
 tested c a =
     let w = c .before .before .before .before .before .args .ws .now in

@@ -4,7 +4,7 @@ use native.Mathlib.Omega.{arith}
 use borrow.Author.Needs.{needs}
 use Rattle.sheet_format.proofs.WordLines.{lines-length}
 use Rattle.sheet_format.specs.Line.{wordLines}
-use Rattle.query_encoding.specs.Numbers.{isBlock}
+use Rattle.query_encoding.specs.Encoding.{isBlock}
 use Rattle.query_blocks.proofs.Parts.{found-block, no-block}
 use Rattle.query_blocks.proofs.block.Statement.{statement}
 use Rattle.query_blocks.proofs.block.Tie as tie

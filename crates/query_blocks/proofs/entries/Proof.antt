@@ -6,15 +6,16 @@ use borrow.Author.Needs.{needs}
 use borrow.Author.Count.{below-more}
 use lib.ListN.{length, getD, length-set}
 use lib.Seq.{getD-set-same, getD-set-other}
+use Rattle.query_layout.specs.Layout.{block-width}
 use Rattle.query_blocks.specs.Parts.{entryOf}
 use Rattle.query_blocks.proofs.entries.Statement.{statement}
 use Rattle.query_blocks.proofs.entries.Tie as tie
 
 abbrev Inv-loop : tie.InvT-loop
-Inv-loop ws h numbers₀ x₀ numbers x = (length numbers ≡ 34) × (x ≤ 34) × ((y : ℕ) → y < x → getD numbers y 0 ≡ entryOf ws h y)
+Inv-loop ws h numbers₀ x₀ numbers x = (length numbers ≡ block-width) × (x ≤ block-width) × ((y : ℕ) → y < x → getD numbers y 0 ≡ entryOf ws h y)
 
 abbrev μ-loop : tie.MeasureT-loop
-μ-loop ws h numbers₀ x₀ numbers x = 34 - x
+μ-loop ws h numbers₀ x₀ numbers x = block-width - x
 
 loop-holds : tie.Need-loop-holds Inv-loop μ-loop
 loop-holds c = (refl, omega arith, λ y lt. absurd (omega arith))

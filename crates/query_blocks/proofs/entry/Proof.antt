@@ -4,7 +4,7 @@ use borrow.Author.Needs.{needs}
 use Rattle.list_laws.proofs.Words.{back}
 use Rattle.sheet_format.specs.Line.{natural}
 use Rattle.query_meaning.specs.Blocks.{asTerm}
-use Rattle.query_encoding.specs.Numbers.{number}
+use Rattle.query_encoding.specs.Encoding.{number}
 use Rattle.query_blocks.proofs.Parts.{entry-relation, entry-term, entry-head}
 use Rattle.query_blocks.proofs.entry.Statement.{statement}
 use Rattle.query_blocks.proofs.entry.Tie as tie

@@ -10,13 +10,13 @@ use Rattle.list_laws.proofs.Words.{word-back}
 use Rattle.sheet_format.proofs.WordLines.{lines-length}
 use Rattle.sheet_format.specs.Line.{wordLines}
 use Rattle.sheet_format.specs.Cause.{kind, isHead}
-use Rattle.query_blocks.specs.Parts.{Accepted, HeadAt}
+use Rattle.query_blocks.specs.Parts.{AcceptedLines, HeadAt}
 use Rattle.query_blocks.proofs.Parts.{kind-of, Left, left-start, left-other, left-past, left-here, left-end}
 use Rattle.query_blocks.proofs.head_line.Statement.{statement}
 use Rattle.query_blocks.proofs.head_line.Tie as tie
 
 abbrev Inv-loop : tie.InvT-loop
-Inv-loop ws k n left₀ i₀ left i = (i ≤ length ws / 7) × (1 ≤ left) × (Accepted (wordLines ws) → Left (wordLines ws) k i left)
+Inv-loop ws k n left₀ i₀ left i = (i ≤ length ws / 7) × (1 ≤ left) × (AcceptedLines (wordLines ws) → Left (wordLines ws) k i left)
 
 abbrev μ-loop : tie.MeasureT-loop
 μ-loop ws k n left₀ i₀ left i = n - i
@@ -40,7 +40,7 @@ shared-slice-copy-out-is-head c = search needs
 within : (c : tie.After-is-head Inv-loop μ-loop) → c .before .before .before .loop .i < length (wordLines (c .before .before .before .before .args .ws .now))
 within c = let n = lines-length (c .before .before .before .before .args .ws .now) in omega arith
 
-tested : (c : tie.After-is-head Inv-loop μ-loop) → Accepted (wordLines (c .before .before .before .before .args .ws .now)) → isHead (kind (getD (wordLines (c .before .before .before .before .args .ws .now)) (c .before .before .before .loop .i) [])) ≡ c .is-head .result
+tested : (c : tie.After-is-head Inv-loop μ-loop) → AcceptedLines (wordLines (c .before .before .before .before .args .ws .now)) → isHead (kind (getD (wordLines (c .before .before .before .before .args .ws .now)) (c .before .before .before .loop .i) [])) ≡ c .is-head .result
 tested c a =
     let w = c .before .before .before .before .args .ws .now in
     let i = c .before .before .before .loop .i in

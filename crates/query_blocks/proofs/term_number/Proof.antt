@@ -9,7 +9,7 @@ use mir.Val.{SFits}
 use mir.ValLaws.{toZ-ofZ, toZ-pos}
 use Rattle.list_laws.proofs.Words.{negative, positive, back}
 use Rattle.query_meaning.specs.Blocks.{asTerm}
-use Rattle.query_encoding.specs.Numbers.{number}
+use Rattle.query_encoding.specs.Encoding.{number}
 use Rattle.query_blocks.proofs.term_number.Statement.{statement}
 use Rattle.query_blocks.proofs.term_number.Tie as tie
 

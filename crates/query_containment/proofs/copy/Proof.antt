@@ -1,6 +1,6 @@
 -- `frozen::copy` meets its contract. The loop's invariant: the first x numbers are copied. The measure is what is left of them. Assumes nothing.
 use Rattle.query_containment.proofs.Laws.{front-none, front-more}
-use Rattle.query_containment.specs.Frozen.{Fronted}
+use Rattle.query_containment.specs.Containment.{Fronted}
 use lib.ListN.{length-set, length}
 use mathlib.Core.Path.{_≡_, subst}
 use Prim.Native.Nat.{_≤_, _-_}

@@ -1,7 +1,8 @@
 -- `frozen::is_covered` meets its contract: the room holds the facts and the frozen atoms after them. Assumes nothing.
 use lib.Seq.{length-take-le}
+use Rattle.sheet_format.specs.Limits.{most-atoms}
 use Rattle.query_containment.proofs.Laws.{covers, laid}
-use Rattle.query_containment.specs.Frozen.{Covered}
+use Rattle.query_containment.specs.Containment.{Contained}
 use Rattle.query_join.specs.Joins.{Given}
 use Rattle.query_answers.specs.Answers.{GivesBy}
 use Prim.Native.Nat.{_/_, min, _+_, _*_}
@@ -62,10 +63,10 @@ returns c =
     let m = length (a .facts .now) / 5 in
     let room = take ((m + n .result) * 5) (p .put-atoms .last .1 .1 .1 .0) in
     λ yes.
-    subst (λ x. Covered (a .q .now) x (a .l .now) (min (a .ln) 6) (a .facts .now) (a .row) (a .k)) (n .ensures)
-    (covers (a .q .now) (a .l .now) (a .facts .now) (a .row) (n .result) (min (a .ln) 6) (a .k) m (v .own-values .result) room (s .pre .1) (s .pre .0 .0) (v .own-values .ensures)
+    subst (λ x. Contained (a .q .now) x (a .l .now) (min (a .ln) most-atoms) (a .facts .now) (a .row) (a .k)) (n .ensures)
+    (covers (a .q .now) (a .l .now) (a .facts .now) (a .row) (n .result) (min (a .ln) most-atoms) (a .k) m (v .own-values .result) room (s .pre .1) (s .pre .0 .0) (v .own-values .ensures)
     (laid (a .q .now) (v .own-values .result) (n .result) m (a .facts .now) (f .copy .last .1 .1 .0) (p .put-atoms .last .1 .1 .1 .0) refl (search needs) (f .copy .ensures) (p .put-atoms .ensures))
-    (subst (λ t. Given (a .l .now) (min (a .ln) 6) room t) (h .head .ensures) (subst (λ b. GivesBy b (a .l .now) (min (a .ln) 6) room (h .head .result)) yes (c .gives .ensures))))
+    (subst (λ t. Given (a .l .now) (min (a .ln) most-atoms) room t) (h .head .ensures) (subst (λ b. GivesBy b (a .l .now) (min (a .ln) most-atoms) room (h .head .result)) yes (c .gives .ensures))))
 
 pub is-covered-spec : {M : Type 1} → statement M
 is-covered-spec =

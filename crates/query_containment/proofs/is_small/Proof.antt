@@ -9,9 +9,10 @@ use borrow.Author.Needs.{needs}
 use lib.ListN.{length, getD}
 use Rattle.query_containment.proofs.is_small.Statement.{statement}
 use Rattle.query_containment.proofs.is_small.Tie as tie
+use Rattle.query_containment.specs.Containment.{frozen-at}
 
 abbrev Inv-loop : tie.InvT-loop
-Inv-loop s i₀ i = (i ≤ length s) × ((j : ℕ) → j < i → getD s j 0 < 2000000)
+Inv-loop s i₀ i = (i ≤ length s) × ((j : ℕ) → j < i → getD s j 0 < frozen-at)
 
 abbrev μ-loop : tie.MeasureT-loop
 μ-loop s i₀ i = length s - i
@@ -38,7 +39,7 @@ loop-again : tie.Need-loop-again Inv-loop μ-loop
 loop-again c =
     let l = c .before .before .before .loop in
     let s = c .before .before .before .before .args .s .now in
-    (omega arith, below-more (λ j. getD s j 0 < 2000000) (l .i) (l .inv .1) (omega arith))
+    (omega arith, below-more (λ j. getD s j 0 < frozen-at) (l .i) (l .inv .1) (omega arith))
 
 returns-2 : tie.Need-returns-2 Inv-loop μ-loop
 returns-2 c = λ e. small-all (c .before .before .args .s .now) (c .before .loop .i) (omega arith) (c .before .loop .inv .1)

@@ -1,5 +1,6 @@
 -- `frozen::own_values` meets its contract. The loop's invariant: the first x variables have what they become. The measure is what is left of them. Assumes nothing.
-use Rattle.query_containment.specs.Frozen.{OwnValue}
+use Rattle.query_layout.specs.Layout.{names}
+use Rattle.query_containment.specs.Containment.{OwnValue}
 use Rattle.query_containment.proofs.Laws.{own-more}
 use lib.ListN.{length-set, length, getD}
 use mathlib.Core.Path.{_≡_}
@@ -10,10 +11,10 @@ use Rattle.query_containment.proofs.own_values.Statement.{statement}
 use Rattle.query_containment.proofs.own_values.Tie as tie
 
 abbrev Inv-loop : tie.InvT-loop
-Inv-loop q row k vals₀ x₀ vals x = (length vals ≡ 13) × (k ≤ 4) × (x ≤ 13) × ((z : ℕ) → z < x → OwnValue q row k z (getD vals z 0))
+Inv-loop q row k vals₀ x₀ vals x = (length vals ≡ names) × (k ≤ 4) × (x ≤ names) × ((z : ℕ) → z < x → OwnValue q row k z (getD vals z 0))
 
 abbrev μ-loop : tie.MeasureT-loop
-μ-loop q row k vals₀ x₀ vals x = 13 - x
+μ-loop q row k vals₀ x₀ vals x = names - x
 
 loop-holds : tie.Need-loop-holds Inv-loop μ-loop
 loop-holds c = (search needs, search needs, search needs, λ z lt. absurd (omega arith))

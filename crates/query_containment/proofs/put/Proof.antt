@@ -1,6 +1,6 @@
 -- `frozen::put` meets its contract. The loop's invariant: the first d numbers are put. The measure is what is left of them. Assumes nothing.
 use Rattle.query_containment.proofs.Laws.{put-none, put-more}
-use Rattle.query_containment.specs.Frozen.{FactPut}
+use Rattle.query_containment.specs.Containment.{FactPut}
 use mathlib.Core.Path.{_≡_, subst}
 use Prim.Native.Nat.{_≤_, _-_, _+_, _*_}
 use native.Mathlib.Omega.{arith}

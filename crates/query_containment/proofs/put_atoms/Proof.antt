@@ -1,5 +1,6 @@
 -- `frozen::put_atoms` meets its contract. The loop's invariant: the first j atoms are put. The measure is what is left of them. Assumes nothing.
-use Rattle.query_containment.specs.Frozen.{AtomsPut}
+use Rattle.sheet_format.specs.Limits.{most-atoms}
+use Rattle.query_containment.specs.Containment.{AtomsPut}
 use Rattle.query_containment.proofs.Laws.{atoms-none, atoms-more}
 use mathlib.Core.Path.{_≡_, subst}
 use Prim.Native.Nat.{_≤_, _-_, _+_, _*_}
@@ -10,7 +11,7 @@ use Rattle.query_containment.proofs.put_atoms.Statement.{statement}
 use Rattle.query_containment.proofs.put_atoms.Tie as tie
 
 abbrev Inv-loop : tie.InvT-loop
-Inv-loop q n vals out₀ m j₀ out j = (n ≤ 6) × ((m + n) * 5 ≤ length out₀) × (j ≤ n) × AtomsPut q vals j m out₀ out
+Inv-loop q n vals out₀ m j₀ out j = (n ≤ most-atoms) × ((m + n) * 5 ≤ length out₀) × (j ≤ n) × AtomsPut q vals j m out₀ out
 
 abbrev μ-loop : tie.MeasureT-loop
 μ-loop q n vals out₀ m j₀ out j = n - j

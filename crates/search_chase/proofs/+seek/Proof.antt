@@ -7,6 +7,8 @@ use lib.ListN.{length, getD}
 use Prim.Native.Nat.{ℕ, _<_, _≤_, _-_, _+_}
 use borrow.Fn.Kinds.{In}
 use borrow.Fn.PlainCycle.{Measures, is, falls, and}
+use Rattle.sheet_format.specs.Limits.{most-rows}
+use Rattle.tableau_layout.specs.Layout.{slot-end}
 use Rattle.search_chase.proofs.seek.Reads as seek
 use Rattle.search_chase.proofs.seek.Kinds as seek-kinds
 use Rattle.search_chase.proofs.+seek.Lts-seek as seek-lts
@@ -16,7 +18,7 @@ use Rattle.search_chase.proofs.following.Reads as following-reads
 use Rattle.search_chase.proofs.is_refuted.Reads as is-refuted-reads
 use Rattle.search_chase.proofs.judge_state.Reads as judge-state-reads
 use Rattle.search_chase.proofs.jumps.Reads as jumps-reads
-use Rattle.search_chase.proofs.row_count.Reads as row-count-reads
+use Rattle.tableau_parts.proofs.row_count.Reads as row-count-reads
 use Rattle.search_chase.proofs.take.Reads as take-reads
 use Rattle.search_chase.proofs.turn.Reads as turn-reads
 use Rattle.search_state.proofs.release.Reads as release-reads
@@ -28,9 +30,10 @@ use Rattle.search_chase.proofs.+seek.Tie.{close}
 use Rattle.case_verdicts.specs.Verdict.{Sheet}
 use Rattle.tableau_plan.specs.Plan.{rowValues, rowCount}
 use Rattle.search_learning.specs.Rows.{Learned}
-use Rattle.search_chase.specs.Parts.{Ready, Begins, Levelled, Strikes, Going, sheetBy, turned}
+use Rattle.search_chase.specs.Parts.{ReadyPlan, Started, Levelled, Nogoods, Going, sheetBy, turned}
 use Rattle.search_chase.proofs.Levels.{done-by, open-by, take-at, going-first, going-passed, going-found, going-jumped, going-taken, going-all, jumps-yes, jumps-no}
 use Rattle.search_chase.proofs.Tries.{going-refuted, going-kept}
+use Rattle.search_nogoods.specs.Sizes.{nogood-numbers, nogood-marks}
 
 abbrev μ-seek : Measures 7 seek-kinds.ps ℕ
 μ-seek κs a = a .1 .1 .1 .1 .1 .0
@@ -45,13 +48,13 @@ abbrev claims : ℕ → seek-lts.Claims
 claims t = (judge-state-reads.Asked, judge-state-reads.Learnt, choice-reads.Asked, choice-reads.Learnt, following-reads.Asked, following-reads.Learnt, row-count-reads.Asked, row-count-reads.Learnt, below-or-0-reads.Asked, below-or-0-reads.Learnt, turn-reads.Asked, turn-reads.Learnt, is-refuted-reads.Asked, is-refuted-reads.Learnt, take-reads.Asked, take-reads.Learnt, seek-below t, seek.Post, release-reads.Asked, release-reads.Learnt, forget-reads.Asked, forget-reads.Learnt, jumps-reads.Asked, jumps-reads.Learnt, unmark-reads.Asked, unmark-reads.Learnt, learn-reads.Asked, learn-reads.Learnt)
 
 abbrev seek-Inv-loop : seek-lts.InvT-loop
-seek-Inv-loop p st₀ lv₀ asked next left marks₀ sl₀ sm₀ u f b view deeper rows first below₀ last₀ i₀ st lv marks sl sm below last i =
-    (length st ≡ 533) × (length lv ≡ 533) × (i ≤ rows) × (length (f .values) ≡ 4) × (length sl ≡ 129) × (length sm ≡ 4096)
-    × ((x : Sheet) → Ready p x → Begins x (sheetBy asked x) st₀ left → Levelled st₀ lv₀ next → Strikes (sheetBy asked x) st₀ lv₀ sl₀ sm₀
-    → Going p x (sheetBy asked x) st₀ lv₀ st lv marks (f .view) (f .values) (turned first rows) i below last sl sm)
+seek-Inv-loop p st₀ lv₀ goal next left marks₀ sl₀ sm₀ u f b view deeper rows first below₀ last₀ i₀ st lv marks sl sm below last i =
+    (length st ≡ slot-end) × (length lv ≡ slot-end) × (i ≤ rows) × (length (f .values) ≡ 4) × (length sl ≡ nogood-numbers) × (length sm ≡ nogood-marks)
+    × ((x : Sheet) → ReadyPlan p x → Started x (sheetBy goal x) st₀ left → Levelled st₀ lv₀ next → Nogoods (sheetBy goal x) st₀ lv₀ sl₀ sm₀
+    → Going p x (sheetBy goal x) st₀ lv₀ st lv marks (f .view) (f .values) (turned first rows) i below last sl sm)
 
 abbrev seek-μ-loop : seek-lts.MeasureT-loop
-seek-μ-loop p st₀ lv₀ asked next left marks₀ sl₀ sm₀ u f b view deeper rows first below₀ last₀ i₀ st lv marks sl sm below last i = rows - i
+seek-μ-loop p st₀ lv₀ goal next left marks₀ sl₀ sm₀ u f b view deeper rows first below₀ last₀ i₀ st lv marks sl sm below last i = rows - i
 
 seek-returns : (t : ℕ) → seek-lts.Need-returns (claims t) (seek-at t) seek.Post seek-Inv-loop seek-μ-loop
 seek-returns t c = (λ x r b g h. let k = b .room in let z = c .if1 .taken in absurd (omega arith), (refl, refl, refl, refl))
@@ -67,7 +70,7 @@ seek-returns-2 t c = let s = c .before .before .before .before .before .before i
     let j = c .before .judge-state in
     let view = j .result .view in
     let u = j .result .values in
-    (λ x r b g h. done-by p x (sheetBy (s .args .asked) x) ws lv (j .last .1 .1 .1 .1 .0) view u (s .args .left) (j .result .done) (j .result .good) (c .if2 .taken) b (j .ensures x r (b .proper)) (s .args .sl .now) (s .args .sm .now) h, (refl, refl, refl, refl))
+    (λ x r b g h. done-by p x (sheetBy (s .args .goal) x) ws lv (j .last .1 .1 .1 .1 .0) view u (s .args .left) (j .result .done) (j .result .good) (c .if2 .taken) b (j .ensures x r (b .proper)) (s .args .sl .now) (s .args .sm .now) h, (refl, refl, refl, refl))
 
 seek-choice-requires : (t : ℕ) → seek-lts.Need-choice-requires (claims t) (seek-at t) seek.Post seek-Inv-loop seek-μ-loop
 seek-choice-requires t c κs = search needs
@@ -102,9 +105,9 @@ seek-loop-holds t c = let s = c .before .before .before .before .before .before 
       search needs,
       s .pre .1 .4,
       s .pre .1 .5,
-      λ x r b g h. going-first p x (sheetBy (s .args .asked) x) ws lv (j .last .1 .1 .1 .1 .0) view u (turned (c .below-or-0 .result) (c .before .row-count .result))
-          (open-by p x (sheetBy (s .args .asked) x) ws lv (j .last .1 .1 .1 .1 .0) view u (j .result .done) (j .result .good) (c .before .before .before .before .before .before .if2 .left) (j .ensures x r (b .proper)))
-          _ 40 (r .plan .rows-few) (s .args .sl .now) (s .args .sm .now) h,
+      λ x r b g h. going-first p x (sheetBy (s .args .goal) x) ws lv (j .last .1 .1 .1 .1 .0) view u (turned (c .below-or-0 .result) (c .before .row-count .result))
+          (open-by p x (sheetBy (s .args .goal) x) ws lv (j .last .1 .1 .1 .1 .0) view u (j .result .done) (j .result .good) (c .before .before .before .before .before .before .if2 .left) (j .ensures x r (b .proper)))
+          _ most-rows (r .plan .rows-few) (s .args .sl .now) (s .args .sm .now) h,
     )
 
 seek-turn-requires : (t : ℕ) → seek-lts.Need-turn-requires (claims t) (seek-at t) seek.Post seek-Inv-loop seek-μ-loop
@@ -145,7 +148,7 @@ seek-loop-again t c = let s = c .before .before .before .before .before .before 
       l .inv .3,
       l .inv .4,
       l .inv .5,
-      λ x r b g h. going-refuted p x r (s .args .asked) ws lv (b .proper) (s .args .next) (s .pre .1 .3) g view u (l .st) (l .lv) (l .marks) at (l .i) (l .below) (l .last) (l .sl) (l .sm) (l .inv .6 x r b g h) (w .result) more (k .result) (k .ensures .0) (let f = r .plan .rows-few in let m = n .exact f in let z = k .ensures .0 in let q = k .ensures .1 in omega arith) (c .if3 .taken) (w .ensures),
+      λ x r b g h. going-refuted p x r (s .args .goal) ws lv (b .proper) (s .args .next) (s .pre .1 .3) g view u (l .st) (l .lv) (l .marks) at (l .i) (l .below) (l .last) (l .sl) (l .sm) (l .inv .6 x r b g h) (w .result) more (k .result) (k .ensures .0) (let f = r .plan .rows-few in let m = n .exact f in let z = k .ensures .0 in let q = k .ensures .1 in omega arith) (c .if3 .taken) (w .ensures),
     )
 
 seek-take-requires : (t : ℕ) → seek-lts.Need-take-requires (claims t) (seek-at t) seek.Post seek-Inv-loop seek-μ-loop
@@ -180,7 +183,7 @@ seek-loop-again-2 t c = let s = c .before .before .before .before .before .befor
       l .inv .3,
       l .inv .4,
       l .inv .5,
-      λ x r b g h. going-passed p x r (s .args .asked) ws lv (s .args .next) (s .args .left) b g view u (l .st) (l .lv) more at (l .i) (l .below) (l .last) (l .sl) (l .sm) (going-kept p x r (s .args .asked) ws lv (b .proper) (s .args .next) (s .pre .1 .3) g view u (l .st) (l .lv) (l .marks) at (l .i) (l .below) (l .last) (l .sl) (l .sm) (l .inv .6 x r b g h) (w .result) more (k .result) (c .before .before .before .before .before .before .if3 .left) (w .ensures)) (let f = r .plan .rows-few in let m = n .exact f in let z = k .ensures .0 in let q = k .ensures .1 in omega arith) (t .result) (t .last .1 .0) (t .last .1 .1 .0) v took (t .ensures .1 .0) (not-true (t .result) (c .if4 .taken)),
+      λ x r b g h. going-passed p x r (s .args .goal) ws lv (s .args .next) (s .args .left) b g view u (l .st) (l .lv) more at (l .i) (l .below) (l .last) (l .sl) (l .sm) (going-kept p x r (s .args .goal) ws lv (b .proper) (s .args .next) (s .pre .1 .3) g view u (l .st) (l .lv) (l .marks) at (l .i) (l .below) (l .last) (l .sl) (l .sm) (l .inv .6 x r b g h) (w .result) more (k .result) (c .before .before .before .before .before .before .if3 .left) (w .ensures)) (let f = r .plan .rows-few in let m = n .exact f in let z = k .ensures .0 in let q = k .ensures .1 in omega arith) (t .result) (t .last .1 .0) (t .last .1 .1 .0) v took (t .ensures .1 .0) (not-true (t .result) (c .if4 .taken)),
     )
 
 seek-sub-seek : (t : ℕ) → seek-lts.Need-sub-seek (claims t) (seek-at t) seek.Post seek-Inv-loop seek-μ-loop
@@ -227,7 +230,7 @@ seek-returns-3 t c = let s = c .before .before .before .before .before .before .
     let below = q .last .1 .1 .1 .1 .1 .1 .0 in
     let tl = q .last .1 .1 .1 .1 .1 .1 .1 .0 in
     let tm = q .last .1 .1 .1 .1 .1 .1 .1 .1 .0 in (
-      λ x r b g h. going-found p x r (s .args .asked) ws lv (s .args .next) (s .args .left) b g view u (l .st) (l .lv) more at (l .i) (l .below) (l .last) (l .sl) (l .sm) (going-kept p x r (s .args .asked) ws lv (b .proper) (s .args .next) (s .pre .1 .3) g view u (l .st) (l .lv) (l .marks) at (l .i) (l .below) (l .last) (l .sl) (l .sm) (l .inv .6 x r b g h) (w .result) more (k .result) (c .before .before .before .before .before .before .before .before .before .before .before .before .before .before .before .if3 .left) (w .ensures)) (let f = r .plan .rows-few in let m = n .exact f in let z = k .ensures .0 in let q = k .ensures .1 in omega arith) (t .result) (t .last .1 .0) took (not-false (t .result) (c .before .before .before .before .before .before .before .before .before .if4 .left)) (t .last .1 .1 .0) v (d .result) (l .inv .1) (t .ensures .1 .0) (d .ensures .0) (d .ensures .1) (q .result) (q .last .1 .0) (q .last .1 .1 .0) below tl tm (q .ensures .0 x r) (c .if5 .taken),
+      λ x r b g h. going-found p x r (s .args .goal) ws lv (s .args .next) (s .args .left) b g view u (l .st) (l .lv) more at (l .i) (l .below) (l .last) (l .sl) (l .sm) (going-kept p x r (s .args .goal) ws lv (b .proper) (s .args .next) (s .pre .1 .3) g view u (l .st) (l .lv) (l .marks) at (l .i) (l .below) (l .last) (l .sl) (l .sm) (l .inv .6 x r b g h) (w .result) more (k .result) (c .before .before .before .before .before .before .before .before .before .before .before .before .before .before .before .if3 .left) (w .ensures)) (let f = r .plan .rows-few in let m = n .exact f in let z = k .ensures .0 in let q = k .ensures .1 in omega arith) (t .result) (t .last .1 .0) took (not-false (t .result) (c .before .before .before .before .before .before .before .before .before .if4 .left)) (t .last .1 .1 .0) v (d .result) (l .inv .1) (t .ensures .1 .0) (d .ensures .0) (d .ensures .1) (q .result) (q .last .1 .0) (q .last .1 .1 .0) below tl tm (q .ensures .0 x r) (c .if5 .taken),
       (q .ensures .1 .0 ∙ t .ensures .1 .1 .0 ∙ l .inv .0 ∙ sym (s .pre .1 .0), q .ensures .1 .1 ∙ t .ensures .1 .1 .1 ∙ l .inv .1 ∙ sym (s .pre .1 .1), q .ensures .1 .2 ∙ l .inv .4 ∙ sym (s .pre .1 .4), q .ensures .1 .3 ∙ l .inv .5 ∙ sym (s .pre .1 .5)),
     )
 
@@ -269,7 +272,7 @@ seek-returns-4 t c = let s = c .before .before .before .before .before .before .
     let z = c .before .jumps in
     let forgot = o .ensures .0 (q .ensures .1 .2 ∙ l .inv .4) (q .ensures .1 .3 ∙ l .inv .5) in
     let a = jumps-yes (z .result) more below v (s .args .next) (z .last .0) (c .if6 .taken) (z .ensures) in (
-      λ x r b g h. going-jumped p x r (s .args .asked) ws lv (s .args .next) (s .args .left) b g view u (l .st) (l .lv) more at (l .i) (l .below) (l .last) (l .sl) (l .sm) (going-kept p x r (s .args .asked) ws lv (b .proper) (s .args .next) (s .pre .1 .3) g view u (l .st) (l .lv) (l .marks) at (l .i) (l .below) (l .last) (l .sl) (l .sm) (l .inv .6 x r b g h) (w .result) more (k .result) (c .before .before .before .before .before .before .before .before .before .before .before .before .before .before .before .before .before .before .before .before .before .before .before .before .before .before .if3 .left) (w .ensures)) (let f = r .plan .rows-few in let m = n .exact f in let z = k .ensures .0 in let q = k .ensures .1 in omega arith) (t .result) (t .last .1 .0) took (not-false (t .result) (c .before .before .before .before .before .before .before .before .before .before .before .before .before .before .before .before .before .before .before .before .if4 .left)) (t .last .1 .1 .0) v (d .result) (l .inv .1) (t .ensures .1 .0) (d .ensures .0) (d .ensures .1) (q .result) (q .last .1 .0) (q .last .1 .1 .0) below tl tm (q .ensures .0 x r) (c .before .before .before .before .before .before .before .before .before .before .before .if5 .left) (e .last .0) (e .ensures (l .inv .3)) (o .last .0) (o .last .1 .0) forgot (a .0) more (z .last .0) (a .1),
+      λ x r b g h. going-jumped p x r (s .args .goal) ws lv (s .args .next) (s .args .left) b g view u (l .st) (l .lv) more at (l .i) (l .below) (l .last) (l .sl) (l .sm) (going-kept p x r (s .args .goal) ws lv (b .proper) (s .args .next) (s .pre .1 .3) g view u (l .st) (l .lv) (l .marks) at (l .i) (l .below) (l .last) (l .sl) (l .sm) (l .inv .6 x r b g h) (w .result) more (k .result) (c .before .before .before .before .before .before .before .before .before .before .before .before .before .before .before .before .before .before .before .before .before .before .before .before .before .before .if3 .left) (w .ensures)) (let f = r .plan .rows-few in let m = n .exact f in let z = k .ensures .0 in let q = k .ensures .1 in omega arith) (t .result) (t .last .1 .0) took (not-false (t .result) (c .before .before .before .before .before .before .before .before .before .before .before .before .before .before .before .before .before .before .before .before .if4 .left)) (t .last .1 .1 .0) v (d .result) (l .inv .1) (t .ensures .1 .0) (d .ensures .0) (d .ensures .1) (q .result) (q .last .1 .0) (q .last .1 .1 .0) below tl tm (q .ensures .0 x r) (c .before .before .before .before .before .before .before .before .before .before .before .if5 .left) (e .last .0) (e .ensures (l .inv .3)) (o .last .0) (o .last .1 .0) forgot (a .0) more (z .last .0) (a .1),
       (e .kept .0 ∙ q .ensures .1 .0 ∙ t .ensures .1 .1 .0 ∙ l .inv .0 ∙ sym (s .pre .1 .0), q .ensures .1 .1 ∙ t .ensures .1 .1 .1 ∙ l .inv .1 ∙ sym (s .pre .1 .1), o .ensures .1 .0 ∙ q .ensures .1 .2 ∙ l .inv .4 ∙ sym (s .pre .1 .4), o .ensures .1 .1 ∙ q .ensures .1 .3 ∙ l .inv .5 ∙ sym (s .pre .1 .5)),
     )
 
@@ -322,8 +325,8 @@ seek-loop-again-3 t c = let s = c .before .before .before .before .before .befor
       l .inv .3,
       a .ensures .1 .0 ∙ o .ensures .1 .0 ∙ q .ensures .1 .2 ∙ l .inv .4,
       a .ensures .1 .1 ∙ o .ensures .1 .1 ∙ q .ensures .1 .3 ∙ l .inv .5,
-      λ x r b g h. subst (λ m. Going p x (sheetBy (s .args .asked) x) ws lv (e .last .0) (q .last .1 .1 .0) (z .last .0) view u at (l .i + 1) less m nl nm) (sym (k .ensures .0))
-          (going-taken p x r (s .args .asked) ws lv (s .args .next) (s .args .left) b g view u (l .st) (l .lv) more at (l .i) (l .below) (l .last) (l .sl) (l .sm) (going-kept p x r (s .args .asked) ws lv (b .proper) (s .args .next) (s .pre .1 .3) g view u (l .st) (l .lv) (l .marks) at (l .i) (l .below) (l .last) (l .sl) (l .sm) (l .inv .6 x r b g h) (w .result) more (k .result) (c .before .before .before .before .before .before .before .before .before .before .before .before .before .before .before .before .before .before .before .before .before .before .before .before .before .before .before .before .before .before .before .before .before .before .if3 .left) (w .ensures)) (let f = r .plan .rows-few in let m = n .exact f in let z = k .ensures .0 in let q = k .ensures .1 in omega arith) (t .result) (t .last .1 .0) took (not-false (t .result) (c .before .before .before .before .before .before .before .before .before .before .before .before .before .before .before .before .before .before .before .before .before .before .before .before .before .before .before .before .if4 .left)) (t .last .1 .1 .0) v (d .result) (l .inv .1) (t .ensures .1 .0) (d .ensures .0) (d .ensures .1) (q .result) (q .last .1 .0) (q .last .1 .1 .0) below tl tm (q .ensures .0 x r) (c .before .before .before .before .before .before .before .before .before .before .before .before .before .before .before .before .before .before .before .if5 .left) (e .last .0) (e .ensures (l .inv .3)) (o .last .0) (o .last .1 .0) forgot (z .last .0) less
+      λ x r b g h. subst (λ m. Going p x (sheetBy (s .args .goal) x) ws lv (e .last .0) (q .last .1 .1 .0) (z .last .0) view u at (l .i + 1) less m nl nm) (sym (k .ensures .0))
+          (going-taken p x r (s .args .goal) ws lv (s .args .next) (s .args .left) b g view u (l .st) (l .lv) more at (l .i) (l .below) (l .last) (l .sl) (l .sm) (going-kept p x r (s .args .goal) ws lv (b .proper) (s .args .next) (s .pre .1 .3) g view u (l .st) (l .lv) (l .marks) at (l .i) (l .below) (l .last) (l .sl) (l .sm) (l .inv .6 x r b g h) (w .result) more (k .result) (c .before .before .before .before .before .before .before .before .before .before .before .before .before .before .before .before .before .before .before .before .before .before .before .before .before .before .before .before .before .before .before .before .before .before .if3 .left) (w .ensures)) (let f = r .plan .rows-few in let m = n .exact f in let z = k .ensures .0 in let q = k .ensures .1 in omega arith) (t .result) (t .last .1 .0) took (not-false (t .result) (c .before .before .before .before .before .before .before .before .before .before .before .before .before .before .before .before .before .before .before .before .before .before .before .before .before .before .before .before .if4 .left)) (t .last .1 .1 .0) v (d .result) (l .inv .1) (t .ensures .1 .0) (d .ensures .0) (d .ensures .1) (q .result) (q .last .1 .0) (q .last .1 .1 .0) below tl tm (q .ensures .0 x r) (c .before .before .before .before .before .before .before .before .before .before .before .before .before .before .before .before .before .before .before .if5 .left) (e .last .0) (e .ensures (l .inv .3)) (o .last .0) (o .last .1 .0) forgot (z .last .0) less
           (jumps-no (z .result) more below v (s .args .next) (z .last .0) (c .before .before .before .before .before .before .before .before .if6 .left) (z .ensures)) (cut .ensures) nl nm (subst (λ m. Learned u (rowValues p m) (o .last .0) (o .last .1 .0) less nl nm) (k .ensures .0) learned)),
     )
 
@@ -340,7 +343,7 @@ seek-returns-5 t c = let s = c .before .before .before .before .before .before .
       λ x r b g h.
           let f = r .plan .rows-few in
           let m = n .exact f in
-          going-all p x (sheetBy (s .args .asked) x) ws lv (l .st) (l .lv) (l .marks) view u (c .before .before .below-or-0 .result) (c .before .before .before .row-count .result) (l .i) (c .loop-test .left) m (c .before .before .below-or-0 .ensures) (l .below) (l .last) (l .sl) (l .sm) (l .inv .6 x r b g h),
+          going-all p x (sheetBy (s .args .goal) x) ws lv (l .st) (l .lv) (l .marks) view u (c .before .before .below-or-0 .result) (c .before .before .before .row-count .result) (l .i) (c .loop-test .left) m (c .before .before .below-or-0 .ensures) (l .below) (l .last) (l .sl) (l .sm) (l .inv .6 x r b g h),
       (l .inv .0 ∙ sym (s .pre .1 .0), l .inv .1 ∙ sym (s .pre .1 .1), l .inv .4 ∙ sym (s .pre .1 .4), l .inv .5 ∙ sym (s .pre .1 .5)),
     )
 

@@ -4,6 +4,7 @@ use Prim.Native.Nat.{ℕ, _≤_, _<_, _-_, _%_, _+_, _*_}
 use native.Mathlib.Omega.{arith}
 use borrow.Author.Needs.{needs}
 use lib.ListN.{length, getD}
+use Rattle.sheet_format.specs.Limits.{most-atoms}
 use Rattle.search_chase.proofs.are_known.Statement.{statement}
 use Rattle.search_chase.proofs.are_known.Tie as tie
 use Rattle.search_chase.proofs.are_known.Reads as reads
@@ -11,10 +12,10 @@ use Rattle.search_chase.proofs.are_known.Lts as lts
 use Rattle.search_chase.proofs.is_known.Reads as is-known-reads
 
 abbrev Inv-loop : tie.InvT-loop
-Inv-loop facts n at u row j₀ j = j ≤ 6
+Inv-loop facts n at u row j₀ j = j ≤ most-atoms
 
 abbrev μ-loop : tie.MeasureT-loop
-μ-loop facts n at u row j₀ j = 6 - j
+μ-loop facts n at u row j₀ j = most-atoms - j
 
 loop-holds : tie.Need-loop-holds Inv-loop μ-loop
 loop-holds c = search needs

@@ -15,15 +15,12 @@ use Rattle.search_chase.proofs.ended.Reads as ended-reads
 use Rattle.search_chase.proofs.known_row.Reads as known-row-reads
 use Rattle.search_violation.proofs.find.Reads as find-reads
 
--- src/lib.rt:226:9
 find-requires : tie.Need-find-requires
 find-requires c κs = search needs
 
--- src/lib.rt:228:9
 ended-requires : tie.Need-ended-requires
 ended-requires c κs = search needs
 
--- src/lib.rt:228:9
 returns : tie.Need-returns
 returns c = λ ready room.
     let s = c .before .before .before .before .before .before .before .before in
@@ -31,11 +28,9 @@ returns c = λ ready room.
     let e = c .ended in
     none-left (s .args .p .now) (s .args .facts .now) (s .args .st .now) (s .args .lv .now) (s .args .from) (s .args .marks .now) (t .result .some) (t .result .view) (t .result .values) (not-true (t .result .some) (c .before .if1 .taken)) (t .ensures .0 ready) (e .result .done) (e .result .good) (e .ensures .0) (e .ensures .1) (e .result .view) (e .result .values)
 
--- src/lib.rt:233:9
 ended-requires-2 : tie.Need-ended-requires-2
 ended-requires-2 c κs = search needs
 
--- src/lib.rt:233:9
 returns-2 : tie.Need-returns-2
 returns-2 c = λ ready room.
     let s = c .before .before .before .before .before .before .before .before .before .before in
@@ -45,31 +40,24 @@ returns-2 c = λ ready room.
     let v = stray-is (s .args .p .now) (s .args .facts .now) (t .result .some) (t .result .view) (t .result .values) (not-false (t .result .some) (c .before .before .before .if1 .left)) (t .ensures .0 ready) .view in
     absurd (omega arith)
 
--- src/lib.rt:236:9
 known-row-requires : tie.Need-known-row-requires
 known-row-requires c κs = search needs
 
--- src/lib.rt:237:57
 add-mark-facts : tie.Need-add-mark-facts
 add-mark-facts c = search needs
 
--- src/lib.rt:237:48
 add-mark-facts-2 : tie.Need-add-mark-facts-2
 add-mark-facts-2 c = search needs
 
--- src/lib.rt:237:46
 mul-mark-facts : tie.Need-mul-mark-facts
 mul-mark-facts c = search needs
 
--- src/lib.rt:237:46
 element-copy-out-mark-facts : tie.Need-element-copy-out-mark-facts
 element-copy-out-mark-facts c = search needs
 
--- src/lib.rt:237:5
 mark-facts-requires : tie.Need-mark-facts-requires
 mark-facts-requires c κs = search needs
 
--- src/lib.rt:215:1
 cast-t27 : tie.Need-cast-t27
 cast-t27 c = search needs
 
@@ -79,7 +67,6 @@ cast-t28 c = search needs
 same-length : tie.Need-same-length
 same-length c = search needs
 
--- src/lib.rt:215:1
 returns-3 : tie.Need-returns-3
 returns-3 c = λ ready room.
     let s = c .before .before .before .before .before .before .before .before .before .before .before .before .before .before .before .before .before .before .before in

@@ -7,31 +7,24 @@ use Rattle.search_chase.proofs.choice.Reads as reads
 use Rattle.search_chase.proofs.choice.Lts as lts
 use Rattle.search_choices.proofs.last.Reads as last-reads
 
--- src/lib.rt:396:13
 returns : tie.Need-returns
 returns c = search needs
 
--- src/lib.rt:398:28
 sub-result : tie.Need-sub-result
 sub-result c = search needs
 
--- src/lib.rt:398:20
 rem-result : tie.Need-rem-result
 rem-result c = search needs
 
--- src/lib.rt:398:16
 add-result : tie.Need-add-result
 add-result c = search needs
 
--- src/lib.rt:398:9
 returns-2 : tie.Need-returns-2
 returns-2 c = search needs
 
--- src/lib.rt:400:5
 last-requires : tie.Need-last-requires
 last-requires c κs = search needs
 
--- src/lib.rt:390:1
 returns-3 : tie.Need-returns-3
 returns-3 c = let z = c .last .ensures .inside (c .before .before .before .pre .0) in let w = c .before .before .before .pre .1 in omega arith
 

@@ -17,39 +17,30 @@ Inv-loop words out₀ i₀ out i = (length out ≡ length words) × (i ≤ lengt
 abbrev μ-loop : tie.MeasureT-loop
 μ-loop words out₀ i₀ out i = length words - i
 
--- src/lib.rt:551:9
 returns : tie.Need-returns Inv-loop μ-loop
 returns c = (λ long. absurd (c .if1 .taken long), λ _. refl)
 
--- src/lib.rt:554:5
 loop-holds : tie.Need-loop-holds Inv-loop μ-loop
 loop-holds c = search needs
 
--- src/lib.rt:555:18
 mul-out : tie.Need-mul-out Inv-loop μ-loop
 mul-out c = search needs
 
--- src/lib.rt:555:18
 shared-slice-read-out : tie.Need-shared-slice-read-out Inv-loop μ-loop
 shared-slice-read-out c = search needs
 
--- src/lib.rt:555:9
 mul-out-2 : tie.Need-mul-out-2 Inv-loop μ-loop
 mul-out-2 c = search needs
 
--- src/lib.rt:555:9
 slice-write-out : tie.Need-slice-write-out Inv-loop μ-loop
 slice-write-out c = search needs
 
--- src/lib.rt:556:9
 add-i : tie.Need-add-i Inv-loop μ-loop
 add-i c = search needs
 
--- src/lib.rt:554:5
 loop-less : tie.Need-loop-less Inv-loop μ-loop
 loop-less c = search needs
 
--- src/lib.rt:554:5
 loop-again : tie.Need-loop-again Inv-loop μ-loop
 loop-again c =
     let l = c .before .before .loop in
@@ -58,11 +49,9 @@ loop-again c =
     let w = c .before .loop-test .taken in
     (length-set (l .out) (l .i) v ∙ l .inv .0, omega arith, below-more _ _ (λ y lt. getD-set-other (l .out) (l .i) y v 0 (λ e. absurd (omega arith)) ∙ l .inv .2 y lt) (getD-set-same (l .out) (l .i) v 0 (let e = l .inv .0 in omega arith)))
 
--- src/lib.rt:547:1
 same-length : tie.Need-same-length Inv-loop μ-loop
 same-length c = search needs
 
--- src/lib.rt:547:1
 returns-2 : tie.Need-returns-2 Inv-loop μ-loop
 returns-2 c =
     let l = c .before .loop in

@@ -5,6 +5,7 @@ use Prim.Native.Nat.{_≤_}
 use native.Mathlib.Nat.{le-refl}
 use borrow.Author.Tests.{not-true, not-false}
 use lib.ListN.{replicate}
+use Rattle.tableau_layout.specs.Layout.{slot-end}
 use Rattle.search_nogoods.proofs.Laws.{none-there}
 use Rattle.search_chase.specs.Parts.{sheetBy}
 use Rattle.search_chase.proofs.Levels.{levelled-first}
@@ -18,74 +19,64 @@ use Rattle.search_chase.proofs.copy.Reads as copy-reads
 use Rattle.search_chase.proofs.seek.Reads as seek-reads
 use Rattle.search_chase.proofs.settle.Reads as settle-reads
 use Rattle.search_state.proofs.free.Reads as free-reads
+use Rattle.search_nogoods.specs.Sizes.{nogood-numbers}
 
--- src/lib.rt:566:17
 slice-aggregate-free : tie.Need-slice-aggregate-free
 slice-aggregate-free c = search needs
 
--- src/lib.rt:566:5
 free-requires : tie.Need-free-requires
 free-requires c κs = search needs
 
--- src/lib.rt:567:19
 slice-aggregate-settle : tie.Need-slice-aggregate-settle
 slice-aggregate-settle c = search needs
 
--- src/lib.rt:567:9
 settle-requires : tie.Need-settle-requires
 settle-requires c κs = search needs
 
--- src/lib.rt:568:9
 returns : tie.Need-returns
 returns c = (
   λ x r _.
       let s = c .before .before .before .before .before .before .before .before in
       let q = c .before .before .settle in
-      heads-no x (sheetBy (s .args .asked) x) (q .result) (q .last .1 .0) (q .last .1 .0) _ 0 (not-true (q .result) (c .if1 .taken)) (q .ensures x r (s .args .asked) (c .before .before .before .before .before .free .ensures .0 (le-refl 533))),
+      heads-no x (sheetBy (s .args .goal) x) (q .result) (q .last .1 .0) (q .last .1 .0) _ 0 (not-true (q .result) (c .if1 .taken)) (q .ensures x r (s .args .goal) (c .before .before .before .before .before .free .ensures .0 (le-refl slot-end))),
   (λ _. refl, λ _. refl),
 )
 
--- src/lib.rt:575:9
 seek-requires : tie.Need-seek-requires
 seek-requires c κs = search needs
 
--- src/lib.rt:587:9
 returns-2 : tie.Need-returns-2
 returns-2 c = (
   λ x r _.
       let s = c .before .before .before .before .before .before .before .before .before .before .before .before .before .before .before .before in
       let q = c .before .before .before .before .before .before .before .before .before .before .settle in
       let k = c .before .seek in
-      let h = heads-yes x (sheetBy (s .args .asked) x) (q .result) (q .last .1 .0) _ (not-false (q .result) (c .before .before .before .before .before .before .before .before .if1 .left)) (q .ensures x r (s .args .asked) (c .before .before .before .before .before .before .before .before .before .before .before .before .before .free .ensures .0 (le-refl 533))) in
-      let f = found-by (s .args .p .now) x r (s .args .asked) (k .result) (q .last .1 .0) (replicate 533 0) (k .last .1 .0) _ _ _ _ _ h
-      (k .ensures .0 x r (heads-begin (s .args .p .now) x r (s .args .asked) (q .last .1 .0) _ (le-refl _) h) (levelled-first (q .last .1 .0) 533) (record { each = λ e lt. absurd (none-there (replicate 129 0) refl e lt) })) in
-      found-no x (sheetBy (s .args .asked) x) (k .result) (k .last .1 .0) (s .args .out .now) (not-true (k .result) (c .if2 .taken)) f,
+      let h = heads-yes x (sheetBy (s .args .goal) x) (q .result) (q .last .1 .0) _ (not-false (q .result) (c .before .before .before .before .before .before .before .before .if1 .left)) (q .ensures x r (s .args .goal) (c .before .before .before .before .before .before .before .before .before .before .before .before .before .free .ensures .0 (le-refl slot-end))) in
+      let f = found-by (s .args .p .now) x r (s .args .goal) (k .result) (q .last .1 .0) (replicate slot-end 0) (k .last .1 .0) _ _ _ _ _ h
+      (k .ensures .0 x r (heads-begin (s .args .p .now) x r (s .args .goal) (q .last .1 .0) _ (le-refl _) h) (levelled-first (q .last .1 .0) slot-end) (record { each = λ e lt. absurd (none-there (replicate nogood-numbers 0) refl e lt) })) in
+      found-no x (sheetBy (s .args .goal) x) (k .result) (k .last .1 .0) (s .args .out .now) (not-true (k .result) (c .if2 .taken)) f,
   (λ _. refl, λ _. refl),
 )
 
--- src/lib.rt:589:10
 slice-aggregate-copy : tie.Need-slice-aggregate-copy
 slice-aggregate-copy c = search needs
 
--- src/lib.rt:589:5
 copy-requires : tie.Need-copy-requires
 copy-requires c κs = search needs
 
--- src/lib.rt:562:1
 same-length : tie.Need-same-length
 same-length c = search needs
 
--- src/lib.rt:562:1
 returns-3 : tie.Need-returns-3
 returns-3 c = (
   λ x r long.
       let s = c .before .before .before .before .before .before .before .before .before .before .before .before .before .before .before .before .before .before .before .before .before in
       let q = c .before .before .before .before .before .before .before .before .before .before .before .before .before .before .before .settle in
       let k = c .before .before .before .before .before .before .seek in
-      let h = heads-yes x (sheetBy (s .args .asked) x) (q .result) (q .last .1 .0) _ (not-false (q .result) (c .before .before .before .before .before .before .before .before .before .before .before .before .before .if1 .left)) (q .ensures x r (s .args .asked) (c .before .before .before .before .before .before .before .before .before .before .before .before .before .before .before .before .before .before .free .ensures .0 (le-refl 533))) in
-      let f = found-by (s .args .p .now) x r (s .args .asked) (k .result) (q .last .1 .0) (replicate 533 0) (k .last .1 .0) _ _ _ _ _ h
-      (k .ensures .0 x r (heads-begin (s .args .p .now) x r (s .args .asked) (q .last .1 .0) _ (le-refl _) h) (levelled-first (q .last .1 .0) 533) (record { each = λ e lt. absurd (none-there (replicate 129 0) refl e lt) })) in
-      found-yes x (sheetBy (s .args .asked) x) (k .result) (k .last .1 .0) _ (not-false (k .result) (c .before .before .before .before .before .if2 .left)) (c .before .before .copy .ensures .0 (long ∙ sym (k .ensures .1 .0 ∙ q .kept .1 .0 ∙ c .before .before .before .before .before .before .before .before .before .before .before .before .before .before .before .before .before .before .free .kept .0))) f,
+      let h = heads-yes x (sheetBy (s .args .goal) x) (q .result) (q .last .1 .0) _ (not-false (q .result) (c .before .before .before .before .before .before .before .before .before .before .before .before .before .if1 .left)) (q .ensures x r (s .args .goal) (c .before .before .before .before .before .before .before .before .before .before .before .before .before .before .before .before .before .before .free .ensures .0 (le-refl slot-end))) in
+      let f = found-by (s .args .p .now) x r (s .args .goal) (k .result) (q .last .1 .0) (replicate slot-end 0) (k .last .1 .0) _ _ _ _ _ h
+      (k .ensures .0 x r (heads-begin (s .args .p .now) x r (s .args .goal) (q .last .1 .0) _ (le-refl _) h) (levelled-first (q .last .1 .0) slot-end) (record { each = λ e lt. absurd (none-there (replicate nogood-numbers 0) refl e lt) })) in
+      found-yes x (sheetBy (s .args .goal) x) (k .result) (k .last .1 .0) _ (not-false (k .result) (c .before .before .before .before .before .if2 .left)) (c .before .before .copy .ensures .0 (long ∙ sym (k .ensures .1 .0 ∙ q .kept .1 .0 ∙ c .before .before .before .before .before .before .before .before .before .before .before .before .before .before .before .before .before .before .free .kept .0))) f,
   (λ no. absurd (true≢false no), λ other. c .before .before .copy .ensures .1 (λ e. other (e ∙ c .before .before .before .before .before .before .seek .ensures .1 .0 ∙ c .before .before .before .before .before .before .before .before .before .before .before .before .before .before .before .settle .kept .1 .0 ∙ c .before .before .before .before .before .before .before .before .before .before .before .before .before .before .before .before .before .before .free .kept .0))),
 )
 

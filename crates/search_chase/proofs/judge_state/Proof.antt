@@ -18,68 +18,57 @@ use Rattle.search_chase.proofs.ended.Reads as ended-reads
 use Rattle.search_chase.proofs.start.Reads as start-reads
 use Rattle.search_state.proofs.facts.Reads as facts-reads
 
--- src/lib.rt:214:5
 clear-requires : tie.Need-clear-requires
 clear-requires c κs = search needs
 
--- src/lib.rt:216:9
 start-requires : tie.Need-start-requires
 start-requires c κs = search needs
 
--- src/lib.rt:217:39
 slice-aggregate-facts : tie.Need-slice-aggregate-facts
 slice-aggregate-facts c = search needs
 
--- src/lib.rt:217:9
 facts-requires : tie.Need-facts-requires
 facts-requires c κs = search needs
 
--- src/lib.rt:219:9
 ended-requires : tie.Need-ended-requires
 ended-requires c κs = search needs
 
--- src/lib.rt:219:9
 returns : tie.Need-returns
 returns c = λ x r pr.
     let s = c .before .before .before .before .before .before .before .before .before in
     let f = c .before .before .before .facts in
     let b = c .before .before .before .before .before .before .start .ensures in
-    let few = from-few (s .args .p .now) x r (s .args .asked) in
+    let few = from-few (s .args .p .now) x r (s .args .goal) in
     let t = c .before .if1 .taken in
     let size = r .plan .few in
     let w = pr .size in
     let n = f .ensures (r .plan .size) (omega arith) size (omega arith) (omega arith) .0 in
     absurd (omega arith)
 
--- src/lib.rt:221:46
 mul-room : tie.Need-mul-room
 mul-room c = search needs
 
--- src/lib.rt:221:38
 array-share-prefix-room : tie.Need-array-share-prefix-room
 array-share-prefix-room c = search needs
 
--- src/lib.rt:221:38
 slice-aggregate-by-facts : tie.Need-slice-aggregate-by-facts
 slice-aggregate-by-facts c = let f = c .before .before .before .before .before .facts in
     let k = f .kept .1 .1 .1 .0 in
     sym (length-take-le (f .result * 5) (f .last .1 .1 .1 .0) (omega arith))
 
--- src/lib.rt:221:5
 by-facts-requires : tie.Need-by-facts-requires
 by-facts-requires c κs = search needs
 
--- src/lib.rt:210:1
 returns-2 : tie.Need-returns-2
 returns-2 c = λ x r pr.
     let s = c .before .before .before .before .before .before .before .before .before .before .before .before .before in
     let f = c .before .before .before .before .before .before .before .facts in
     let b = c .before .before .before .before .before .before .before .before .before .before .start .ensures in
-    let few = from-few (s .args .p .now) x r (s .args .asked) in
+    let few = from-few (s .args .p .now) x r (s .args .goal) in
     let size = r .plan .few in
     let w = pr .size in
     let e = f .ensures (r .plan .size) (omega arith) size (omega arith) (omega arith) in
-    c .by-facts .ensures x r pr b (numbers-by (s .args .p .now) x r (s .args .asked) (stateOf top (s .args .st .now)) _ (c .before .before .before .before .before .before .before .before .before .before .start .result) (f .result) b (e .0) (e .1))
+    c .by-facts .ensures x r pr b (numbers-by (s .args .p .now) x r (s .args .goal) (stateOf top (s .args .st .now)) _ (c .before .before .before .before .before .before .before .before .before .before .start .result) (f .result) b (e .0) (e .1))
 
 pub judge-state-spec : {M : Type 1} → statement M
 judge-state-spec =

@@ -12,23 +12,18 @@ use Rattle.search_choices.proofs.add.Reads as add-reads
 use Rattle.search_choices.proofs.is_marked.Reads as is-marked-reads
 use Rattle.search_choices.proofs.put.Reads as put-reads
 
--- src/lib.rt:272:8
 is-marked-requires : tie.Need-is-marked-requires
 is-marked-requires c κs = search needs
 
--- src/lib.rt:273:9
 add-requires : tie.Need-add-requires
 add-requires c κs = search needs
 
--- src/lib.rt:274:9
 returns : tie.Need-returns
 returns c = c .add .ensures
 
--- src/lib.rt:276:5
 put-requires : tie.Need-put-requires
 put-requires c κs = search needs
 
--- src/lib.rt:269:1
 returns-2 : tie.Need-returns-2
 returns-2 c = (sym (c .before .before .before .before .is-marked .ensures) ∙ c .before .before .before .if1 .left, c .put .ensures)
 

@@ -4,17 +4,18 @@ use Prim.Native.Nat.{ℕ, _≤_, _<_, _-_, _%_, _+_, _*_}
 use native.Mathlib.Omega.{arith}
 use borrow.Author.Needs.{needs}
 use lib.ListN.{length, getD}
+use Rattle.sheet_format.specs.Limits.{most-rows}
 use Rattle.search_chase.proofs.known_row.Statement.{statement}
 use Rattle.search_chase.proofs.known_row.Tie as tie
 use Rattle.search_chase.proofs.known_row.Reads as reads
 use Rattle.search_chase.proofs.known_row.Lts as lts
 use Rattle.search_chase.proofs.are_known.Reads as are-known-reads
-use Rattle.search_chase.proofs.row_count.Reads as row-count-reads
-use Rattle.search_chase.proofs.row_of.Reads as row-of-reads
-use Rattle.search_chase.proofs.view_of.Reads as view-of-reads
+use Rattle.tableau_parts.proofs.row_count.Reads as row-count-reads
+use Rattle.tableau_parts.proofs.values_at.Reads as values-at-reads
+use Rattle.tableau_parts.proofs.view_at.Reads as view-at-reads
 
 abbrev Inv-loop : tie.InvT-loop
-Inv-loop p facts view u at fit n all i₀ i = (i ≤ all) × (all ≤ 40)
+Inv-loop p facts view u at fit n all i₀ i = (i ≤ all) × (all ≤ most-rows)
 
 abbrev μ-loop : tie.MeasureT-loop
 μ-loop p facts view u at fit n all i₀ i = all - i
@@ -40,11 +41,11 @@ row-count-requires c κs = search needs
 loop-holds : tie.Need-loop-holds Inv-loop μ-loop
 loop-holds c = search needs
 
-view-of-requires : tie.Need-view-of-requires Inv-loop μ-loop
-view-of-requires c κs = search needs
+view-at-requires : tie.Need-view-at-requires Inv-loop μ-loop
+view-at-requires c κs = search needs
 
-row-of-requires : tie.Need-row-of-requires Inv-loop μ-loop
-row-of-requires c κs = search needs
+values-at-requires : tie.Need-values-at-requires Inv-loop μ-loop
+values-at-requires c κs = search needs
 
 are-known-requires : tie.Need-are-known-requires Inv-loop μ-loop
 are-known-requires c κs = search needs
@@ -77,8 +78,8 @@ known-row-spec =
     element-copy-out-n
     row-count-requires
     loop-holds
-    view-of-requires
-    row-of-requires
+    view-at-requires
+    values-at-requires
     are-known-requires
     returns-2
     add-i

@@ -11,31 +11,24 @@ use Rattle.search_chase.proofs.mark_given.Lts as lts
 use Rattle.search_conflict.proofs.mark_facts.Reads as mark-facts-reads
 use Rattle.tableau_witness.proofs.witness.Reads as witness-reads
 
--- src/lib.rt:128:9
 witness-requires : tie.Need-witness-requires
 witness-requires c κs = search needs
 
--- src/lib.rt:129:48
 add-mark-facts : tie.Need-add-mark-facts
 add-mark-facts c = search needs
 
--- src/lib.rt:129:46
 mul-mark-facts : tie.Need-mul-mark-facts
 mul-mark-facts c = search needs
 
--- src/lib.rt:129:46
 element-copy-out-mark-facts : tie.Need-element-copy-out-mark-facts
 element-copy-out-mark-facts c = search needs
 
--- src/lib.rt:129:5
 mark-facts-requires : tie.Need-mark-facts-requires
 mark-facts-requires c κs = search needs
 
--- src/lib.rt:115:1
 same-length : tie.Need-same-length
 same-length c = search needs
 
--- src/lib.rt:115:1
 returns : tie.Need-returns
 returns c = λ ready few room given.
     let s = c .before .before .before .before .before .before .before .before .before .before in

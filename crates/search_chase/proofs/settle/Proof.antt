@@ -5,22 +5,24 @@ use native.Mathlib.Omega.{arith}
 use borrow.Author.Needs.{needs}
 use borrow.Author.Tests.{not-true, not-false}
 use mathlib.Core.Bool.{Bool}
+use Rattle.tableau_layout.specs.Layout.{slot-end}
 use Rattle.case_verdicts.specs.Verdict.{Sheet}
 use Rattle.case_verdicts.specs.Sheets.{top}
 use Rattle.case_verdicts.specs.Search.{free}
 use Rattle.case_verdicts.specs.Words.{stateOf}
-use Rattle.search_chase.specs.Parts.{Ready, sheetBy, Heads, HeadsBy}
+use Rattle.search_chase.specs.Parts.{ReadyPlan, sheetBy, Heads, HeadsBy}
 use Rattle.search_chase.proofs.Copies.{heads-free, heads-rows, heads-no, heads-yes}
 use lib.ListN.{length, getD}
 use Rattle.search_chase.proofs.settle.Statement.{statement}
 use Rattle.search_chase.proofs.settle.Tie as tie
 use Rattle.search_chase.proofs.settle.Reads as reads
 use Rattle.search_chase.proofs.settle.Lts as lts
-use Rattle.search_chase.proofs.row_count.Reads as row-count-reads
+use Rattle.tableau_parts.proofs.row_count.Reads as row-count-reads
 use Rattle.search_chase.proofs.settle_row.Reads as settle-row-reads
+use Rattle.search_chase.specs.declared.Goal.{Goal}
 
 abbrev Inv-loop : tie.InvT-loop
-Inv-loop p st₀ listed i₀ st i = (length st ≡ 533) × (i ≤ listed) × ((x : Sheet) → Ready p x → (asked : Bool) → stateOf top st₀ ≡ free top → Heads x (sheetBy asked x) st i)
+Inv-loop p st₀ listed i₀ st i = (length st ≡ slot-end) × (i ≤ listed) × ((x : Sheet) → ReadyPlan p x → (goal : Goal) → stateOf top st₀ ≡ free top → Heads x (sheetBy goal x) st i)
 
 abbrev μ-loop : tie.MeasureT-loop
 μ-loop p st₀ listed i₀ st i = listed - i
@@ -31,7 +33,7 @@ row-count-requires c κs = search needs
 loop-holds : tie.Need-loop-holds Inv-loop μ-loop
 loop-holds c =
     let s = c .before .before in
-    (s .pre, omega arith, λ x r asked e. heads-free (s .args .p .now) x r asked (s .args .st .now) (s .pre) e)
+    (s .pre, omega arith, λ x r goal e. heads-free (s .args .p .now) x r goal (s .args .st .now) (s .pre) e)
 
 settle-row-requires : tie.Need-settle-row-requires Inv-loop μ-loop
 settle-row-requires c κs = search needs
@@ -45,11 +47,11 @@ returns c =
     let l = c .before .before .before .before .before .before .loop in
     let n = c .before .before .before .before .before .before .before .row-count .ensures in
     let q = c .before .before .before .settle-row in
-    λ x r asked e.
+    λ x r goal e.
     let f = r .plan .rows-few in
     let m = n .exact f in
     let w = c .before .before .before .before .before .loop-test .taken in
-    heads-no x (sheetBy asked x) (q .result) (q .last .1 .0) (q .last .1 .0) (l .i + 1) 0 (not-true (q .result) (c .if1 .taken)) (q .ensures x r asked (omega arith) (l .inv .2 x r asked e))
+    heads-no x (sheetBy goal x) (q .result) (q .last .1 .0) (q .last .1 .0) (l .i + 1) 0 (not-true (q .result) (c .if1 .taken)) (q .ensures x r goal (omega arith) (l .inv .2 x r goal e))
 
 add-i : tie.Need-add-i Inv-loop μ-loop
 add-i c = search needs
@@ -66,10 +68,10 @@ loop-again c =
     let w = c .before .before .before .before .before .loop-test .taken in (
       q .kept .1 .0 ∙ l .inv .0,
       omega arith,
-      λ x r asked e.
+      λ x r goal e.
           let f = r .plan .rows-few in
           let m = n .exact f in
-          heads-yes x (sheetBy asked x) (q .result) (q .last .1 .0) (l .i + 1) (not-false (q .result) (c .if1 .left)) (q .ensures x r asked (omega arith) (l .inv .2 x r asked e)),
+          heads-yes x (sheetBy goal x) (q .result) (q .last .1 .0) (l .i + 1) (not-false (q .result) (c .if1 .left)) (q .ensures x r goal (omega arith) (l .inv .2 x r goal e)),
     )
 
 same-length-2 : tie.Need-same-length-2 Inv-loop μ-loop
@@ -79,12 +81,12 @@ returns-2 : tie.Need-returns-2 Inv-loop μ-loop
 returns-2 c =
     let l = c .before .loop in
     let n = c .before .before .row-count .ensures in
-    λ x r asked e.
+    λ x r goal e.
     let f = r .plan .rows-few in
     let m = n .exact f in
     let z = l .inv .1 in
     let w = c .loop-test .left in
-    heads-rows x (sheetBy asked x) (l .st) (l .i) _ (omega arith) (l .inv .2 x r asked e)
+    heads-rows x (sheetBy goal x) (l .st) (l .i) _ (omega arith) (l .inv .2 x r goal e)
 
 pub settle-spec : {M : Type 1} → statement M
 settle-spec =

@@ -14,20 +14,16 @@ use Rattle.search_chase.proofs.take.Lts as lts
 use Rattle.search_conflict.proofs.assign.Reads as assign-reads
 use Rattle.search_chase.proofs.become_row.Reads as become-row-reads
 
--- src/lib.rt:261:9
 become-row-requires : tie.Need-become-row-requires
 become-row-requires c κs = search needs
 
--- src/lib.rt:262:9
 returns : tie.Need-returns
 returns c = let t = c .before .become-row in
     (λ own fresh cs. subst (λ b. TakenBy b (c .before .before .before .args .p .now) (c .before .before .before .args .view) (c .before .before .before .args .i) (c .before .before .before .args .st .now) (t .last .1 .0) (c .before .before .before .args .u .now)) (not-true (t .result) (c .if1 .taken)) (t .ensures own fresh cs), (refl, (t .kept .1 .0, refl)))
 
--- src/lib.rt:264:5
 assign-requires : tie.Need-assign-requires
 assign-requires c κs = search needs
 
--- src/lib.rt:248:1
 returns-2 : tie.Need-returns-2
 returns-2 c = let t = c .before .before .before .become-row in
     (λ own fresh cs. subst (λ b. TakenBy b (c .before .before .before .before .before .args .p .now) (c .before .before .before .before .before .args .view) (c .before .before .before .before .before .args .i) (c .before .before .before .before .before .args .st .now) (t .last .1 .0) (c .before .before .before .before .before .args .u .now)) (not-false (t .result) (c .before .before .if1 .left)) (t .ensures own fresh cs), (c .assign .ensures (c .before .before .before .before .before .pre .1), (t .kept .1 .0, c .assign .kept .0)))

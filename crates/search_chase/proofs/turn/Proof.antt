@@ -10,15 +10,12 @@ use Rattle.search_chase.proofs.turn.Tie as tie
 use Rattle.search_chase.proofs.turn.Reads as reads
 use Rattle.search_chase.proofs.turn.Lts as lts
 
--- src/lib.rt:415:13
 add-k : tie.Need-add-k
 add-k c = search needs
 
--- src/lib.rt:417:9
 returns : tie.Need-returns
 returns c = let s = c .before in let t = turned-by (s .args .first) (s .args .rows) (s .args .i) (s .args .first + s .args .i) refl .0 (c .if1 .taken) in let p = s .pre in (t, omega arith)
 
--- src/lib.rt:411:1
 returns-2 : tie.Need-returns-2
 returns-2 c = let s = c .before in let t = turned-by (s .args .first) (s .args .rows) (s .args .i) (s .args .first + s .args .i) refl .1 (c .if1 .left) in (t, c .if1 .left)
 

@@ -3,7 +3,8 @@ use mathlib.Core.Logic.{⊎-elim}
 use Prim.Native.Nat.{ℕ, _≤_, _<_, _-_, _%_, _+_, _*_, min}
 use native.Mathlib.Omega.{arith}
 use borrow.Author.Needs.{needs}
-use Rattle.search_conflict.specs.Reasons.{Marked}
+use Rattle.sheet_format.specs.Limits.{most-atoms}
+use Rattle.search_conflict.specs.Conflict.{Marked}
 use Rattle.search_conflict.proofs.Laws.{marked-none, marked-more, marked-end}
 use lib.ListN.{length, getD}
 use Rattle.search_conflict.proofs.mark_facts.Statement.{statement}
@@ -13,10 +14,10 @@ use Rattle.search_conflict.proofs.mark_facts.Lts as lts
 use Rattle.search_conflict.proofs.mark_atom.Reads as mark-atom-reads
 
 abbrev Inv-loop : tie.InvT-loop
-Inv-loop p st lv from n marks₀ at j₀ marks j = (j ≤ 6) × (j ≤ n) × (length marks ≡ length marks₀) × Marked p st lv from at j marks₀ marks
+Inv-loop p st lv from n marks₀ at j₀ marks j = (j ≤ most-atoms) × (j ≤ n) × (length marks ≡ length marks₀) × Marked p st lv from at j marks₀ marks
 
 abbrev μ-loop : tie.MeasureT-loop
-μ-loop p st lv from n marks₀ at j₀ marks j = 6 - j
+μ-loop p st lv from n marks₀ at j₀ marks j = most-atoms - j
 
 returns : tie.Need-returns Inv-loop μ-loop
 returns c = λ x y f. absurd (c .if1 .taken x)
@@ -37,7 +38,7 @@ returns-3 c = λ x y f.
     let t = c .if3 .taken in
     let z = l .inv .0 in
     let w = l .inv .1 in
-    marked-end (a .p .now) (a .st .now) (a .lv .now) (a .from) (a .t5) (l .j) (min (a .n) 6) (a .marks .now) (l .marks) (omega arith) (l .inv .3)
+    marked-end (a .p .now) (a .st .now) (a .lv .now) (a .from) (a .t5) (l .j) (min (a .n) most-atoms) (a .marks .now) (l .marks) (omega arith) (l .inv .3)
 
 mul-a : tie.Need-mul-a Inv-loop μ-loop
 mul-a c = search needs
@@ -115,7 +116,7 @@ returns-7 c = λ x y f.
     let t = c .loop-test .left in
     let z = l .inv .0 in
     let w = l .inv .1 in
-    marked-end (a .p .now) (a .st .now) (a .lv .now) (a .from) (a .t5) (l .j) (min (a .n) 6) (a .marks .now) (l .marks) (omega arith) (l .inv .3)
+    marked-end (a .p .now) (a .st .now) (a .lv .now) (a .from) (a .t5) (l .j) (min (a .n) most-atoms) (a .marks .now) (l .marks) (omega arith) (l .inv .3)
 
 pub mark-facts-spec : {M : Type 1} → statement M
 mark-facts-spec =

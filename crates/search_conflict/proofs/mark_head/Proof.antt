@@ -3,7 +3,7 @@ use mathlib.Core.Logic.{⊎-elim}
 use Prim.Native.Nat.{ℕ, _≤_, _<_, _-_, _%_, _+_, _*_}
 use native.Mathlib.Omega.{arith}
 use borrow.Author.Needs.{needs}
-use Rattle.search_conflict.specs.Reasons.{HeadMarked}
+use Rattle.search_conflict.specs.Conflict.{HeadMarked}
 use Rattle.search_conflict.proofs.Laws.{head-none, head-constant, head-slot}
 use lib.ListN.{length, getD}
 use Rattle.search_conflict.proofs.mark_head.Statement.{statement}

@@ -3,6 +3,7 @@ use Prim.Native.Nat.{ℕ, _≤_, _<_, _-_, _+_, _*_}
 use native.Mathlib.Omega.{arith}
 use lib.ListN.{length, getD}
 use borrow.Author.Tests.{not-false}
+use Rattle.sheet_format.specs.Limits.{constant-end}
 use Rattle.case_verdicts.specs.Sheets.{top}
 use Rattle.tableau_plan.specs.Plan.{rowValues}
 use Rattle.search_learning.specs.Rows.{Alone}
@@ -16,7 +17,7 @@ use Rattle.search_nogoods.proofs.add.Reads as add-reads
 use Rattle.search_learning.proofs.is_alone.Reads as is-alone-reads
 use Rattle.search_learning.proofs.is_full.Reads as is-full-reads
 use Rattle.search_learning.proofs.made_up_column.Reads as made-up-column-reads
-use Rattle.search_learning.proofs.row_of.Reads as row-of-reads
+use Rattle.tableau_parts.proofs.values_at.Reads as values-at-reads
 
 made-up-column-requires : tie.Need-made-up-column-requires
 made-up-column-requires c κs = search needs
@@ -27,8 +28,8 @@ returns c = let a = c .before .before .args in (λ x y. learned-none (a .u .now)
 returns-2 : tie.Need-returns-2
 returns-2 c = let a = c .before .before .before .args in (λ x y. learned-none (a .u .now) (rowValues (a .p .now) (a .k)) (a .sl .now) (a .sm .now) (a .below .now), (refl, refl))
 
-row-of-requires : tie.Need-row-of-requires
-row-of-requires c κs = search needs
+values-at-requires : tie.Need-values-at-requires
+values-at-requires c κs = search needs
 
 mul-v : tie.Need-mul-v
 mul-v c = search needs
@@ -65,12 +66,12 @@ returns-5 c = let a = c .before .before .before .before .before .before .before 
     let m = c .before .before .before .before .before .before .before .before .before .before .before .before .before .made-up-column in
     let v = getD (a .u .now) (m .result) 0 in
     let le = m .ensures (let z = c .before .before .before .before .before .before .before .before .before .before .before .before .if1 .left in omega arith) in
-    let o = c .before .before .before .before .before .before .before .before .before .before .row-of in
+    let o = c .before .before .before .before .before .before .before .before .before .before .values-at in
     let w = getD (o .result) (m .result) 0 in
     let alone = c .before .before .before .before .before .before .before .is-alone .ensures (not-false _ (c .before .before .before .before .before .before .if3 .left)) in
     let full = c .before .before .before .before .is-full .ensures (not-false _ (c .before .before .before .if4 .left)) in (
-      λ x y. learned-added (a .u .now) (rowValues (a .p .now) (a .k)) (a .sl .now) (a .sm .now) (a .below .now) (v - 1000000) w _ _
-          (subst (λ q. Alone (a .u .now) (rowValues (a .p .now) (a .k)) q w) (let e : v ≡ top + (v - 1000000) = omega arith in e) (subst (λ l. Alone (a .u .now) l v w) (o .ensures) alone)) (c .add .ensures .0 x y full),
+      λ x y. learned-added (a .u .now) (rowValues (a .p .now) (a .k)) (a .sl .now) (a .sm .now) (a .below .now) (v - constant-end) w _ _
+          (subst (λ q. Alone (a .u .now) (rowValues (a .p .now) (a .k)) q w) (let e : v ≡ top + (v - constant-end) = omega arith in e) (subst (λ l. Alone (a .u .now) l v w) (o .ensures (search needs)) alone)) (c .add .ensures .0 x y full),
       (c .add .ensures .1 .0, c .add .ensures .1 .1),
     )
 
@@ -81,7 +82,7 @@ learn-spec =
     made-up-column-requires
     returns
     returns-2
-    row-of-requires
+    values-at-requires
     mul-v
     element-copy-out-v
     mul-w

@@ -3,13 +3,14 @@ use mathlib.Core.Bool.{Bool, true, false, true≢false}
 use Prim.Native.Nat.{ℕ, _≤_, _<_, _-_, _+_, _*_}
 use native.Mathlib.Omega.{arith}
 use lib.ListN.{length, getD, take, drop}
-use Rattle.search_choices.specs.Marks.{MarksAdded}
+use Rattle.search_choices.specs.Choices.{MarksAdded}
 use borrow.Author.Needs.{needs}
 use Rattle.search_learning.proofs.mark_entry.Statement.{statement}
 use Rattle.search_learning.proofs.mark_entry.Tie as tie
 use Rattle.search_learning.proofs.mark_entry.Reads as reads
 use Rattle.search_learning.proofs.mark_entry.Lts as lts
 use Rattle.search_choices.proofs.add.Reads as add-reads
+use Rattle.search_nogoods.specs.Sizes.{most-choices}
 
 mul-at : tie.Need-mul-at
 mul-at c = search needs
@@ -40,7 +41,7 @@ same-length c = search needs
 
 returns-2 : tie.Need-returns-2
 returns-2 c = let a = c .before .before .before .before .before .before .before .before .args in
-    subst (λ l. MarksAdded (a .marks .now) l 64 (c .before .before .add .last .0)) (ap (λ k. take k (drop (a .e * 64) (a .sm .now))) (let q : a .e * 64 + 64 - a .e * 64 ≡ 64 = omega arith in q)) (c .before .before .add .ensures)
+    subst (λ l. MarksAdded (a .marks .now) l most-choices (c .before .before .add .last .0)) (ap (λ k. take k (drop (a .e * most-choices) (a .sm .now))) (let q : a .e * most-choices + most-choices - a .e * most-choices ≡ most-choices = omega arith in q)) (c .before .before .add .ensures)
 
 pub mark-entry-spec : {M : Type 1} → statement M
 mark-entry-spec =

@@ -3,14 +3,15 @@ use mathlib.Core.Path.{_≡_, subst}
 use Prim.Native.Nat.{ℕ, _≤_, _-_}
 use native.Mathlib.Omega.{arith}
 use borrow.Author.Needs.{needs}
-use Rattle.search_nogoods.specs.Strikes.{countOf}
+use Rattle.search_nogoods.specs.Nogoods.{countOf}
 use Rattle.search_nogoods.specs.Parts.{NoneTo}
 use Rattle.search_nogoods.proofs.Laws.{none-start, none-slot, none-value}
 use Rattle.search_nogoods.proofs.find.Statement.{statement}
 use Rattle.search_nogoods.proofs.find.Tie as tie
+use Rattle.search_nogoods.specs.Sizes.{most-nogoods}
 
 abbrev Inv-loop : tie.InvT-loop
-Inv-loop sl n w m e₀ e = (e ≤ m) × (m ≡ countOf sl) × (m ≤ 64) × NoneTo sl n w e
+Inv-loop sl n w m e₀ e = (e ≤ m) × (m ≡ countOf sl) × (m ≤ most-nogoods) × NoneTo sl n w e
 
 abbrev μ-loop : tie.MeasureT-loop
 μ-loop sl n w m e₀ e = m - e

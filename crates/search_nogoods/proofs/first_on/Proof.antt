@@ -8,9 +8,10 @@ use Rattle.search_nogoods.specs.Parts.{FreeTo}
 use Rattle.search_nogoods.proofs.Laws.{free-start, free-more, free-at}
 use Rattle.search_nogoods.proofs.first_on.Statement.{statement}
 use Rattle.search_nogoods.proofs.first_on.Tie as tie
+use Rattle.search_nogoods.specs.Sizes.{nogood-marks}
 
 abbrev Inv-loop : tie.InvT-loop
-Inv-loop sm n b e₀ e = (e ≤ n) × (length sm ≡ 4096 → FreeTo sm b e)
+Inv-loop sm n b e₀ e = (e ≤ n) × (length sm ≡ nogood-marks → FreeTo sm b e)
 
 abbrev μ-loop : tie.MeasureT-loop
 μ-loop sm n b e₀ e = n - e

@@ -6,15 +6,16 @@ use Rattle.search_nogoods.specs.Parts.{Copied}
 use Rattle.search_nogoods.proofs.Laws.{copied-none, copied-more, copied-all}
 use Rattle.search_nogoods.proofs.move_marks.Statement.{statement}
 use Rattle.search_nogoods.proofs.move_marks.Tie as tie
+use Rattle.search_nogoods.specs.Sizes.{most-choices}
 
 abbrev Inv-loop : tie.InvT-loop
-Inv-loop sm₀ from to k₀ sm k = (k ≤ 64) × Copied sm₀ (to * 64) k sm₀ (from * 64) sm
+Inv-loop sm₀ from to k₀ sm k = (k ≤ most-choices) × Copied sm₀ (to * most-choices) k sm₀ (from * most-choices) sm
 
 abbrev μ-loop : tie.MeasureT-loop
-μ-loop sm₀ from to k₀ sm k = 64 - k
+μ-loop sm₀ from to k₀ sm k = most-choices - k
 
 loop-holds : tie.Need-loop-holds Inv-loop μ-loop
-loop-holds c = (omega arith, copied-none (c .args .sm .now) (c .args .to * 64) (c .args .sm .now) (c .args .from * 64))
+loop-holds c = (omega arith, copied-none (c .args .sm .now) (c .args .to * most-choices) (c .args .sm .now) (c .args .from * most-choices))
 
 mul-sm : tie.Need-mul-sm Inv-loop μ-loop
 mul-sm c = search needs
@@ -45,14 +46,14 @@ loop-again c =
     let l = c .before .before .loop in
     let a = c .before .before .before .args in (
       omega arith,
-      copied-more (a .sm .now) (a .to * 64) (l .k) (a .sm .now) (a .from * 64) (l .sm) _ (omega arith) (l .inv .1 .after (a .from * 64 + l .k) (omega arith)) (l .inv .1),
+      copied-more (a .sm .now) (a .to * most-choices) (l .k) (a .sm .now) (a .from * most-choices) (l .sm) _ (omega arith) (l .inv .1 .after (a .from * most-choices + l .k) (omega arith)) (l .inv .1),
     )
 
 returns : tie.Need-returns Inv-loop μ-loop
 returns c =
     let l = c .before .loop in
     let a = c .before .before .args in
-    copied-all (a .sm .now) (a .to * 64) (l .k) (a .sm .now) (a .from * 64) (l .sm) (omega arith) (l .inv .1)
+    copied-all (a .sm .now) (a .to * most-choices) (l .k) (a .sm .now) (a .from * most-choices) (l .sm) (omega arith) (l .inv .1)
 
 pub move-marks-spec : {M : Type 1} → statement M
 move-marks-spec =

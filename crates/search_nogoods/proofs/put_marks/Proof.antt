@@ -9,15 +9,16 @@ use Rattle.search_nogoods.specs.Parts.{Copied}
 use Rattle.search_nogoods.proofs.Laws.{copied-none, copied-more, copied-all}
 use Rattle.search_nogoods.proofs.put_marks.Statement.{statement}
 use Rattle.search_nogoods.proofs.put_marks.Tie as tie
+use Rattle.search_nogoods.specs.Sizes.{most-choices}
 
 abbrev Inv-loop : tie.InvT-loop
-Inv-loop sm₀ e marks k₀ sm k = (k ≤ 64) × (length marks ≡ 64) × Copied sm₀ (e * 64) k marks 0 sm
+Inv-loop sm₀ e marks k₀ sm k = (k ≤ most-choices) × (length marks ≡ most-choices) × Copied sm₀ (e * most-choices) k marks 0 sm
 
 abbrev μ-loop : tie.MeasureT-loop
-μ-loop sm₀ e marks k₀ sm k = 64 - k
+μ-loop sm₀ e marks k₀ sm k = most-choices - k
 
 loop-holds : tie.Need-loop-holds Inv-loop μ-loop
-loop-holds c = (omega arith, search needs, copied-none (c .args .sm .now) (c .args .e * 64) (c .args .t3) 0)
+loop-holds c = (omega arith, search needs, copied-none (c .args .sm .now) (c .args .e * most-choices) (c .args .t3) 0)
 
 array-read-sm : tie.Need-array-read-sm Inv-loop μ-loop
 array-read-sm c = search needs
@@ -44,14 +45,14 @@ loop-again c =
     let e : l .k ≡ 0 + l .k = omega arith in (
       omega arith,
       l .inv .1,
-      copied-more (a .sm .now) (a .e * 64) (l .k) (a .t3) 0 (l .sm) _ (omega arith) (ap (λ (x : ℕ). getD (a .t3) x false) e) (l .inv .2),
+      copied-more (a .sm .now) (a .e * most-choices) (l .k) (a .t3) 0 (l .sm) _ (omega arith) (ap (λ (x : ℕ). getD (a .t3) x false) e) (l .inv .2),
     )
 
 returns : tie.Need-returns Inv-loop μ-loop
 returns c =
     let l = c .before .loop in
     let a = c .before .before .args in
-    copied-all (a .sm .now) (a .e * 64) (l .k) (a .t3) 0 (l .sm) (omega arith) (l .inv .2)
+    copied-all (a .sm .now) (a .e * most-choices) (l .k) (a .t3) 0 (l .sm) (omega arith) (l .inv .2)
 
 pub put-marks-spec : {M : Type 1} → statement M
 put-marks-spec =

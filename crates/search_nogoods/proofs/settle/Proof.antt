@@ -8,9 +8,10 @@ use Rattle.search_nogoods.specs.Parts.{FreeTo}
 use Rattle.search_nogoods.proofs.Laws.{Settling, settle-start, settle-skip, settle-move}
 use Rattle.search_nogoods.proofs.settle.Statement.{statement}
 use Rattle.search_nogoods.proofs.settle.Tie as tie
+use Rattle.search_nogoods.specs.Sizes.{nogood-numbers, nogood-marks}
 
 abbrev Inv-loop : tie.InvT-loop
-Inv-loop sl₀ sm₀ n b first k₀ e₀ sl sm k e = (k < e) × (e ≤ n) × (length sl ≡ length sl₀) × (length sm ≡ length sm₀) × (length sl₀ ≡ 129 → length sm₀ ≡ 4096 → FreeTo sm₀ b first → Settling sl₀ sm₀ b n k e sl sm)
+Inv-loop sl₀ sm₀ n b first k₀ e₀ sl sm k e = (k < e) × (e ≤ n) × (length sl ≡ length sl₀) × (length sm ≡ length sm₀) × (length sl₀ ≡ nogood-numbers → length sm₀ ≡ nogood-marks → FreeTo sm₀ b first → Settling sl₀ sm₀ b n k e sl sm)
 
 abbrev μ-loop : tie.MeasureT-loop
 μ-loop sl₀ sm₀ n b first k₀ e₀ sl sm k e = n - e

@@ -4,6 +4,7 @@ use Prim.Native.Nat.{_-_}
 use native.Mathlib.Omega.{arith}
 use borrow.Author.Needs.{needs}
 use lib.ListN.{getD}
+use Rattle.tableau_layout.specs.Layout.{tableau-size-at}
 use Rattle.case_verdicts.specs.Sheets.{top}
 use Rattle.case_verdicts.specs.Words.{stateOf}
 use Rattle.search_state.proofs.Tableau.{facts-taken}
@@ -43,7 +44,7 @@ returns-5 c =
     let a = c .before .before .before .before .before .before .before .before .before .before .before .args in
     λ l f s w o.
     let k = m .kept .1 .1 .1 .1 .0 in
-    (refl, facts-taken (a .p .now) (stateOf top (a .st .now)) (m .last .1 .1 .1 .1 .0) (a .from) (getD (a .p .now) 1180 0 - a .from) (omega arith) (m .ensures))
+    (refl, facts-taken (a .p .now) (stateOf top (a .st .now)) (m .last .1 .1 .1 .1 .0) (a .from) (getD (a .p .now) tableau-size-at 0 - a .from) (omega arith) (m .ensures))
 
 pub facts-spec : {M : Type 1} → statement M
 facts-spec =

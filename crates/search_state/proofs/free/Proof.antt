@@ -6,6 +6,7 @@ use borrow.Author.Count.{below-more}
 use borrow.Author.Needs.{needs}
 use lib.ListN.{length-set, length, getD}
 use lib.Seq.{getD-set-same, getD-set-other}
+use Rattle.tableau_layout.specs.Layout.{slot-end}
 use Rattle.case_verdicts.specs.Sheets.{top}
 use Rattle.case_verdicts.proofs.Words.{words-free}
 use Rattle.search_state.proofs.free.Statement.{statement}
@@ -14,40 +15,32 @@ use Rattle.search_state.proofs.free.Reads as reads
 use Rattle.search_state.proofs.free.Lts as lts
 
 abbrev Inv-loop : tie.InvT-loop
-Inv-loop ws₀ n₀ ws n = (length ws ≡ length ws₀) × (length ws₀ ≤ 533) × (n ≤ length ws) × ((y : ℕ) → y < n → getD ws y 0 ≡ top + y)
+Inv-loop ws₀ n₀ ws n = (length ws ≡ length ws₀) × (length ws₀ ≤ slot-end) × (n ≤ length ws) × ((y : ℕ) → y < n → getD ws y 0 ≡ top + y)
 
 abbrev μ-loop : tie.MeasureT-loop
 μ-loop ws₀ n₀ ws n = length ws₀ - n
 
--- src/lib.rt:36:9
 returns : tie.Need-returns Inv-loop μ-loop
 returns c = (λ few. let o = c .if1 .taken in absurd (omega arith), λ _. refl)
 
--- src/lib.rt:39:5
 loop-holds : tie.Need-loop-holds Inv-loop μ-loop
 loop-holds c = search needs
 
--- src/lib.rt:40:17
 add-ws : tie.Need-add-ws Inv-loop μ-loop
 add-ws c = search needs
 
--- src/lib.rt:40:9
 mul-ws : tie.Need-mul-ws Inv-loop μ-loop
 mul-ws c = search needs
 
--- src/lib.rt:40:9
 slice-write-ws : tie.Need-slice-write-ws Inv-loop μ-loop
 slice-write-ws c = search needs
 
--- src/lib.rt:41:9
 add-n : tie.Need-add-n Inv-loop μ-loop
 add-n c = search needs
 
--- src/lib.rt:39:5
 loop-less : tie.Need-loop-less Inv-loop μ-loop
 loop-less c = search needs
 
--- src/lib.rt:39:5
 loop-again : tie.Need-loop-again Inv-loop μ-loop
 loop-again c =
     let l = c .before .loop in
@@ -56,11 +49,9 @@ loop-again c =
     let e = length-set (l .ws) (l .n) v in
     (e ∙ l .inv .0, l .inv .1, omega arith, below-more _ _ (λ y lt. getD-set-other (l .ws) (l .n) y v 0 (λ e. absurd (omega arith)) ∙ l .inv .3 y lt) (getD-set-same (l .ws) (l .n) v 0 (omega arith)))
 
--- src/lib.rt:32:1
 same-length : tie.Need-same-length Inv-loop μ-loop
 same-length c = search needs
 
--- src/lib.rt:32:1
 returns-2 : tie.Need-returns-2 Inv-loop μ-loop
 returns-2 c =
     let l = c .before .loop in

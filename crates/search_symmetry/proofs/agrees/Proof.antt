@@ -3,12 +3,12 @@ use Prim.Native.Nat.{ℕ, _≤_, _-_}
 use native.Mathlib.Omega.{arith}
 use Rattle.search_symmetry.proofs.Laws.{ended}
 use Rattle.search_symmetry.proofs.Laws.{never, agrees-more}
-use Rattle.search_symmetry.specs.Steps.{Agrees}
+use Rattle.search_symmetry.specs.Steps.{SameFor}
 use Rattle.search_symmetry.proofs.agrees.Statement.{statement}
 use Rattle.search_symmetry.proofs.agrees.Tie as tie
 
 abbrev Inv-loop : tie.InvT-loop
-Inv-loop u a c₀ c = (c ≤ 4) × Agrees u a c
+Inv-loop u a c₀ c = (c ≤ 4) × SameFor u a c
 
 abbrev μ-loop : tie.MeasureT-loop
 μ-loop u a c₀ c = 4 - c
@@ -45,7 +45,7 @@ loop-again c =
     (omega arith, agrees-more (a .u .now) (a .a .now) (l .c) (l .inv .1) (λ h. ⊎-elim (λ w. w .2 .left) (λ w. absurd (let z = w .left in omega arith)) (c .if1 .came)))
 
 returns-2 : tie.Need-returns-2 Inv-loop μ-loop
-returns-2 c = λ e. let a = c .before .before .args in let l = c .before .loop in ended (λ (n : ℕ). Agrees (a .u .now) (a .a .now) n) (l .c) 4 (l .inv .0) (c .loop-test .left) (l .inv .1)
+returns-2 c = λ e. let a = c .before .before .args in let l = c .before .loop in ended (λ (n : ℕ). SameFor (a .u .now) (a .a .now) n) (l .c) 4 (l .inv .0) (c .loop-test .left) (l .inv .1)
 
 pub agrees-spec : {M : Type 1} → statement M
 agrees-spec =

@@ -2,12 +2,12 @@ use mathlib.Core.Path.{_∙_}
 use Prim.Native.Nat.{ℕ, _≤_, _-_}
 use native.Mathlib.Omega.{arith}
 use Rattle.search_symmetry.proofs.Laws.{never, ended, becomes-none, becomes-more}
-use Rattle.search_symmetry.specs.Steps.{Becomes}
+use Rattle.search_symmetry.specs.Steps.{TurnsInto}
 use Rattle.search_symmetry.proofs.becomes.Statement.{statement}
 use Rattle.search_symmetry.proofs.becomes.Tie as tie
 
 abbrev Inv-loop : tie.InvT-loop
-Inv-loop p a b i j c₀ c = (c ≤ 4) × Becomes p a b i j c
+Inv-loop p a b i j c₀ c = (c ≤ 4) × TurnsInto p a b i j c
 
 abbrev μ-loop : tie.MeasureT-loop
 μ-loop p a b i j c₀ c = 4 - c
@@ -95,7 +95,7 @@ loop-again c =
     (omega arith, becomes-more (a .p .now) (a .a .now) (a .b .now) (a .i) (a .j) (l .c) (l .inv .1) (c .if2 .left ∙ c .before .turn .ensures))
 
 returns-3 : tie.Need-returns-3 Inv-loop μ-loop
-returns-3 c = λ e. let a = c .before .before .before .before .before .args in let l = c .before .loop in ended (λ (n : ℕ). Becomes (a .p .now) (a .a .now) (a .b .now) (a .i) (a .j) n) (l .c) 4 (l .inv .0) (c .loop-test .left) (l .inv .1)
+returns-3 c = λ e. let a = c .before .before .before .before .before .args in let l = c .before .loop in ended (λ (n : ℕ). TurnsInto (a .p .now) (a .a .now) (a .b .now) (a .i) (a .j) n) (l .c) 4 (l .inv .0) (c .loop-test .left) (l .inv .1)
 
 pub becomes-spec : {M : Type 1} → statement M
 becomes-spec =

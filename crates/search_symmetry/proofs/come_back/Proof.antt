@@ -1,5 +1,6 @@
 use Prim.Native.Nat.{ℕ, _≤_, _-_}
 use native.Mathlib.Omega.{arith}
+use Rattle.sheet_format.specs.Limits.{most-rows}
 use Rattle.search_symmetry.proofs.Laws.{ended}
 use Rattle.search_symmetry.proofs.Laws.{never, back-more}
 use Rattle.search_symmetry.specs.Steps.{ComeBack}
@@ -7,10 +8,10 @@ use Rattle.search_symmetry.proofs.come_back.Statement.{statement}
 use Rattle.search_symmetry.proofs.come_back.Tie as tie
 
 abbrev Inv-loop : tie.InvT-loop
-Inv-loop to i₀ i = (i ≤ 40) × ComeBack to i
+Inv-loop to i₀ i = (i ≤ most-rows) × ComeBack to i
 
 abbrev μ-loop : tie.MeasureT-loop
-μ-loop to i₀ i = 40 - i
+μ-loop to i₀ i = most-rows - i
 
 loop-holds : tie.Need-loop-holds Inv-loop μ-loop
 loop-holds c = (omega arith, record { each = λ d lt. absurd (omega arith) })
@@ -47,7 +48,7 @@ loop-again c =
     (omega arith, back-more (a .to .now) (l .i) (l .inv .1) (let z = c .before .before .if1 .left in omega arith) (c .if2 .left))
 
 returns-3 : tie.Need-returns-3 Inv-loop μ-loop
-returns-3 c = λ e. let a = c .before .before .args in let l = c .before .loop in ended (λ (n : ℕ). ComeBack (a .to .now) n) (l .i) 40 (l .inv .0) (c .loop-test .left) (l .inv .1)
+returns-3 c = λ e. let a = c .before .before .args in let l = c .before .loop in ended (λ (n : ℕ). ComeBack (a .to .now) n) (l .i) most-rows (l .inv .0) (c .loop-test .left) (l .inv .1)
 
 pub come-back-spec : {M : Type 1} → statement M
 come-back-spec =

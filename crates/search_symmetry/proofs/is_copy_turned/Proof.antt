@@ -2,16 +2,17 @@ use mathlib.Core.Path.{sym, _∙_}
 use Prim.Native.Nat.{ℕ, _≤_, _-_}
 use native.Mathlib.Omega.{arith}
 use borrow.Author.Tests.{not-true, not-false}
+use Rattle.query_layout.specs.Layout.{names}
 use Rattle.search_symmetry.proofs.Laws.{never, ended, copy-more}
 use Rattle.search_symmetry.specs.Steps.{CopyTurned}
 use Rattle.search_symmetry.proofs.is_copy_turned.Statement.{statement}
 use Rattle.search_symmetry.proofs.is_copy_turned.Tie as tie
 
 abbrev Inv-loop : tie.InvT-loop
-Inv-loop ws lv marks a b k m x₀ x = (x ≤ 13) × CopyTurned ws lv marks a b k m x
+Inv-loop ws lv marks a b k m x₀ x = (x ≤ names) × CopyTurned ws lv marks a b k m x
 
 abbrev μ-loop : tie.MeasureT-loop
-μ-loop ws lv marks a b k m x₀ x = 13 - x
+μ-loop ws lv marks a b k m x₀ x = names - x
 
 loop-holds : tie.Need-loop-holds Inv-loop μ-loop
 loop-holds c = (omega arith, record { each = λ d lt. absurd (omega arith) })
@@ -90,7 +91,7 @@ loop-again-3 c =
     (omega arith, copy-more (a .ws .now) (a .lv .now) (a .marks .now) (a .a .now) (a .b .now) (a .k) (a .m) (l .x) (l .inv .1) (λ h lt. (sym (c .before .before .before .before .is-kept2 .ensures) ∙ not-false _ (c .before .before .before .if3 .left), c .if4 .left ∙ c .before .turn .ensures)))
 
 returns-3 : tie.Need-returns-3 Inv-loop μ-loop
-returns-3 c = λ e. let a = c .before .before .before .before .before .args in let l = c .before .loop in ended (λ (n : ℕ). CopyTurned (a .ws .now) (a .lv .now) (a .marks .now) (a .a .now) (a .b .now) (a .k) (a .m) n) (l .x) 13 (l .inv .0) (c .loop-test .left) (l .inv .1)
+returns-3 c = λ e. let a = c .before .before .before .before .before .args in let l = c .before .loop in ended (λ (n : ℕ). CopyTurned (a .ws .now) (a .lv .now) (a .marks .now) (a .a .now) (a .b .now) (a .k) (a .m) n) (l .x) names (l .inv .0) (c .loop-test .left) (l .inv .1)
 
 pub is-copy-turned-spec : {M : Type 1} → statement M
 is-copy-turned-spec =

@@ -2,7 +2,7 @@ use mathlib.Core.Path.{_≡_, refl, sym, _∙_}
 use Prim.Native.Nat.{_≤_, _-_}
 use native.Mathlib.Omega.{arith}
 use lib.ListN.{drop}
-use Rattle.search_symmetry.specs.Mirrors.{exchanged}
+use Rattle.search_symmetry.specs.Symmetry.{exchanged}
 use Rattle.search_symmetry.proofs.Laws.{turn-there, turn-back, turn-later, turn-none}
 use Rattle.search_symmetry.proofs.turn.Statement.{statement}
 use Rattle.search_symmetry.proofs.turn.Tie as tie

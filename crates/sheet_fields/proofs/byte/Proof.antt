@@ -2,9 +2,10 @@ use mathlib.Core.Path.{subst, _≡_, sym, ap, _∙_}
 use mathlib.Core.Bool.{true, false}
 use borrow.Author.Tests.{eq-eqb, ne-eqb}
 use borrow.Author.Needs.{needs}
+use Rattle.sheet_format.specs.Limits.{field-end}
 use Rattle.sheet_format.specs.Field.{digit, byte}
 use Rattle.sheet_format.specs.declared.Digits.the-variants.{Blank, Minus, Run, Broken}
-use Rattle.sheet_fields.specs.Below.{Below}
+use Rattle.sheet_fields.specs.Below.{DigitsBelow}
 use Rattle.sheet_fields.proofs.byte.Statement.{statement}
 use Rattle.sheet_fields.proofs.byte.Tie as tie
 
@@ -45,7 +46,7 @@ returns-4 : tie.Need-returns-4
 returns-4 c = search needs
 
 digit-requires-3 : tie.Need-digit-requires-3
-digit-requires-3 c κs = subst (Below 100000000) (c .before .before .d .given .1) (c .before .before .before .before .pre)
+digit-requires-3 c κs = subst (DigitsBelow field-end) (c .before .before .d .given .1) (c .before .before .before .before .pre)
 
 enum-told-3 : tie.Need-enum-told-3
 enum-told-3 c = search needs

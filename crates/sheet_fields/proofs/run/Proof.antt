@@ -5,13 +5,13 @@ use lib.ListN.{take, drop}
 use borrow.Author.Needs.{needs}
 use Rattle.sheet_format.specs.Field.{run}
 use Rattle.sheet_format.specs.declared.Digits.the-variants.{Blank}
-use Rattle.sheet_fields.specs.Below.{Below}
+use Rattle.sheet_fields.specs.Below.{DigitsBelow}
 use Rattle.sheet_fields.proofs.Laws.{run-start, run-step, run-done, below-next, below-eight}
 use Rattle.sheet_fields.proofs.run.Statement.{statement}
 use Rattle.sheet_fields.proofs.run.Tie as tie
 
 abbrev Inv-loop : tie.InvT-loop
-Inv-loop s at d₀ i₀ d i = (i ≤ 8) × Below (10 ^ i) d × (run d (take (8 - i) (drop (at + i) s)) ≡ run Blank (take 8 (drop at s)))
+Inv-loop s at d₀ i₀ d i = (i ≤ 8) × DigitsBelow (10 ^ i) d × (run d (take (8 - i) (drop (at + i) s)) ≡ run Blank (take 8 (drop at s)))
 
 abbrev μ-loop : tie.MeasureT-loop
 μ-loop s at d₀ i₀ d i = 8 - i
@@ -39,7 +39,7 @@ loop-again c =
     let l = c .before .before .before .loop in
     let a = c .before .before .before .before .before .args in (
       omega arith,
-      subst (λ x. Below (10 ^ (l .i + 1)) x) (sym (c .byte .ensures)) (below-next (l .i) (l .d) _ (l .inv .1)),
+      subst (λ x. DigitsBelow (10 ^ (l .i + 1)) x) (sym (c .byte .ensures)) (below-next (l .i) (l .d) _ (l .inv .1)),
       ap (λ x. run x (take (8 - (l .i + 1)) (drop (a .at + (l .i + 1)) (a .s .now)))) (c .byte .ensures) ∙ sym (run-step (a .s .now) (l .d) (a .at) (l .i) (omega arith) (omega arith)) ∙ l .inv .2,
     )
 

@@ -1,9 +1,10 @@
 use mathlib.Core.Path.{subst, sym, ap, _∙_}
 use borrow.Author.Needs.{needs}
+use Rattle.sheet_format.specs.Limits.{field-end}
 use Rattle.list_laws.proofs.Words.{back}
 use Rattle.sheet_format.specs.Field.{told}
 use Rattle.sheet_format.specs.declared.Field.the-variants.{Number}
-use Rattle.sheet_fields.specs.Below.{Below}
+use Rattle.sheet_fields.specs.Below.{DigitsBelow}
 use Rattle.sheet_fields.proofs.told.Statement.{statement}
 use Rattle.sheet_fields.proofs.told.Tie as tie
 
@@ -11,7 +12,7 @@ enum-known-d : tie.Need-enum-known-d
 enum-known-d c = search needs
 
 signed-requires : tie.Need-signed-requires
-signed-requires c κs = subst (Below 100000000) (c .before .d .given .1) (c .before .before .before .pre)
+signed-requires c κs = subst (DigitsBelow field-end) (c .before .d .given .1) (c .before .before .before .pre)
 
 enum-told : tie.Need-enum-told
 enum-told c = search needs

@@ -6,7 +6,7 @@ use Rattle.list_laws.proofs.Words.{word-back}
 use Rattle.sheet_format.specs.Cause.{kindOf}
 use Rattle.sheet_format.specs.Line.{wordLine}
 use Rattle.sheet_format.specs.declared.Step.the-variants.{Goes}
-use Rattle.sheet_line_causes.specs.Parts.{Counted, fields}
+use Rattle.sheet_line_causes.specs.Parts.{CountedFields, fields}
 use Rattle.sheet_line_causes.proofs.Lines.{counted, room, step-malformed, step-stops, step-goes}
 use borrow.Author.Needs.{needs}
 use Rattle.sheet_line_causes.proofs.step.Statement.{statement}
@@ -15,7 +15,7 @@ use Rattle.sheet_line_causes.proofs.step.Tie as tie
 seven : (c : tie.After-count-arg) → length (c .before .args .l .now) ≡ 7
 seven c = search needs
 
-known : (c : tie.Else1) → Counted (c .before .before .before .args .l .now) (c .before .count .result)
+known : (c : tie.Else1) → CountedFields (c .before .before .before .args .l .now) (c .before .count .result)
 known c =
     let s = c .before .before .before in
     counted (s .args .l .now) (c .before .count .result) (seven (c .before .before)) (c .before .count .ensures) (c .if1 .left)

@@ -2,13 +2,15 @@ use mathlib.Core.Path.{sym}
 use Prim.Native.Nat.{_*_}
 use native.Mathlib.Omega.{arith}
 use lib.Seq.{length-take-le}
+use lib.ListN.{length}
+use Rattle.sheet_format.proofs.Returned.{read-numbers}
 use Rattle.sheet_reader.proofs.Endings.{read-long, read-refused, read-short, read-fits, read-done}
 use borrow.Author.Needs.{needs}
 use Rattle.sheet_reader.proofs.read.Statement.{statement}
 use Rattle.sheet_reader.proofs.read.Tie as tie
 
 returns : tie.Need-returns
-returns c = read-long (c .before .before .args .sheet .now) (c .before .before .args .out .now) (c .if1 .taken)
+returns c = let a = c .before .before .args in read-numbers (a .sheet .now) (length (a .out .now)) (read-long (c .before .before .args .sheet .now) (c .before .before .args .out .now) (c .if1 .taken))
 
 slice-aggregate-parse : tie.Need-slice-aggregate-parse
 slice-aggregate-parse c = search needs
@@ -36,13 +38,13 @@ returns-2 : tie.Need-returns-2
 returns-2 c =
     let a = c .before .before .before .before .before .before .before .before .before .args in
     let p = c .before .before .before .before .before .parse in
-    read-refused (a .sheet .now) (p .last .1 .0) (p .result) (p .ensures) (c .before .before .before .before .before .before .before .if1 .left) (a .out .now) (c .before .before .refusal .result) (c .before .before .refusal .ensures) (c .if2 .taken)
+    read-numbers (a .sheet .now) (length (a .out .now)) (read-refused (a .sheet .now) (p .last .1 .0) (p .result) (p .ensures) (c .before .before .before .before .before .before .before .if1 .left) (a .out .now) (c .before .before .refusal .result) (c .before .before .refusal .ensures) (c .if2 .taken))
 
 returns-3 : tie.Need-returns-3
 returns-3 c =
     let a = c .before .before .before .before .before .before .before .before .before .before .args in
     let p = c .before .before .before .before .before .before .parse in
-    read-short (a .sheet .now) (p .last .1 .0) (p .result) (p .ensures) (c .before .before .before .before .before .before .before .before .if1 .left) (a .out .now) (c .before .before .before .refusal .result) (c .before .before .before .refusal .ensures) (c .before .if2 .left) (c .if3 .taken)
+    read-numbers (a .sheet .now) (length (a .out .now)) (read-short (a .sheet .now) (p .last .1 .0) (p .result) (p .ensures) (c .before .before .before .before .before .before .before .before .if1 .left) (a .out .now) (c .before .before .before .refusal .result) (c .before .before .before .refusal .ensures) (c .before .if2 .left) (c .if3 .taken))
 
 slice-aggregate-copy : tie.Need-slice-aggregate-copy
 slice-aggregate-copy c = search needs
@@ -67,7 +69,7 @@ returns-4 : tie.Need-returns-4
 returns-4 c =
     let a = c .before .before .before .before .before .before .before .before .before .before .before .before .before .before .args in
     let p = c .before .before .before .before .before .before .before .before .before .before .parse in
-    read-done (a .sheet .now) (p .last .1 .0) (p .result) (p .ensures) (c .before .before .before .before .before .before .before .before .before .before .before .before .if1 .left) (a .out .now) (c .before .copy .last .1 .1 .0) (c .before .before .before .before .before .before .before .refusal .result) (c .before .before .before .before .before .before .before .refusal .ensures) (c .before .before .before .before .before .if2 .left) (c .before .before .before .before .if3 .left) (c .before .copy .ensures)
+    read-numbers (a .sheet .now) (length (a .out .now)) (read-done (a .sheet .now) (p .last .1 .0) (p .result) (p .ensures) (c .before .before .before .before .before .before .before .before .before .before .before .before .if1 .left) (a .out .now) (c .before .copy .last .1 .1 .0) (c .before .before .before .before .before .before .before .refusal .result) (c .before .before .before .before .before .before .before .refusal .ensures) (c .before .before .before .before .before .if2 .left) (c .before .before .before .before .if3 .left) (c .before .copy .ensures))
 
 pub read-spec : {M : Type 1} → statement M
 read-spec =

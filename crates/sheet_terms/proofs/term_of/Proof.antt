@@ -3,6 +3,7 @@ use mathlib.Core.Path.{_≡_, sym, ap, _∙_}
 use Prim.Native.Nat.{ℕ, suc, _<_}
 use native.Mathlib.Omega.{arith}
 use lib.IntN.{pos, negsuc, _-ℤ_}
+use Rattle.sheet_format.specs.Limits.{constant-end}
 use Rattle.list_laws.proofs.Words.{back, to-pos}
 use Rattle.sheet_format.specs.Cause.{termOf}
 use Rattle.sheet_terms.proofs.Laws.{variable, term-variable, term-low, constant, term-constant, term-high}
@@ -14,7 +15,7 @@ negative c =
     let h = c .before .before .fits .t in
     variable (c .before .before .args .t) (rw (back h) at (c .before .if1 .taken)) (rw (back h) at (c .if2 .left))
 
-natural : (c : tie.Then3) → (n : ℕ) × (n < 1000000) × (c .before .before .args .t ≡ pos n)
+natural : (c : tie.Then3) → (n : ℕ) × (n < constant-end) × (c .before .before .args .t ≡ pos n)
 natural c =
     let h = c .before .before .fits .t in
     constant (c .before .before .args .t) (rw (back h) at (c .before .if1 .left)) (rw (back h) at (c .if3 .taken))

@@ -1,4 +1,6 @@
 -- `given::gives_at` meets its contract: the block's copy is the block. Assumes nothing.
+use Rattle.sheet_format.specs.Limits.{most-atoms}
+use Rattle.tableau_layout.specs.Layout.{sizes-at}
 use Rattle.query_answers.specs.Answers.{GivesBy}
 use mathlib.Core.Path.{subst}
 use Prim.Native.Nat.{_+_, min}
@@ -25,7 +27,7 @@ gives-requires c κs = search needs
 returns : tie.Need-returns
 returns c = λ size.
     let s = c .before .before .before .before .before in
-    subst (λ l. GivesBy (c .gives .result) l (min (getD (s .args .p .now) (1170 + s .args .b) 0) 6) (s .args .facts .now) (s .args .row)) (c .before .before .before .block-at .ensures (search needs) size) (c .gives .ensures)
+    subst (λ l. GivesBy (c .gives .result) l (min (getD (s .args .p .now) (sizes-at + s .args .b) 0) most-atoms) (s .args .facts .now) (s .args .row)) (c .before .before .before .block-at .ensures (search needs) size) (c .gives .ensures)
 
 pub gives-at-spec : {M : Type 1} → statement M
 gives-at-spec =

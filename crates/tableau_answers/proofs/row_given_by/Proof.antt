@@ -1,5 +1,6 @@
 -- `given::row_given_by` meets its contract: the view and the values of a listed row are read off the plan. Assumes nothing.
 use mathlib.Core.Path.{subst}
+use Rattle.tableau_layout.specs.Layout.{view-block}
 use Rattle.tableau_plan.specs.Plan.{rowValues}
 use Rattle.tableau_parts.specs.Walks.{GivesAtBy}
 use Prim.Native.Nat.{_+_}
@@ -35,8 +36,8 @@ returns-3 c = λ ready lt.
     let a = c .before .before .before .before .before .before .args in
     let v = c .before .before .before .view-at in
     let r = c .gives-at-by .result in
-    subst (λ v. GivesAtBy r (a .p .now) (2 + v) (a .facts .now) (rowValues (a .p .now) (a .i))) (v .ensures (search needs))
-    (subst (λ u. GivesAtBy r (a .p .now) (2 + v .result) (a .facts .now) u) (c .before .values-at .ensures (search needs)) (c .gives-at-by .ensures (ready .size)))
+    subst (λ v. GivesAtBy r (a .p .now) (view-block v) (a .facts .now) (rowValues (a .p .now) (a .i))) (v .ensures (search needs))
+    (subst (λ u. GivesAtBy r (a .p .now) (view-block (v .result)) (a .facts .now) u) (c .before .values-at .ensures (search needs)) (c .gives-at-by .ensures (ready .size)))
 
 pub row-given-by-spec : {M : Type 1} → statement M
 row-given-by-spec =

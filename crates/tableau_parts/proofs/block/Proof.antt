@@ -1,4 +1,6 @@
 -- `views::block` meets its contract: the loop's invariant: the first i numbers are copied. The measure is what is left of them. Assumes nothing.
+use Rattle.tableau_layout.specs.Layout.{blocks-at}
+use Rattle.query_layout.specs.Layout.{block-width}
 use Rattle.list_laws.specs.Kept.{Filled}
 use Rattle.list_laws.proofs.Lists.{part-is}
 use Rattle.list_laws.proofs.Ranges.{filled-none, filled-more}
@@ -11,10 +13,10 @@ use Rattle.tableau_parts.proofs.block.Statement.{statement}
 use Rattle.tableau_parts.proofs.block.Tie as tie
 
 abbrev Inv-loop : tie.InvT-loop
-Inv-loop p b r₀ i₀ r i = (length r₀ ≡ 34) × (i ≤ 34) × Filled 0 r₀ r 0 i (λ k. getD p (830 + b * 34 + k) 0)
+Inv-loop p b r₀ i₀ r i = (length r₀ ≡ block-width) × (i ≤ block-width) × Filled 0 r₀ r 0 i (λ k. getD p (blocks-at + b * block-width + k) 0)
 
 abbrev μ-loop : tie.MeasureT-loop
-μ-loop p b r₀ i₀ r i = 34 - i
+μ-loop p b r₀ i₀ r i = block-width - i
 
 loop-holds : tie.Need-loop-holds Inv-loop μ-loop
 loop-holds c = (search needs, omega arith, filled-none _ 0 _)
@@ -50,7 +52,7 @@ loop-again : tie.Need-loop-again Inv-loop μ-loop
 loop-again c =
     let l = c .before .before .loop in
     let a = c .before .before .before .args in
-    (l .inv .0, omega arith, filled-more _ (l .r) 0 (l .i) (getD (a .p .now) (830 + a .b * 34 + l .i) 0) _ (omega arith) (omega arith) refl (l .inv .2))
+    (l .inv .0, omega arith, filled-more _ (l .r) 0 (l .i) (getD (a .p .now) (blocks-at + a .b * block-width + l .i) 0) _ (omega arith) (omega arith) refl (l .inv .2))
 
 returns : tie.Need-returns Inv-loop μ-loop
 returns c =
@@ -58,7 +60,7 @@ returns c =
     let a = c .before .before .args in
     λ size.
     let n = l .inv .2 .kept .same in
-    part-is 0 (a .p .now) (l .r) (830 + a .b * 34) 34 (omega arith) (omega arith) (λ x lt. l .inv .2 .each x (omega arith) (omega arith))
+    part-is 0 (a .p .now) (l .r) (blocks-at + a .b * block-width) block-width (omega arith) (omega arith) (λ x lt. l .inv .2 .each x (omega arith) (omega arith))
 
 pub block-spec : {M : Type 1} → statement M
 block-spec =

@@ -4,6 +4,7 @@ use mathlib.Core.Path.{sym, ap}
 use Prim.Native.Nat.{_+_, _*_}
 use lib.ListN.{getD}
 use borrow.Author.Needs.{needs}
+use Rattle.tableau_layout.specs.Layout.{rows-at}
 use Rattle.tableau_parts.proofs.view_of.Statement.{statement}
 use Rattle.tableau_parts.proofs.view_of.Tie as tie
 
@@ -20,7 +21,7 @@ element-copy-out-result : tie.Need-element-copy-out-result
 element-copy-out-result c = search needs
 
 returns : tie.Need-returns
-returns c = ap (λ k. getD (c .before .args .p .now) k 0) (sym (add-zero (630 + c .before .args .i * 5)))
+returns c = ap (λ k. getD (c .before .args .p .now) k 0) (sym (add-zero (rows-at + c .before .args .i * 5)))
 
 pub view-of-spec : {M : Type 1} → statement M
 view-of-spec =

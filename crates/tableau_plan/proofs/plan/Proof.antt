@@ -16,31 +16,24 @@ use Rattle.tableau_plan.proofs.put_counts.Reads as put-counts-reads
 use Rattle.tableau_plan.proofs.put_rows.Reads as put-rows-reads
 use Rattle.tableau_plan.proofs.put_tableau.Reads as put-tableau-reads
 
--- src/lib.rt:284:9
 returns : tie.Need-returns
 returns c = (λ long. absurd (c .if1 .taken long), λ _. refl)
 
--- src/lib.rt:286:9
 put-blocks-requires : tie.Need-put-blocks-requires
 put-blocks-requires c κs = search needs
 
--- src/lib.rt:287:9
 put-rows-requires : tie.Need-put-rows-requires
 put-rows-requires c κs = search needs
 
--- src/lib.rt:288:9
 put-tableau-requires : tie.Need-put-tableau-requires
 put-tableau-requires c κs = search needs
 
--- src/lib.rt:289:5
 put-counts-requires : tie.Need-put-counts-requires
 put-counts-requires c κs = search needs
 
--- src/lib.rt:280:1
 same-length : tie.Need-same-length
 same-length c = search needs
 
--- src/lib.rt:280:1
 returns-2 : tie.Need-returns-2
 returns-2 c = (
   λ long ok.

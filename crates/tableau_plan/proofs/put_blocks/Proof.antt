@@ -4,18 +4,19 @@ use Prim.Native.Nat.{_≤_, _-_}
 use native.Mathlib.Omega.{arith}
 use borrow.Author.Needs.{needs}
 use lib.ListN.{length}
+use Rattle.tableau_layout.specs.Layout.{most-blocks, plan-numbers}
 use Rattle.sheet_format.specs.Line.{wordLines}
-use Rattle.tableau_plan.specs.Parts.{Accepted}
+use Rattle.query_blocks.specs.Parts.{AcceptedLines}
 use Rattle.tableau_plan.proofs.Blocks.{Begun, begun-none, begun-more, begun-end, begun-all}
 use borrow.Author.Tests.{not-true, not-false}
 use Rattle.tableau_plan.proofs.put_blocks.Statement.{statement}
 use Rattle.tableau_plan.proofs.put_blocks.Tie as tie
 
 abbrev Inv-loop : tie.InvT-loop
-Inv-loop ws p₀ b₀ p b = (b ≤ 10) × (length p ≡ 1184) × (Accepted (wordLines ws) → Begun p (wordLines ws) b)
+Inv-loop ws p₀ b₀ p b = (b ≤ most-blocks) × (length p ≡ plan-numbers) × (AcceptedLines (wordLines ws) → Begun p (wordLines ws) b)
 
 abbrev μ-loop : tie.MeasureT-loop
-μ-loop ws p₀ b₀ p b = 10 - b
+μ-loop ws p₀ b₀ p b = most-blocks - b
 
 loop-holds : tie.Need-loop-holds Inv-loop μ-loop
 loop-holds c = (omega arith, c .before .pre, λ _. begun-none (c .before .args .p .now) (wordLines (c .before .args .ws .now)))

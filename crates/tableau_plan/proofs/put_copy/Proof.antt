@@ -3,6 +3,7 @@ use Prim.Native.Nat.{_+_, _*_}
 use native.Mathlib.Omega.{arith}
 use lib.ListN.{getD}
 use borrow.Author.Needs.{needs}
+use Rattle.tableau_layout.specs.Layout.{rows-at, sizes-at}
 use Rattle.list_laws.proofs.Ranges.{kept-none, kept-wide}
 use Rattle.tableau_plan.proofs.Copies.{copy-stored, copy-few}
 use Rattle.tableau_plan.proofs.put_copy.Statement.{statement}
@@ -29,7 +30,7 @@ returns c =
     let a = s .args in
     let o = c .before .before .source in (
       omega arith,
-      kept-none (a .p .now) 0 630,
+      kept-none (a .p .now) 0 rows-at,
       λ n bs lt d h.
           let (f, g) = copy-few (a .p .now) n bs (a .copy) (a .at) (o .result) (o .ensures .0 (d .low (a .copy) lt)) d lt (s .pre .1) h in
           absurd (omega arith),
@@ -47,7 +48,7 @@ returns-2 c =
     let a = s .args in
     let o = c .before .before .before .source in (
       omega arith,
-      kept-none (a .p .now) 0 630,
+      kept-none (a .p .now) 0 rows-at,
       λ n bs lt d h.
           let (f, g) = copy-few (a .p .now) n bs (a .copy) (a .at) (o .result) (o .ensures .0 (d .low (a .copy) lt)) d lt (s .pre .1) h in
           absurd (omega arith),
@@ -81,7 +82,7 @@ returns-3 c =
     let o = c .before .before .before .before .before .before .before .source in
     let w = c .before .before .put-atoms in (
       omega arith,
-      kept-wide (a .p .now) (w .last .0) (a .at * 5) (a .at * 5 + getD (a .p .now) (1170 + o .result) 0 * 5) 0 630 (omega arith) (omega arith) (w .ensures .0),
+      kept-wide (a .p .now) (w .last .0) (a .at * 5) (a .at * 5 + getD (a .p .now) (sizes-at + o .result) 0 * 5) 0 rows-at (omega arith) (omega arith) (w .ensures .0),
       λ n bs lt d h. copy-stored (a .p .now) (w .last .0) n bs (a .copy) (a .at) (o .result) (o .ensures .0 (d .low (a .copy) lt)) d lt (s .pre .1) h (w .ensures .0) (w .ensures .1),
     )
 

@@ -4,16 +4,17 @@ use Prim.Native.Nat.{_≤_, _-_, _+_}
 use native.Mathlib.Omega.{arith}
 use borrow.Author.Needs.{needs}
 use lib.ListN.{getD}
+use Rattle.query_layout.specs.Layout.{block-width}
 use Rattle.list_laws.proofs.Ranges.{shifted, placed-none, placed-more, placed-all}
 use Rattle.list_laws.specs.Kept.{Filled}
 use Rattle.tableau_plan.proofs.put_numbers.Statement.{statement}
 use Rattle.tableau_plan.proofs.put_numbers.Tie as tie
 
 abbrev Inv-loop : tie.InvT-loop
-Inv-loop p₀ at numbers x₀ p x = (x ≤ 34) × Filled 0 p₀ p at (at + x) (shifted at (λ y. getD numbers y 0))
+Inv-loop p₀ at numbers x₀ p x = (x ≤ block-width) × Filled 0 p₀ p at (at + x) (shifted at (λ y. getD numbers y 0))
 
 abbrev μ-loop : tie.MeasureT-loop
-μ-loop p₀ at numbers x₀ p x = 34 - x
+μ-loop p₀ at numbers x₀ p x = block-width - x
 
 loop-holds : tie.Need-loop-holds Inv-loop μ-loop
 loop-holds c = (omega arith, placed-none (c .args .p .now) (c .args .at) _)
@@ -52,7 +53,7 @@ returns : tie.Need-returns Inv-loop μ-loop
 returns c =
     let l = c .before .loop in
     let a = c .before .before .args in
-    placed-all (a .p .now) (l .p) (a .at) (l .x) 34 (λ y. getD (a .numbers .now) y 0) (omega arith) (l .inv .1)
+    placed-all (a .p .now) (l .p) (a .at) (l .x) block-width (λ y. getD (a .numbers .now) y 0) (omega arith) (l .inv .1)
 
 pub put-numbers-spec : {M : Type 1} → statement M
 put-numbers-spec =

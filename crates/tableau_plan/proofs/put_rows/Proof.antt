@@ -4,21 +4,24 @@ use Prim.Native.Nat.{_≤_, _-_, _/_}
 use native.Mathlib.Omega.{arith}
 use borrow.Author.Needs.{needs}
 use lib.ListN.{length}
+use Rattle.tableau_layout.specs.Layout.{blocks-at, rows-at}
+use Rattle.sheet_format.specs.Limits.{most-rows}
 use Rattle.list_laws.proofs.Ranges.{kept-none, kept-more}
 use Rattle.sheet_format.specs.Line.{wordLines}
-use Rattle.tableau_plan.specs.Parts.{Accepted, Kept, RowsDone}
+use Rattle.tableau_plan.specs.Parts.{KeptOutside, RowsDone}
+use Rattle.query_blocks.specs.Parts.{AcceptedLines}
 use Rattle.tableau_plan.proofs.Taken.{done-start}
 use Rattle.tableau_plan.proofs.put_rows.Statement.{statement}
 use Rattle.tableau_plan.proofs.put_rows.Tie as tie
 
 abbrev Inv-loop : tie.InvT-loop
-Inv-loop ws p₀ n walk₀ i₀ p walk i = (i ≤ length ws / 7) × (walk .views ≤ i) × (walk .rows ≤ 40) × Kept p₀ p 630 830 × (Accepted (wordLines ws) → RowsDone p (wordLines ws) i (walk .views) (walk .rows))
+Inv-loop ws p₀ n walk₀ i₀ p walk i = (i ≤ length ws / 7) × (walk .views ≤ i) × (walk .rows ≤ most-rows) × KeptOutside p₀ p rows-at blocks-at × (AcceptedLines (wordLines ws) → RowsDone p (wordLines ws) i (walk .views) (walk .rows))
 
 abbrev μ-loop : tie.MeasureT-loop
 μ-loop ws p₀ n walk₀ i₀ p walk i = n - i
 
 loop-holds : tie.Need-loop-holds Inv-loop μ-loop
-loop-holds c = (omega arith, omega arith, omega arith, kept-none (c .before .args .p .now) 630 830, λ _. done-start (c .before .args .p .now) (wordLines (c .before .args .ws .now)))
+loop-holds c = (omega arith, omega arith, omega arith, kept-none (c .before .args .p .now) rows-at blocks-at, λ _. done-start (c .before .args .p .now) (wordLines (c .before .args .ws .now)))
 
 take-line-requires : tie.Need-take-line-requires Inv-loop μ-loop
 take-line-requires c κs =
@@ -37,7 +40,7 @@ loop-again c =
     let l = c .before .before .before .before .before .loop in
     let a = c .before .before .before .before .before .before .before .args in
     let t = c .before .before .take-line in
-    (omega arith, t .ensures .0, t .ensures .1, kept-more (a .p .now) (l .p) (t .last .1 .1 .0) 630 830 (l .inv .3) (t .ensures .2), λ ok. t .ensures .3 ok (l .inv .4 ok))
+    (omega arith, t .ensures .0, t .ensures .1, kept-more (a .p .now) (l .p) (t .last .1 .1 .0) rows-at blocks-at (l .inv .3) (t .ensures .2), λ ok. t .ensures .3 ok (l .inv .4 ok))
 
 same-length : tie.Need-same-length Inv-loop μ-loop
 same-length c = c .before .loop .inv .3 .same

@@ -2,6 +2,7 @@
 use mathlib.Core.Path.{sym, _∙_}
 use native.Mathlib.Omega.{arith}
 use borrow.Author.Needs.{needs}
+use Rattle.tableau_layout.specs.Layout.{blocks-at, rows-at}
 use Rattle.list_laws.proofs.Ranges.{kept-none}
 use Rattle.sheet_format.proofs.WordLines.{lines-length}
 use Rattle.sheet_format.specs.Line.{wordLines}
@@ -27,7 +28,7 @@ returns c =
     let w = a .ws .now in
     let n = lines-length w in
     let k = c .before .number-at .ensures in
-    (omega arith, omega arith, kept-none (a .p .now) 630 830, λ ok h. done-view (a .p .now) (wordLines w) (a .i) (a .walk .views) (a .walk .rows) (omega arith) h (kind-view w (a .i) (omega arith) ok (sym k ∙ c .if1 .taken)))
+    (omega arith, omega arith, kept-none (a .p .now) rows-at blocks-at, λ ok h. done-view (a .p .now) (wordLines w) (a .i) (a .walk .views) (a .walk .rows) (omega arith) h (kind-view w (a .i) (omega arith) ok (sym k ∙ c .if1 .taken)))
 
 returns-2 : tie.Need-returns-2
 returns-2 c =
@@ -35,7 +36,7 @@ returns-2 c =
     let w = a .ws .now in
     let n = lines-length w in
     let k = c .before .before .number-at .ensures in
-    (omega arith, omega arith, kept-none (a .p .now) 630 830, λ ok h. done-other (a .p .now) (wordLines w) (a .i) (a .walk .views) (a .walk .rows) (omega arith) h (kind-no-view w (a .i) (omega arith) ok (λ e. c .before .if1 .left (k ∙ e))) (kind-no-row w (a .i) (omega arith) ok (λ e. c .if2 .taken (k ∙ e))))
+    (omega arith, omega arith, kept-none (a .p .now) rows-at blocks-at, λ ok h. done-other (a .p .now) (wordLines w) (a .i) (a .walk .views) (a .walk .rows) (omega arith) h (kind-no-view w (a .i) (omega arith) ok (λ e. c .before .if1 .left (k ∙ e))) (kind-no-row w (a .i) (omega arith) ok (λ e. c .if2 .taken (k ∙ e))))
 
 returns-3 : tie.Need-returns-3
 returns-3 c =
@@ -45,7 +46,7 @@ returns-3 c =
     let k = c .before .before .before .number-at .ensures in (
       omega arith,
       omega arith,
-      kept-none (a .p .now) 630 830,
+      kept-none (a .p .now) rows-at blocks-at,
       λ ok h.
           let f = few-listed (wordLines w) ok in
           let o = one-left (a .p .now) (wordLines w) (a .i) (a .walk .views) (a .walk .rows) (omega arith) h (kind-row w (a .i) (omega arith) ok (sym k ∙ c .before .if2 .left)) in

@@ -12,17 +12,35 @@ element-copy-out-value-of c = search needs
 value-of-requires : tie.Need-value-of-requires
 value-of-requires c κs = search needs
 
+add-value-of : tie.Need-add-value-of
+add-value-of c = search needs
+
+mul-value-of : tie.Need-mul-value-of
+mul-value-of c = search needs
+
 element-copy-out-value-of-2 : tie.Need-element-copy-out-value-of-2
 element-copy-out-value-of-2 c = search needs
 
 value-of-requires-2 : tie.Need-value-of-requires-2
 value-of-requires-2 c κs = search needs
 
+add-value-of-2 : tie.Need-add-value-of-2
+add-value-of-2 c = search needs
+
+mul-value-of-2 : tie.Need-mul-value-of-2
+mul-value-of-2 c = search needs
+
 element-copy-out-value-of-3 : tie.Need-element-copy-out-value-of-3
 element-copy-out-value-of-3 c = search needs
 
 value-of-requires-3 : tie.Need-value-of-requires-3
 value-of-requires-3 c κs = search needs
+
+add-value-of-3 : tie.Need-add-value-of-3
+add-value-of-3 c = search needs
+
+mul-value-of-3 : tie.Need-mul-value-of-3
+mul-value-of-3 c = search needs
 
 element-copy-out-value-of-4 : tie.Need-element-copy-out-value-of-4
 element-copy-out-value-of-4 c = search needs
@@ -53,10 +71,16 @@ head-is-spec =
     (tie.spec
     element-copy-out-value-of
     value-of-requires
+    add-value-of
+    mul-value-of
     element-copy-out-value-of-2
     value-of-requires-2
+    add-value-of-2
+    mul-value-of-2
     element-copy-out-value-of-3
     value-of-requires-3
+    add-value-of-3
+    mul-value-of-3
     element-copy-out-value-of-4
     value-of-requires-4
     same-requires

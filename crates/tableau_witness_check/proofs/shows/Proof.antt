@@ -3,6 +3,7 @@ use mathlib.Core.Bool.{true≢false}
 use mathlib.Core.Logic.{⊎-elim}
 use Prim.Native.Nat.{min}
 use borrow.Author.Tests.{not-false}
+use Rattle.sheet_format.specs.Limits.{most-atoms}
 use Rattle.tableau_parts.specs.Walks.{valued}
 use Rattle.tableau_parts.proofs.Laws.{shown}
 use mathlib.Core.Path.{_≡_, sym}
@@ -12,7 +13,7 @@ use Rattle.tableau_witness_check.proofs.shows.Statement.{statement}
 use Rattle.tableau_witness_check.proofs.shows.Tie as tie
 
 -- the number of atoms that are compared
-clamped : (c : tie.Joined1) → min (c .before .before .args .n) 6 ≡ c .if1 .most
+clamped : (c : tie.Joined1) → min (c .before .before .args .n) most-atoms ≡ c .if1 .most
 clamped c = ⊎-elim (λ w. rw (w .1) (omega arith)) (λ w. rw (w .1) (omega arith)) (c .if1 .came)
 
 values-by-requires : tie.Need-values-by-requires
