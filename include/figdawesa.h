@@ -12,7 +12,7 @@
  *   - No length and no content of what is passed is an error of the caller's: the answer is then a refusal.
  *   - A refusal changes nothing. Otherwise the results stand at the front of `out`, and what follows them is as it was.
  *   - Nothing is kept between calls, and nothing is allocated. Threads can call at the same time, each with an `out` of its own.
- *   - Stack: figdawesa_judge needed 230 KiB on the hardest sheets that were tried. Give its thread 256 KiB or more.
+ *   - Stack: give the thread that calls figdawesa_judge 256 KiB or more. No proof speaks of the stack; it is measured.
  */
 #ifndef FIGDAWESA_H
 #define FIGDAWESA_H
