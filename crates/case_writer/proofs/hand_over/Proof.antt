@@ -66,8 +66,10 @@ same-length c = search needs
 
 returns-3 : tie.Need-returns-3
 returns-3 c =
-    let s = c .before .before .before .before .before .before .before .before .before .before .before .before .before in
-    let f = c .before .before .before .before .before .before .before .before .before .spare-free in
+    let at-spare-free = c .before .before .before .before .before .before .before .before .before in
+    let way = at-spare-free .before .before .before .before in
+    let s = way in
+    let f = at-spare-free .spare-free in
     let m = c .before .before .before .before .before .missing in
     let w = c .before .before .put-facts in (
       (λ x r good room.

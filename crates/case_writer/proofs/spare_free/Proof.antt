@@ -28,8 +28,10 @@ same-length c = search needs
 
 returns : tie.Need-returns
 returns c =
-    let s = c .before .before .before .before .before .before .before .before .before .before .before .before .before .before in
-    let f = c .before .before .before .before .before .before .before .before .before .before .facts in
+    let at-facts = c .before .before .before .before .before .before .before .before .before .before in
+    let way = at-facts .before .before .before .before in
+    let s = way in
+    let f = at-facts .facts in
     let a = c .before .before .before .before .before .before .arrange in
     let k = c .before .before .shrink in
     λ x r good. spare-free-in (s .args .p .now) x r (s .args .st .now) good (s .args .room .now) (f .last .1 .1 .1 .0) (a .last .0) (k .last .1 .0) (f .result) (a .result) (k .result) (s .pre) (f .kept .1 .1 .1 .0) (a .kept .0) (f .ensures) (a .ensures) (k .ensures)

@@ -82,8 +82,10 @@ same-length c = search needs
 
 returns-2 : tie.Need-returns-2
 returns-2 c =
-    let a = c .before .before .before .before .before .before .before .before .before .before .before .args in
-    let rd = c .before .before .before .before .before .before .before .before .read in
+    let at-read = c .before .before .before .before .before .before .before .before in
+    let start = at-read .before .before .before in
+    let a = start .args in
+    let rd = at-read .read in
     let m = c .before .before .before .before .before .lines .given .0 .0 in
     let done = sym (rd .ensures .0) ∙ c .before .before .before .before .before .lines .given .1 in
     let f = few-lines (a .sheet .now) m done in

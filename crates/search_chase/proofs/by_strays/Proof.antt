@@ -68,10 +68,15 @@ same-length : tie.Need-same-length
 same-length c = search needs
 
 returns-3 : tie.Need-returns-3
-returns-3 c = λ ready room.
-    let s = c .before .before .before .before .before .before .before .before .before .before .before .before .before .before .before .before .before .before .before in
-    let t = c .before .before .before .before .before .before .before .before .before .before .before .before .before .before .find in
-    let some = not-false (t .result .some) (c .before .before .before .before .before .before .before .before .before .before .before .before .if1 .left) in
+returns-3 c =
+    let way = c .before .before .before .before .before .before .before .before .before .before in
+    let at-if1 = way .before .before in
+    let at-find = at-if1 .before .before in
+    let way-2 = at-find .before .before .before .before .before in
+    λ ready room.
+    let s = way-2 in
+    let t = at-find .find in
+    let some = not-false (t .result .some) (at-if1 .if1 .left) in
     let v = stray-is (s .args .p .now) (s .args .facts .now) (t .result .some) (t .result .view) (t .result .values) some (t .ensures .0 ready) in
     let w = t .ensures .1 ready some in
     let m = c .before .before .mark-facts .ensures (s .pre .0) (s .pre .1) (λ j lt. let z = w .inside j lt in omega arith) in

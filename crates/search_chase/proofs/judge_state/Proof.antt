@@ -60,15 +60,18 @@ by-facts-requires : tie.Need-by-facts-requires
 by-facts-requires c κs = search needs
 
 returns-2 : tie.Need-returns-2
-returns-2 c = λ x r pr.
-    let s = c .before .before .before .before .before .before .before .before .before .before .before .before .before in
+returns-2 c =
+    let at-start = c .before .before .before .before .before .before .before .before .before .before in
+    let way = at-start .before .before .before in
+    λ x r pr.
+    let s = way in
     let f = c .before .before .before .before .before .before .before .facts in
-    let b = c .before .before .before .before .before .before .before .before .before .before .start .ensures in
+    let b = at-start .start .ensures in
     let few = from-few (s .args .p .now) x r (s .args .goal) in
     let size = r .plan .few in
     let w = pr .size in
     let e = f .ensures (r .plan .size) (omega arith) size (omega arith) (omega arith) in
-    c .by-facts .ensures x r pr b (numbers-by (s .args .p .now) x r (s .args .goal) (stateOf top (s .args .st .now)) _ (c .before .before .before .before .before .before .before .before .before .before .start .result) (f .result) b (e .0) (e .1))
+    c .by-facts .ensures x r pr b (numbers-by (s .args .p .now) x r (s .args .goal) (stateOf top (s .args .st .now)) _ (at-start .start .result) (f .result) b (e .0) (e .1))
 
 pub judge-state-spec : {M : Type 1} → statement M
 judge-state-spec =

@@ -47,9 +47,12 @@ same-length : tie.Need-same-length
 same-length c = search needs
 
 returns-2 : tie.Need-returns-2
-returns-2 c = λ x r goal lt h.
-    let s = c .before .before .before .before .before .before .before .before .before .before .before .before in
-    let v = c .before .before .before .before .before .before .before .before .before .before .view-at .ensures (search needs) in
+returns-2 c =
+    let at-view-at = c .before .before .before .before .before .before .before .before .before .before in
+    let way = at-view-at .before .before in
+    λ x r goal lt h.
+    let s = way in
+    let v = at-view-at .view-at .ensures (search needs) in
     let u = c .before .before .before .before .before .before .before .head-of in
     let e = c .before .before .before .before .before .before .values-at .ensures (search needs) in
     let q = c .before .before .equate in

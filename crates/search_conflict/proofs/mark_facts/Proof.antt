@@ -99,8 +99,10 @@ loop-less c = search needs
 
 loop-again : tie.Need-loop-again Inv-loop μ-loop
 loop-again c =
-    let a = c .before .before .before .before .before .before .before .before .before .before .before .before .before .before .before .args in
-    let l = c .before .before .before .before .before .before .before .before .before .loop in
+    let at-loop = c .before .before .before .before .before .before .before .before .before in
+    let start = at-loop .before .before .before .before .before .before in
+    let a = start .args in
+    let l = at-loop .loop in
     let m = c .before .before .mark-atom in
     let z = c .before .before .before .before .before .before .before .before .loop-test .taken in
     let w = c .before .before .before .before .before .before .before .if3 .left in

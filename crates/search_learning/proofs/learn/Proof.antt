@@ -53,20 +53,32 @@ is-full-requires : tie.Need-is-full-requires
 is-full-requires c κs = search needs
 
 returns-4 : tie.Need-returns-4
-returns-4 c = let a = c .before .before .before .before .before .before .before .before .before .before .before .args in (λ x y. learned-none (a .u .now) (rowValues (a .p .now) (a .k)) (a .sl .now) (a .sm .now) (a .below .now), (refl, refl))
+returns-4 c =
+    let way = c .before .before .before .before .before .before .before .before .before .before in
+    let start = way .before in
+    let a = start .args in (λ x y. learned-none (a .u .now) (rowValues (a .p .now) (a .k)) (a .sl .now) (a .sm .now) (a .below .now), (refl, refl))
 
 sub-add : tie.Need-sub-add
-sub-add c = let m = c .before .before .before .before .before .before .before .before .before .before .before .before .made-up-column in m .ensures (let z = c .before .before .before .before .before .before .before .before .before .before .before .if1 .left in omega arith)
+sub-add c =
+    let way = c .before .before .before .before .before .before .before .before .before .before in
+    let at-if1 = way .before in
+    let at-made-up-column = at-if1 .before in
+    let m = at-made-up-column .made-up-column in m .ensures (let z = at-if1 .if1 .left in omega arith)
 
 add-requires : tie.Need-add-requires
 add-requires c κs = search needs
 
 returns-5 : tie.Need-returns-5
-returns-5 c = let a = c .before .before .before .before .before .before .before .before .before .before .before .before .before .before .args in
-    let m = c .before .before .before .before .before .before .before .before .before .before .before .before .before .made-up-column in
+returns-5 c =
+    let at-values-at = c .before .before .before .before .before .before .before .before .before .before in
+    let at-if1 = at-values-at .before .before in
+    let at-made-up-column = at-if1 .before in
+    let start = at-made-up-column .before in
+    let a = start .args in
+    let m = at-made-up-column .made-up-column in
     let v = getD (a .u .now) (m .result) 0 in
-    let le = m .ensures (let z = c .before .before .before .before .before .before .before .before .before .before .before .before .if1 .left in omega arith) in
-    let o = c .before .before .before .before .before .before .before .before .before .before .values-at in
+    let le = m .ensures (let z = at-if1 .if1 .left in omega arith) in
+    let o = at-values-at .values-at in
     let w = getD (o .result) (m .result) 0 in
     let alone = c .before .before .before .before .before .before .before .is-alone .ensures (not-false _ (c .before .before .before .before .before .before .if3 .left)) in
     let full = c .before .before .before .before .is-full .ensures (not-false _ (c .before .before .before .if4 .left)) in (

@@ -40,8 +40,10 @@ same-length c = search needs
 
 returns-5 : tie.Need-returns-5
 returns-5 c =
+    let way = c .before .before .before .before .before .before .before .before .before .before in
+    let start = way .before in
     let m = c .before .before .numbers in
-    let a = c .before .before .before .before .before .before .before .before .before .before .before .args in
+    let a = start .args in
     λ l f s w o.
     let k = m .kept .1 .1 .1 .1 .0 in
     (refl, facts-taken (a .p .now) (stateOf top (a .st .now)) (m .last .1 .1 .1 .1 .0) (a .from) (getD (a .p .now) tableau-size-at 0 - a .from) (omega arith) (m .ensures))

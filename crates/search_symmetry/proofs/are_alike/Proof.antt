@@ -83,20 +83,41 @@ returns-13 c = never
 
 are-copies-turned-requires : tie.Need-are-copies-turned-requires
 are-copies-turned-requires c κs =
-    (c .before .before .before .before .before .before .before .before .before .before .before .before .before .before .before .before .before .before .before .before .before .before .before .before .before .before .before .before .before .before .before .before .before .before .before .if1 .left, c .before .before .before .before .before .before .before .before .before .before .before .before .before .before .before .before .before .before .before .before .before .before .before .before .before .before .before .before .before .before .before .before .before .before .if2 .left, (ap length ((let v = c .before .before .before .before .before .before .before .before .before .before .before .before .before .before .before .before .before .before .before .before .before .before .before .before .before .before in v .values-at .ensures (omega (arith, v .before .before .before .if5 .left, v .before .before .before .before .before .if3 .left)))), ap length ((let v = c .before .before .before .before .before .before .before .before .before .before .before .before .before .before .before .before .before .before .before .before .before .before .before .before .before .before in c .before .before .before .before .before .before .before .before .before .before .before .before .before .before .before .before .before .before .before .before .before .before .before .before .before .values-at2 .ensures (omega (arith, v .before .before .if6 .left, v .before .before .before .before .before .if3 .left))))), c .before .before .before .before .before .before .before .come-back .ensures (not-false _ (c .before .before .before .before .before .before .if12 .left)))
+    let way = c .before .before .before .before .before .before .before .before .before .before in
+    let way-2 = way .before .before .before .before .before .before .before .before .before .before in
+    let at-values-at2 = way-2 .before .before .before .before .before in
+    let way-3 = at-values-at2 .before in
+    let at-if2 = way-3 .before .before .before .before .before .before .before .before in
+    let at-if1 = at-if2 .before in
+    (at-if1 .if1 .left, at-if2 .if2 .left, (ap length ((let v = way-3 in v .values-at .ensures (omega (arith, v .before .before .before .if5 .left, v .before .before .before .before .before .if3 .left)))), ap length ((let v = way-3 in at-values-at2 .values-at2 .ensures (omega (arith, v .before .before .if6 .left, v .before .before .before .before .before .if3 .left))))), c .before .before .before .before .before .before .before .come-back .ensures (not-false _ (c .before .before .before .before .before .before .if12 .left)))
 
 returns-14 : tie.Need-returns-14
-returns-14 c = λ e.
-    let a = c .before .before .before .before .before .before .before .before .before .before .before .before .before .before .before .before .before .before .before .before .before .before .before .before .before .before .before .before .before .before .before .before .before .before .before .before .before .before .before .before .args in
-    all-found (a .p .now) (a .ws .now) (a .lv .now) (a .marks .now) (a .u .now) (a .one) (a .other) (c .before .before .before .before .before .before .before .before .before .before .before .write-rows .last .1 .1 .1 .1 .0)
-    (c .before .before .before .before .before .before .before .before .before .before .before .before .before .before .before .before .before .before .before .before .before .before .before .before .before .before .before .values-at .result) (c .before .before .before .before .before .before .before .before .before .before .before .before .before .before .before .before .before .before .before .before .before .before .before .before .before .before .values-at2 .result) ((let v = c .before .before .before .before .before .before .before .before .before .before .before .before .before .before .before .before .before .before .before .before .before .before .before .before .before .before .before in v .values-at .ensures (omega (arith, v .before .before .before .if5 .left, v .before .before .before .before .before .if3 .left)))) ((let v = c .before .before .before .before .before .before .before .before .before .before .before .before .before .before .before .before .before .before .before .before .before .before .before .before .before .before .before in c .before .before .before .before .before .before .before .before .before .before .before .before .before .before .before .before .before .before .before .before .before .before .before .before .before .before .values-at2 .ensures (omega (arith, v .before .before .if6 .left, v .before .before .before .before .before .if3 .left))))
-    (c .before .before .before .before .before .before .before .before .before .before .before .before .before .before .before .before .before .before .before .before .before .before .before .before .before .before .before .before .before .before .if5 .left) (c .before .before .before .before .before .before .before .before .before .before .before .before .before .before .before .before .before .before .before .before .before .before .before .before .before .before .before .before .before .if6 .left) (c .before .before .before .before .before .before .before .before .before .before .before .before .before .before .before .before .before .before .before .before .before .before .before .before .before .before .before .before .before .before .before .before .if3 .left)
+returns-14 c =
+    let at-if11 = c .before .before .before .before .before .before .before .before .before .before in
+    let at-write-rows = at-if11 .before in
+    let at-if10 = at-write-rows .before .before .before .before in
+    let at-stays = at-if10 .before in
+    let at-if9 = at-stays .before .before .before in
+    let at-is-swapped = at-if9 .before in
+    let at-if8 = at-is-swapped .before .before .before in
+    let at-agrees = at-if8 .before in
+    let at-values-at2 = at-agrees .before .before in
+    let at-values-at = at-values-at2 .before in
+    let at-if6 = at-values-at .before .before in
+    let at-if5 = at-if6 .before in
+    let at-if3 = at-if5 .before .before in
+    let start = at-if3 .before .before .before .before .before .before .before .before in
+    λ e.
+    let a = start .args in
+    all-found (a .p .now) (a .ws .now) (a .lv .now) (a .marks .now) (a .u .now) (a .one) (a .other) (at-write-rows .write-rows .last .1 .1 .1 .1 .0)
+    (at-values-at .values-at .result) (at-values-at2 .values-at2 .result) ((let v = at-values-at in v .values-at .ensures (omega (arith, v .before .before .before .if5 .left, v .before .before .before .before .before .if3 .left)))) ((let v = at-values-at in at-values-at2 .values-at2 .ensures (omega (arith, v .before .before .if6 .left, v .before .before .before .before .before .if3 .left))))
+    (at-if5 .if5 .left) (at-if6 .if6 .left) (at-if3 .if3 .left)
     (c .before .before .before .before .before .before .before .before .come-back .ensures (not-false _ (c .before .before .before .before .before .before .before .if12 .left)))
     (c .before .before .before .before .before .is-unmoved .ensures (not-false _ (c .before .before .before .before .if13 .left)))
-    (c .before .before .before .before .before .before .before .before .before .before .before .before .before .before .before .before .before .before .before .before .before .before .before .before .agrees .ensures (not-false _ (c .before .before .before .before .before .before .before .before .before .before .before .before .before .before .before .before .before .before .before .before .before .before .before .if8 .left)))
-    (c .before .before .before .before .before .before .before .before .before .before .before .before .before .before .before .before .before .before .before .before .is-swapped .ensures (not-false _ (c .before .before .before .before .before .before .before .before .before .before .before .before .before .before .before .before .before .before .before .if9 .left)))
-    (c .before .before .before .before .before .before .before .before .before .before .before .before .before .before .before .before .stays .ensures (not-false _ (c .before .before .before .before .before .before .before .before .before .before .before .before .before .before .before .if10 .left)))
-    (c .before .before .before .before .before .before .before .before .before .before .before .write-rows .ensures (not-false _ (c .before .before .before .before .before .before .before .before .before .before .if11 .left)))
+    (at-agrees .agrees .ensures (not-false _ (at-if8 .if8 .left)))
+    (at-is-swapped .is-swapped .ensures (not-false _ (at-if9 .if9 .left)))
+    (at-stays .stays .ensures (not-false _ (at-if10 .if10 .left)))
+    (at-write-rows .write-rows .ensures (not-false _ (at-if11 .if11 .left)))
     (c .are-copies-turned .ensures e)
 
 pub are-alike-spec : {M : Type 1} → statement M

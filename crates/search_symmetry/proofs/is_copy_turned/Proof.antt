@@ -85,8 +85,10 @@ loop-less-3 c = omega arith
 
 loop-again-3 : tie.Need-loop-again-3 Inv-loop μ-loop
 loop-again-3 c =
-    let a = c .before .before .before .before .before .before .before .before .before .before .before .before .before .before .args in
-    let l = c .before .before .before .before .before .before .before .before .before .before .loop in
+    let at-loop = c .before .before .before .before .before .before .before .before .before .before in
+    let start = at-loop .before .before .before .before in
+    let a = start .args in
+    let l = at-loop .loop in
     let t = c .before .before .before .before .before .before .before .before .before .loop-test .taken in
     (omega arith, copy-more (a .ws .now) (a .lv .now) (a .marks .now) (a .a .now) (a .b .now) (a .k) (a .m) (l .x) (l .inv .1) (λ h lt. (sym (c .before .before .before .before .is-kept2 .ensures) ∙ not-false _ (c .before .before .before .if3 .left), c .if4 .left ∙ c .before .turn .ensures)))
 

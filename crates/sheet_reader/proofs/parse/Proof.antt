@@ -76,8 +76,10 @@ same-length-3 c =
 
 returns-3 : tie.Need-returns-3 Inv-loop μ-loop
 returns-3 c =
-    let l = c .before .before .before .before .before .before .before .before .before .before .loop in
-    let s = c .before .before .before .before .before .before .before .before .before .before .before .before .args .s .now in
+    let at-loop = c .before .before .before .before .before .before .before .before .before .before in
+    let start = at-loop .before .before in
+    let l = at-loop .loop in
+    let s = start .args .s .now in
     let e = c .before .before .before .before .before .before .before .line-end .result in
     let f = l .inv .few in
     let i = c .before .before .before .before .before .before .before .before .if1 .left in
@@ -90,8 +92,10 @@ returns-3 c =
 
 add-at : tie.Need-add-at Inv-loop μ-loop
 add-at c =
-    let l = c .before .before .before .before .before .before .before .before .before .before .loop in
-    let s = c .before .before .before .before .before .before .before .before .before .before .before .before .args .s .now in
+    let at-loop = c .before .before .before .before .before .before .before .before .before .before in
+    let start = at-loop .before .before in
+    let l = at-loop .loop in
+    let s = start .args .s .now in
     let e = c .before .before .before .before .before .before .before .line-end .result in
     let f = l .inv .few in
     let i = c .before .before .before .before .before .before .before .before .if1 .left in
@@ -101,8 +105,10 @@ add-at c =
 
 loop-less : tie.Need-loop-less Inv-loop μ-loop
 loop-less c =
-    let l = c .before .before .before .before .before .before .before .before .before .before .loop in
-    let s = c .before .before .before .before .before .before .before .before .before .before .before .before .args .s .now in
+    let at-loop = c .before .before .before .before .before .before .before .before .before .before in
+    let start = at-loop .before .before in
+    let l = at-loop .loop in
+    let s = start .args .s .now in
     let e = c .before .before .before .before .before .before .before .line-end .result in
     let f = l .inv .few in
     let i = c .before .before .before .before .before .before .before .before .if1 .left in
@@ -112,8 +118,10 @@ loop-less c =
 
 loop-again : tie.Need-loop-again Inv-loop μ-loop
 loop-again c =
-    let l = c .before .before .before .before .before .before .before .before .before .before .loop in
-    let s = c .before .before .before .before .before .before .before .before .before .before .before .before .args .s .now in
+    let at-loop = c .before .before .before .before .before .before .before .before .before .before in
+    let start = at-loop .before .before in
+    let l = at-loop .loop in
+    let s = start .args .s .now in
     let e = c .before .before .before .before .before .before .before .line-end .result in
     let f = l .inv .few in
     let i = c .before .before .before .before .before .before .before .before .if1 .left in

@@ -54,12 +54,14 @@ mul-copy c = search needs
 
 copy-requires : tie.Need-copy-requires
 copy-requires c κs =
+    let at-if1 = c .before .before .before .before .before .before .before .before .before .before in
+    let start = at-if1 .before .before in
     let p = c .before .before .before .before .before .before .before .before .parse in
     let k = p .kept .1 .0 in
     let f = p .ensures .few in
     let h = c .before .before .if3 .left in
-    let a = c .before .before .before .before .before .before .before .before .before .before .before .before .args in
-    let n = read-fits (a .sheet .now) (p .last .1 .0) (p .result) (p .ensures) (c .before .before .before .before .before .before .before .before .before .before .if1 .left) (c .before .before .before .before .before .refusal .result) (c .before .before .before .before .before .refusal .ensures) (c .before .before .before .if2 .left) in
+    let a = start .args in
+    let n = read-fits (a .sheet .now) (p .last .1 .0) (p .result) (p .ensures) (at-if1 .if1 .left) (c .before .before .before .before .before .refusal .result) (c .before .before .before .before .before .refusal .ensures) (c .before .before .before .if2 .left) in
     (omega arith, omega arith)
 
 same-length : tie.Need-same-length
@@ -67,9 +69,12 @@ same-length c = search needs
 
 returns-4 : tie.Need-returns-4
 returns-4 c =
-    let a = c .before .before .before .before .before .before .before .before .before .before .before .before .before .before .args in
-    let p = c .before .before .before .before .before .before .before .before .before .before .parse in
-    read-numbers (a .sheet .now) (length (a .out .now)) (read-done (a .sheet .now) (p .last .1 .0) (p .result) (p .ensures) (c .before .before .before .before .before .before .before .before .before .before .before .before .if1 .left) (a .out .now) (c .before .copy .last .1 .1 .0) (c .before .before .before .before .before .before .before .refusal .result) (c .before .before .before .before .before .before .before .refusal .ensures) (c .before .before .before .before .before .if2 .left) (c .before .before .before .before .if3 .left) (c .before .copy .ensures))
+    let at-parse = c .before .before .before .before .before .before .before .before .before .before in
+    let at-if1 = at-parse .before .before in
+    let start = at-if1 .before .before in
+    let a = start .args in
+    let p = at-parse .parse in
+    read-numbers (a .sheet .now) (length (a .out .now)) (read-done (a .sheet .now) (p .last .1 .0) (p .result) (p .ensures) (at-if1 .if1 .left) (a .out .now) (c .before .copy .last .1 .1 .0) (c .before .before .before .before .before .before .before .refusal .result) (c .before .before .before .before .before .before .before .refusal .ensures) (c .before .before .before .before .before .if2 .left) (c .before .before .before .before .if3 .left) (c .before .copy .ensures))
 
 pub read-spec : {M : Type 1} → statement M
 read-spec =

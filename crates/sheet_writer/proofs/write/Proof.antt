@@ -35,7 +35,9 @@ same-length c = search needs
 
 returns-5 : tie.Need-returns-5
 returns-5 c =
-    let a = c .before .before .before .before .before .before .before .before .before .before .before .args in write-numbers (a .words .now) (length (a .out .now)) (write-done (a .words .now) (a .out .now) (c .before .before .before .before .before .before .before .before .before .if1 .left) (c .before .before .before .before .before .before .before .before .if2 .left) (c .before .before .before .before .before .before .before .refusal .result) (c .before .before .before .before .before .before .before .refusal .ensures) (c .before .before .before .before .before .if3 .left) (c .before .before .before .before .if4 .left) (c .before .before .put-lines .last .1 .0) (c .before .before .put-lines .result) (c .before .before .put-lines .ensures))
+    let at-if1 = c .before .before .before .before .before .before .before .before .before in
+    let start = at-if1 .before .before in
+    let a = start .args in write-numbers (a .words .now) (length (a .out .now)) (write-done (a .words .now) (a .out .now) (at-if1 .if1 .left) (c .before .before .before .before .before .before .before .before .if2 .left) (c .before .before .before .before .before .before .before .refusal .result) (c .before .before .before .before .before .before .before .refusal .ensures) (c .before .before .before .before .before .if3 .left) (c .before .before .before .before .if4 .left) (c .before .before .put-lines .last .1 .0) (c .before .before .put-lines .result) (c .before .before .put-lines .ensures))
 
 pub write-spec : {M : Type 1} → statement M
 write-spec =

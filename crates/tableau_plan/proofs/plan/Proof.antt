@@ -35,18 +35,22 @@ same-length : tie.Need-same-length
 same-length c = search needs
 
 returns-2 : tie.Need-returns-2
-returns-2 c = (
-  λ long ok.
-      let w = c .before .before .before .before .before .before .before .before .before .before .before .before .before .before .before .before .before .before .args .ws .now in
-      let b = c .before .before .before .before .before .before .before .before .before .before .before .before .before .before .put-blocks in
-      let r = c .before .before .before .before .before .before .before .before .before .before .put-rows in
-      let t = c .before .before .before .before .before .before .put-tableau in
-      let n = c .before .before .put-counts in
-      let l = lines-length w in
-      let (v, d) = r .ensures .2 ok in
-      plan-of (wordLines w) ok (b .last .1 .0) (r .last .1 .0) (t .last .0) (n .last .0) (b .result) (length w / 7) v (r .result) (t .result) (b .ensures .0) (b .ensures .1 ok) (r .ensures .1) (r .ensures .0) (omega arith) d (t .ensures .1) (t .ensures .0) (t .ensures .2) (n .ensures),
-  λ other. absurd (other (c .before .before .before .before .before .before .before .before .before .before .before .before .before .before .before .before .if1 .left)),
-)
+returns-2 c =
+    let at-put-rows = c .before .before .before .before .before .before .before .before .before .before in
+    let at-put-blocks = at-put-rows .before .before .before .before in
+    let at-if1 = at-put-blocks .before .before in
+    let start = at-if1 .before .before in (
+      λ long ok.
+          let w = start .args .ws .now in
+          let b = at-put-blocks .put-blocks in
+          let r = at-put-rows .put-rows in
+          let t = c .before .before .before .before .before .before .put-tableau in
+          let n = c .before .before .put-counts in
+          let l = lines-length w in
+          let (v, d) = r .ensures .2 ok in
+          plan-of (wordLines w) ok (b .last .1 .0) (r .last .1 .0) (t .last .0) (n .last .0) (b .result) (length w / 7) v (r .result) (t .result) (b .ensures .0) (b .ensures .1 ok) (r .ensures .1) (r .ensures .0) (omega arith) d (t .ensures .1) (t .ensures .0) (t .ensures .2) (n .ensures),
+      λ other. absurd (other (at-if1 .if1 .left)),
+    )
 
 pub plan-spec : {M : Type 1} → statement M
 plan-spec =

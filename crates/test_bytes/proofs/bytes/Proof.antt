@@ -45,8 +45,10 @@ loop-less c = search needs
 
 loop-again : tie.Need-loop-again Inv-loop μ-loop
 loop-again c =
-    let l = c .before .before .before .before .before .before .before .before .before .before .loop in
-    let s = c .before .before .before .before .before .before .before .before .before .before .before .before .before .args .text .now in
+    let at-loop = c .before .before .before .before .before .before .before .before .before .before in
+    let start = at-loop .before .before .before in
+    let l = at-loop .loop in
+    let s = start .args .text .now in
     let w : c .width .result ≡ extent (getD s (l .i) 0) + 1 = c .width .ensures .1 in
     let t : c .before .before .before .before .before .times .result ≡ timesOf (getD s (l .i) 0) = c .before .before .before .before .before .times .ensures in
     let b : c .before .before .before .before .before .before .before .byte .result ≡ meantBy (getD s (l .i) 0) (drop (l .i + 1) s) = c .before .before .before .before .before .before .before .byte .ensures in

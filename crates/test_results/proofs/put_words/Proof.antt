@@ -47,11 +47,14 @@ loop-less c = search needs
 
 loop-again : tie.Need-loop-again Inv-loop μ-loop
 loop-again c =
-    let l = c .before .before .before .before .before .before .before .before .before .before .before .loop in
-    let a = c .before .before .before .before .before .before .before .before .before .before .before .before .before .args in
+    let at-put-word-arg2 = c .before .before .before .before .before .before .before .before in
+    let at-loop = at-put-word-arg2 .before .before .before in
+    let start = at-loop .before .before in
+    let l = at-loop .loop in
+    let a = start .args in
     let e : c .before .before .before .close .result ≡ closing (a .unit) (l .i + 1) = c .before .before .before .close .ensures in
     let w = c .before .before .before .before .before .before .before .put-word .ensures in
-    let v = rw (toZ-ofZ w32 (getD (a .s .now) (l .i) (pos 0)) (record { sfits = c .before .before .before .before .before .before .before .before .put-word-arg2 .given })) at w in
+    let v = rw (toZ-ofZ w32 (getD (a .s .now) (l .i) (pos 0)) (record { sfits = at-put-word-arg2 .put-word-arg2 .given })) at w in
     let b = rw e at (c .before .before .put-byte .ensures) in
     (omega arith, said (sym (words-more (a .unit) (l .i) (a .s .now) (omega arith))) (followed (l .inv .1) (followed v b)))
 

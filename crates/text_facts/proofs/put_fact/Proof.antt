@@ -44,11 +44,15 @@ same-length c = search needs
 
 returns : tie.Need-returns
 returns c =
-    let ws = c .before .before .before .before .before .before .before .before .before .before .before .before .before .before .args .fact .now in
-    let b = word-back ws 0 (c .before .before .before .before .before .before .before .before .before .before .before .before .relation .given) in
+    let at-least = c .before .before .before .before .before .before .before .before .before .before in
+    let at-columns = at-least .before in
+    let at-relation = at-columns .before in
+    let start = at-relation .before .before in
+    let ws = start .args .fact .now in
+    let b = word-back ws 0 (at-relation .relation .given) in
     let n = c .before .before .before .before .before .before .before .before .natural .ensures ∙ ap natural b in
-    let k = c .before .before .before .before .before .before .before .before .before .before .before .columns .ensures ∙ ap columnsOf b in
-    said (fact-parts ws (c .before .before .before .before .before .before .before .before .before .before .least .result) (c .before .before .before .before .before .before .before .before .before .before .before .before .before .before .pre) n k (c .before .before .before .before .before .before .before .before .before .before .least .ensures)) (followed (c .before .before .before .before .before .before .before .put-relation .ensures) (c .before .before .put-terms .ensures))
+    let k = at-columns .columns .ensures ∙ ap columnsOf b in
+    said (fact-parts ws (at-least .least .result) (start .pre) n k (at-least .least .ensures)) (followed (c .before .before .before .before .before .before .before .put-relation .ensures) (c .before .before .put-terms .ensures))
 
 pub put-fact-spec : {M : Type 1} → statement M
 put-fact-spec =

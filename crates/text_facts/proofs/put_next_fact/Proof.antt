@@ -30,7 +30,10 @@ same-length-2 : tie.Need-same-length-2
 same-length-2 c = search needs
 
 returns-2 : tie.Need-returns-2
-returns-2 c = said (unless-is (factBytes (c .before .before .before .before .before .before .before .before .before .before .before .args .fact .now)) (c .before .before .before .before .before .before .before .before .before .if1 .left)) (followed (c .before .before .before .before .before .before .put .ensures) (c .before .before .put-fact2 .ensures))
+returns-2 c =
+    let at-if1 = c .before .before .before .before .before .before .before .before .before in
+    let start = at-if1 .before .before in
+    said (unless-is (factBytes (start .args .fact .now)) (at-if1 .if1 .left)) (followed (c .before .before .before .before .before .before .put .ensures) (c .before .before .put-fact2 .ensures))
 
 pub put-next-fact-spec : {M : Type 1} → statement M
 put-next-fact-spec =

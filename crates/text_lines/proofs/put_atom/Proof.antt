@@ -34,10 +34,13 @@ same-length c = search needs
 
 returns : tie.Need-returns
 returns c =
-    let a = c .before .before .before .before .before .before .before .before .before .before .before .before .before .before .before .args in
-    let f = said (line-fact (a .line .now) (c .before .before .before .before .before .before .before .before .before .before .before .before .before .before .before .pre)) (c .before .before .before .before .before .before .before .put-facts .ensures) in
+    let at-put-facts = c .before .before .before .before .before .before .before in
+    let at-put-byte = at-put-facts .before .before .before .before .before in
+    let start = at-put-byte .before .before .before in
+    let a = start .args in
+    let f = said (line-fact (a .line .now) (start .pre)) (at-put-facts .put-facts .ensures) in
     let n = said (where-is (if (eqb (a .block) 3) (bytes " =")) (c .before .before .before .before .if1 .taken)) (c .before .before .put-byte2 .ensures) in
-    followed (followed (c .before .before .before .before .before .before .before .before .before .before .before .before .put-byte .ensures) f) n
+    followed (followed (at-put-byte .put-byte .ensures) f) n
 
 slice-aggregate-put : tie.Need-slice-aggregate-put
 slice-aggregate-put c = search needs
@@ -50,20 +53,25 @@ same-length-2 c = search needs
 
 returns-2 : tie.Need-returns-2
 returns-2 c =
-    let a = c .before .before .before .before .before .before .before .before .before .before .before .before .before .before .before .before .before .args in
-    let f = said (line-fact (a .line .now) (c .before .before .before .before .before .before .before .before .before .before .before .before .before .before .before .before .before .pre)) (c .before .before .before .before .before .before .before .before .before .put-facts .ensures) in
+    let at-put-facts = c .before .before .before .before .before .before .before .before .before in
+    let at-put-byte = at-put-facts .before .before .before .before .before in
+    let start = at-put-byte .before .before .before in
+    let a = start .args in
+    let f = said (line-fact (a .line .now) (start .pre)) (at-put-facts .put-facts .ensures) in
     let n = said (where-is [] (c .before .before .before .before .before .if2 .taken) ∙ unless-is (bytes ",") (c .before .before .before .before .before .before .if1 .left)) (c .before .before .put .ensures) in
-    followed (followed (c .before .before .before .before .before .before .before .before .before .before .before .before .before .before .put-byte .ensures) f) n
+    followed (followed (at-put-byte .put-byte .ensures) f) n
 
 same-length-3 : tie.Need-same-length-3
 same-length-3 c = search needs
 
 returns-3 : tie.Need-returns-3
 returns-3 c =
-    let a = c .before .before .before .before .before .before .before .before .before .before .before .before .args in
-    let f = said (line-fact (a .line .now) (c .before .before .before .before .before .before .before .before .before .before .before .before .pre)) (c .before .before .before .before .put-facts .ensures) in
+    let at-put-byte = c .before .before .before .before .before .before .before .before .before in
+    let start = at-put-byte .before .before .before in
+    let a = start .args in
+    let f = said (line-fact (a .line .now) (start .pre)) (c .before .before .before .before .put-facts .ensures) in
     let n = said (unless-is (bytes " =") (c .if2 .left) ∙ unless-is (bytes ",") (c .before .if1 .left)) (nothing (c .before .before .before .before .put-facts .last .0) (c .before .before .before .before .put-facts .result)) in
-    followed (followed (c .before .before .before .before .before .before .before .before .before .put-byte .ensures) f) n
+    followed (followed (at-put-byte .put-byte .ensures) f) n
 
 pub put-atom-spec : {M : Type 1} → statement M
 put-atom-spec =

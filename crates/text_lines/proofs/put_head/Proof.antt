@@ -44,10 +44,17 @@ same-length c = search needs
 
 returns : tie.Need-returns
 returns c =
-    let l = c .before .before .before .before .before .before .before .before .before .before .before .before .before .before .before .before .before .before .args .line .now in
-    let ts = line-terms l (c .before .before .before .before .before .before .before .before .before .before .before .before .before .before .terms-end .result) (c .before .before .before .before .before .before .before .before .before .before .before .before .before .before .before .small .ensures .0 ∙ ap small (word-back l 0 (c .before .before .before .before .before .before .before .before .before .before .before .before .before .before .before .before .small-arg .given))) (c .before .before .before .before .before .before .before .before .before .before .before .before .before .before .terms-end .ensures .2) in
-    let a = said (ap (λ b. b ∷ []) (c .before .before .before .before .before .before .before .before .before .before .before .before .letter .ensures)) (c .before .before .before .before .before .before .before .before .before .before .before .put-byte .ensures) in
-    followed (followed a (said (ap termsBytes ts) (c .before .before .before .before .before .before .put-terms .ensures))) (c .before .before .put-byte2 .ensures)
+    let at-put-terms = c .before .before .before .before .before .before in
+    let at-put-byte = at-put-terms .before .before .before .before .before in
+    let at-letter = at-put-byte .before in
+    let at-terms-end = at-letter .before .before in
+    let at-small = at-terms-end .before in
+    let at-small-arg = at-small .before in
+    let start = at-small-arg .before .before in
+    let l = start .args .line .now in
+    let ts = line-terms l (at-terms-end .terms-end .result) (at-small .small .ensures .0 ∙ ap small (word-back l 0 (at-small-arg .small-arg .given))) (at-terms-end .terms-end .ensures .2) in
+    let a = said (ap (λ b. b ∷ []) (at-letter .letter .ensures)) (at-put-byte .put-byte .ensures) in
+    followed (followed a (said (ap termsBytes ts) (at-put-terms .put-terms .ensures))) (c .before .before .put-byte2 .ensures)
 
 pub put-head-spec : {M : Type 1} → statement M
 put-head-spec =

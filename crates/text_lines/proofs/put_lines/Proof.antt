@@ -62,8 +62,10 @@ loop-less c = search needs
 
 loop-again : tie.Need-loop-again Inv-loop μ-loop
 loop-again c =
-    let l = c .before .before .before .before .before .before .before .before .before .loop in
-    let ws = c .before .before .before .before .before .before .before .before .before .before .before .args .words .now in
+    let at-loop = c .before .before .before .before .before .before .before .before .before in
+    let start = at-loop .before .before in
+    let l = at-loop .loop in
+    let ws = start .args .words .now in
     let lines = length ws / 7 in
     let kind = c .before .before .before .before .before .before .before .kind-at .result in
     let block = c .before .before .before .before .before .before .block-at .result in

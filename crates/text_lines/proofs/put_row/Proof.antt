@@ -20,7 +20,10 @@ same-length : tie.Need-same-length
 same-length c = search needs
 
 returns : tie.Need-returns
-returns c = followed (followed (c .before .before .before .before .before .before .before .before .before .before .before .put-byte .ensures) (c .before .before .before .before .before .before .before .put-values .ensures)) (said (where-is [] (c .before .before .before .before .if1 .taken)) (c .before .before .put-byte2 .ensures))
+returns c =
+    let at-put-values = c .before .before .before .before .before .before .before in
+    let at-put-byte = at-put-values .before .before .before .before in
+    followed (followed (at-put-byte .put-byte .ensures) (at-put-values .put-values .ensures)) (said (where-is [] (c .before .before .before .before .if1 .taken)) (c .before .before .put-byte2 .ensures))
 
 same-length-2 : tie.Need-same-length-2
 same-length-2 c = search needs

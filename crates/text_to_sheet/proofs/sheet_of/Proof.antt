@@ -54,7 +54,9 @@ same-length c = search needs
 
 returns-3 : tie.Need-returns-3
 returns-3 c =
-    let a = c .before .before .before .before .before .before .before .before .before .before .before .before .before .before .before .before .before .before .before .args in
+    let way = c .before .before .before .before .before .before .before .before .before .before in
+    let start = way .before .before .before .before .before .before .before .before .before in
+    let a = start .args in
     let w = c .before .before .before .before .before .write in
     let g = c .before .n .given in
     sheet-made _ (a .out .now) (w .last .1 .0) (w .ensures .1) (g .0 .0) (sym (w .ensures .0) ∙ g .1) (w .kept .1 .0)
@@ -64,7 +66,9 @@ same-length-2 c = search needs
 
 returns-4 : tie.Need-returns-4
 returns-4 c =
-    let a = c .before .before .before .before .before .before .before .before .before .before .before .before .before .before .before .before .before .before .before .before .args in
+    let way = c .before .before .before .before .before .before .before .before .before .before in
+    let start = way .before .before .before .before .before .before .before .before .before .before in
+    let a = start .args in
     let w = c .before .before .before .before .before .before .write in
     let g = c .before .before .number .given in
     none-made _ (a .out .now) (w .last .1 .0) (w .ensures .1) (g .0 .0) (g .0 .1 .0) (sym (w .ensures .0) ∙ g .1)

@@ -48,8 +48,10 @@ loop-less c = search needs
 
 loop-again : tie.Need-loop-again Inv-loop μ-loop
 loop-again c =
-    let l = c .before .before .before .before .before .before .loop in
-    let ts = c .before .before .before .before .before .before .before .before .before .before .before .before .args .terms .now in
+    let at-loop = c .before .before .before .before .before .before in
+    let start = at-loop .before .before .before .before .before .before in
+    let l = at-loop .loop in
+    let ts = start .args .terms .now in
     let part : ℤ → List ℕ = λ w. cond (eqb (l .i) 0) (termBytes w) (bytes "," ++ termBytes w) in
     let p = said (ap part (word-back ts (l .i) (c .before .before .before .put-next-arg2 .given))) (c .before .before .put-next .ensures) in
     (search needs, kept p ∙ l .inv .1, more-separated termBytes (bytes ",") (pos 0) ts (l .i) (omega arith) (l .inv .2) p)
@@ -63,8 +65,10 @@ same-length c = search needs
 returns : tie.Need-returns Inv-loop μ-loop
 unfolding termsBytes
 returns c =
-    let all = ap (λ ts. separated (bytes ",") (map termBytes ts)) (take-all (c .before .before .before .before .before .loop .i) (c .before .before .before .before .before .before .before .before .before .before .before .args .terms .now) (omega arith)) in
-    followed (followed (c .before .before .before .before .before .before .before .before .put-byte .ensures) (said all (c .before .before .before .before .before .loop .inv .2))) (c .before .before .put-byte2 .ensures)
+    let at-put-byte = c .before .before .before .before .before .before .before .before in
+    let start = at-put-byte .before .before .before in
+    let all = ap (λ ts. separated (bytes ",") (map termBytes ts)) (take-all (c .before .before .before .before .before .loop .i) (start .args .terms .now) (omega arith)) in
+    followed (followed (at-put-byte .put-byte .ensures) (said all (c .before .before .before .before .before .loop .inv .2))) (c .before .before .put-byte2 .ensures)
 
 pub put-terms-spec : {M : Type 1} → statement M
 put-terms-spec =
