@@ -10,7 +10,7 @@ ghost use Prim.Native.Nat.{_≤_, _<_, min};
 ghost use Rattle.tableau_layout.specs.Layout.{list-block};
 ghost use Rattle.sheet_format.specs.Limits.{most-atoms, most-lists};
 ghost use Rattle.query_join.specs.Joins.{SafeBlock, NextBy};
-ghost use Rattle.list_laws.specs.Order.{Agree};
+ghost use Rattle.list_laws.specs.Order.{SameBefore};
 ghost use Rattle.tableau_plan.specs.Plan.{listCount};
 ghost use Rattle.tableau_parts.specs.Views.{GivenAt, MissingBy};
 ghost use Rattle.tableau_parts.specs.Walks.{FormedPlan, room, CoveredAt, Onward};
@@ -70,7 +70,7 @@ fn covered_from(p: &[usize; PLAN_NUMBERS], i: usize, facts: &[usize], row: [usiz
 
 // The last row that can begin as a row does in the columns before k.
 fn last_from(row: [usize; 4], k: usize) -> [usize; 4]
-    ensures { λ r. ⌜ Agree k row r ⌝ }
+    ensures { λ r. ⌜ SameBefore k row r ⌝ }
 {
     let mut far = row;
     let mut c = k;

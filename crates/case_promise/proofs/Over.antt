@@ -20,13 +20,13 @@ use Rattle.query_facts.proofs.Laws.{shaped-log}
 use Rattle.case_verdicts.specs.Verdict.{Sheet, Case}
 use Rattle.case_verdicts.specs.Handed.{SpareFree, Distinct, Handed}
 use Rattle.case_verdicts.specs.Sheets.{top}
-use Rattle.case_verdicts.proofs.Laws.{Within}
+use Rattle.case_verdicts.proofs.Laws.{SubLog}
 use Rattle.case_verdicts.proofs.Known.{stands-small}
 use Rattle.case_verdicts.proofs.Shrink.{same-facts}
 use Rattle.case_verdicts.proofs.Check as check
 use Rattle.case_verdicts.proofs.Check.{MadeUp}
 use Rattle.tableau_parts.specs.Views.{LeastMissing}
-use Rattle.case_order.specs.Order.{factAt, Rising, Among, Ordered}
+use Rattle.case_order.specs.Order.{fiveAt, Rising, Among, Ordered}
 use Rattle.case_minimization.specs.Minimization.{IsCase, SubFacts, Shrunk}
 use Rattle.search_chase.specs.Parts.{ReadyPlan}
 use Rattle.case_promise.proofs.Words.{FineFact, dropped-numbers, fine-fact, fine-same, rising-far, same-fact, same-five, words-accepted, words-count, words-distinct, words-numbers}
@@ -51,9 +51,9 @@ record Picked (ns : List ℕ) (n : ℕ) (ks : List ℕ) (k : ℕ) : Type 0 where
   count : length ks ≡ k * 5
   few : k ≤ tableau-atoms
   rising : Rising ks k
-  only : (i : ℕ) → i < k → Among ns n (factAt ks i)
+  only : (i : ℕ) → i < k → Among ns n (fiveAt ks i)
 
-pub taken-fact : (ms : List ℕ) (m i : ℕ) → i < m → factAt (take (m * 5) ms) i ≡ factAt ms i
+pub taken-fact : (ms : List ℕ) (m i : ℕ) → i < m → fiveAt (take (m * 5) ms) i ≡ fiveAt ms i
 taken-fact ms m i h = same-five (take (m * 5) ms) ms i i
     (getD-take (m * 5) ms (i * 5) 0 (omega arith)) (λ c o. getD-take (m * 5) ms (i * 5 + 1 + c) 0 (omega arith))
 
@@ -62,13 +62,13 @@ picked-ordered {ns} {n} {ms} {m} small o room = record {
   count = length-take-le (m * 5) ms room;
   few = let f = o .few in omega arith;
   rising = λ i h.
-      subst (λ f. f ⊏ factAt (take (m * 5) ms) (suc i)) (sym (taken-fact ms m i (omega arith)))
-      (subst (λ f. factAt ms i ⊏ f) (sym (taken-fact ms m (suc i) h)) (o .rising i h));
+      subst (λ f. f ⊏ fiveAt (take (m * 5) ms) (suc i)) (sym (taken-fact ms m i (omega arith)))
+      (subst (λ f. fiveAt ms i ⊏ f) (sym (taken-fact ms m (suc i) h)) (o .rising i h));
   only = λ i h. let (j, lt, e) = o .only i h in (j, lt, e ∙ sym (taken-fact ms m i h));
 }
 
 module _ {ms : List ℕ} {m : ℕ} {ks : List ℕ} {k : ℕ} (t : SubFacts ms m ks k) where
-  part-fact : (i : ℕ) → i < k → factAt ms (t .from i) ≡ factAt ks i
+  part-fact : (i : ℕ) → i < k → fiveAt ms (t .from i) ≡ fiveAt ks i
   part-fact i h = same-five ms ks (t .from i) i
       (ap (λ n. getD ms n 0) (sym (add-zero (t .from i * 5))) ∙ sym (t .same i h 0 (omega arith)) ∙ ap (λ n. getD ks n 0) (add-zero (i * 5)))
       (λ c o.
@@ -98,8 +98,8 @@ picked-part {ns} {n} {ms} {m} {ks} {k} q t size = record {
   count = size;
   few = let a = q .few in let b = part-few t in omega arith;
   rising = λ i h.
-      subst (λ f. f ⊏ factAt ks (suc i)) (part-fact t i (omega arith))
-      (subst (λ f. factAt ms (t .from i) ⊏ f) (part-fact t (suc i) h)
+      subst (λ f. f ⊏ fiveAt ks (suc i)) (part-fact t i (omega arith))
+      (subst (λ f. fiveAt ms (t .from i) ⊏ f) (part-fact t (suc i) h)
       (rising-far ms m (q .rising) (t .from i) (t .from (suc i)) (t .rising i (suc i) (omega arith) h) (t .inside (suc i) h)));
   only = λ i h. let (j, lt, e) = q .only (t .from i) (t .inside i h) in (j, lt, e ∙ part-fact t i h);
 }
@@ -149,10 +149,10 @@ module _ {ns : List ℕ} {log : Log} (fn : FactNumbers ns log) (sh : ShapedLog l
   picked-shaped = shaped-log (map pos ks) picked-accepted
 
   -- equal numbers, one fact
-  picked-same : (i j : ℕ) → i < length log → j < k → factAt ns i ≡ factAt ks j → numbers.factAt log i ≡ numbers.factAt (logOf (map pos ks)) j
+  picked-same : (i j : ℕ) → i < length log → j < k → fiveAt ns i ≡ fiveAt ks j → numbers.factAt log i ≡ numbers.factAt (logOf (map pos ks)) j
   picked-same i j h g e = let n = picked-count in same-fact fn picked-numbers sh picked-shaped i j h (omega arith) e
 
-  picked-within : Within (logOf (map pos ks)) log
+  picked-within : SubLog (logOf (map pos ks)) log
   picked-within = record {
     at = λ f m.
         let n = picked-count in
@@ -162,7 +162,7 @@ module _ {ns : List ℕ} {log : Log} (fn : FactNumbers ns log) (sh : ShapedLog l
   }
 
   -- all are picked
-  picked-all : ((i : ℕ) → i < length log → Among ks k (factAt ns i)) → Within log (logOf (map pos ks))
+  picked-all : ((i : ℕ) → i < length log → Among ks k (fiveAt ns i)) → SubLog log (logOf (map pos ks))
   picked-all every = record {
     at = λ f m.
         let n = picked-count in
@@ -239,7 +239,7 @@ module _ (p : List ℕ) (x : Sheet) (r : ReadyPlan p x) {ns : List ℕ} {log : L
       shaped : ShapedLog rest
       shaped = picked-shaped fn sh fine picked
 
-      within : Within rest log
+      within : SubLog rest log
       within = picked-within fn sh fine picked
 
       size : length rest ≡ k

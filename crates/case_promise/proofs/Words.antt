@@ -28,7 +28,7 @@ use Rattle.query_encoding.proofs.Lists.{at-in, in-at}
 use Rattle.query_facts.proofs.Words.{not-either}
 use Rattle.query_facts.proofs.Laws.{count-right, fact-words, facts-length, logOf-length, numbers-read}
 use Rattle.case_verdicts.specs.Handed.{Distinct}
-use Rattle.case_order.specs.Order.{factAt}
+use Rattle.case_order.specs.Order.{fiveAt}
 use Rattle.case_minimization.specs.Minimization.{without}
 
 -- a fact that words can hold
@@ -39,13 +39,13 @@ pub record FineFact (ns : List ℕ) (i : ℕ) : Type 0 where
 
 -- ---- the five numbers by their places
 
-column-number : (ns : List ℕ) (i c : ℕ) → c < 4 → getD (factAt ns i) (suc c) 0 ≡ getD ns (i * 5 + 1 + c) 0
+column-number : (ns : List ℕ) (i c : ℕ) → c < 4 → getD (fiveAt ns i) (suc c) 0 ≡ getD ns (i * 5 + 1 + c) 0
 column-number ns i c h = number-at ns i (suc c) (omega arith) ∙ ap (λ k. getD ns k 0) (let e : i * 5 + suc c ≡ i * 5 + 1 + c = omega arith in e)
 
-pub same-five : (ns ms : List ℕ) (i j : ℕ) → getD ns (i * 5) 0 ≡ getD ms (j * 5) 0 → ((c : ℕ) → c < 4 → getD ns (i * 5 + 1 + c) 0 ≡ getD ms (j * 5 + 1 + c) 0) → factAt ns i ≡ factAt ms j
-same-five ns ms i j r v = ext-getD 0 (factAt ns i) (factAt ms j) refl go
+pub same-five : (ns ms : List ℕ) (i j : ℕ) → getD ns (i * 5) 0 ≡ getD ms (j * 5) 0 → ((c : ℕ) → c < 4 → getD ns (i * 5 + 1 + c) 0 ≡ getD ms (j * 5 + 1 + c) 0) → fiveAt ns i ≡ fiveAt ms j
+same-five ns ms i j r v = ext-getD 0 (fiveAt ns i) (fiveAt ms j) refl go
   where
-    go : (k : ℕ) → k < 5 → getD (factAt ns i) k 0 ≡ getD (factAt ms j) k 0
+    go : (k : ℕ) → k < 5 → getD (fiveAt ns i) k 0 ≡ getD (fiveAt ms j) k 0
     go zero h = r
     go (suc c) h = column-number ns i c (omega arith) ∙ v c (omega arith) ∙ sym (column-number ms j c (omega arith))
 
@@ -56,7 +56,7 @@ fact-same f g r v = ap (λ n. fact n (f .row)) r ∙ ap (fact (g .rel)) v
 
 module _ {ns ms : List ℕ} {l k : Log} (a : FactNumbers ns l) (b : FactNumbers ms k) where
   -- equal numbers, equal facts
-  pub same-fact : ShapedLog l → ShapedLog k → (i j : ℕ) → i < length l → j < length k → factAt ns i ≡ factAt ms j → numbers.factAt l i ≡ numbers.factAt k j
+  pub same-fact : ShapedLog l → ShapedLog k → (i j : ℕ) → i < length l → j < length k → fiveAt ns i ≡ fiveAt ms j → numbers.factAt l i ≡ numbers.factAt k j
   same-fact s t i j h g e =
       fact-same f f′ rel
       (ext-getD 0 (f .row) (f′ .row) (short .0 ∙ ap (λ n. columnsOf (pos n)) rel ∙ sym (t f′ (at-in (fact 0 []) k j g) .0)) at)
@@ -84,7 +84,7 @@ module _ {ns ms : List ℕ} {l k : Log} (a : FactNumbers ns l) (b : FactNumbers 
           ∙ b .values j g c o
 
   -- and equal facts, equal numbers
-  pub same-numbers : (i j : ℕ) → i < length l → j < length k → numbers.factAt l i ≡ numbers.factAt k j → factAt ns i ≡ factAt ms j
+  pub same-numbers : (i j : ℕ) → i < length l → j < length k → numbers.factAt l i ≡ numbers.factAt k j → fiveAt ns i ≡ fiveAt ms j
   same-numbers i j h g e =
       same-five ns ms i j
       (a .relation i h ∙ ap (λ f. f .rel) e ∙ sym (b .relation j g))
@@ -110,7 +110,7 @@ fine-fact {ns} {l} a s known small i h = record {
     go c false q = rw (List·getD-eq-default (f .row) 0 (ltb-false c (length (f .row)) q)) (omega arith)
 
 -- and so have the same numbers elsewhere
-pub fine-same : (ns ms : List ℕ) (i j : ℕ) → factAt ns i ≡ factAt ms j → FineFact ns i → FineFact ms j
+pub fine-same : (ns ms : List ℕ) (i j : ℕ) → fiveAt ns i ≡ fiveAt ms j → FineFact ns i → FineFact ms j
 fine-same ns ms i j e f = record {
   known = subst (λ n. 0 < columnsOf (pos n)) rel (f .known);
   small = λ c o. subst (λ n. n < value-end) (value c o) (f .small c o);
@@ -143,11 +143,11 @@ module _ {A : Type 0} (l : List A) (a b : ℕ) (low : a ≤ length l) where
 -- ---- the numbers without those of fact i
 
 -- the numbers have f for fact i
-abbrev Has : List ℕ → ℕ → Fact → Type 0
-Has ns i f = (getD ns (i * 5) 0 ≡ f .rel) × ((c : ℕ) → c < 4 → getD ns (i * 5 + 1 + c) 0 ≡ getD (f .row) c 0)
+abbrev HasFact : List ℕ → ℕ → Fact → Type 0
+HasFact ns i f = (getD ns (i * 5) 0 ≡ f .rel) × ((c : ℕ) → c < 4 → getD ns (i * 5 + 1 + c) 0 ≡ getD (f .row) c 0)
 
 -- the same numbers elsewhere have the same fact there
-moved : (ns ms : List ℕ) (i j : ℕ) (f g : Fact) → g ≡ f → ((p : ℕ) → p < 5 → getD ms (j * 5 + p) 0 ≡ getD ns (i * 5 + p) 0) → Has ns i f → Has ms j g
+moved : (ns ms : List ℕ) (i j : ℕ) (f g : Fact) → g ≡ f → ((p : ℕ) → p < 5 → getD ms (j * 5 + p) 0 ≡ getD ns (i * 5 + p) 0) → HasFact ns i f → HasFact ms j g
 moved ns ms i j f g e same (r, v) = (rel, values)
   where
     rel : getD ms (j * 5) 0 ≡ g .rel
@@ -177,10 +177,10 @@ module _ {ns : List ℕ} {l : Log} (a : FactNumbers ns l) (i : ℕ) (h : i < len
       let e : suc i + (j - i) ≡ suc j = omega arith in
       cut-after l i (suc i) (omega arith) (fact 0 []) j b ∙ ap (numbers.factAt l) e
 
-  fact-left : (j : ℕ) → j < length (take i l ++ drop (suc i) l) → Has (without ns i) j (numbers.factAt (take i l ++ drop (suc i) l) j)
+  fact-left : (j : ℕ) → j < length (take i l ++ drop (suc i) l) → HasFact (without ns i) j (numbers.factAt (take i l ++ drop (suc i) l) j)
   fact-left j lt = go (ltb j i) refl
     where
-      go : (t : Bool) → ltb j i ≡ t → Has (without ns i) j (numbers.factAt (take i l ++ drop (suc i) l) j)
+      go : (t : Bool) → ltb j i ≡ t → HasFact (without ns i) j (numbers.factAt (take i l ++ drop (suc i) l) j)
       go true q =
           let b = ltb-true j i q in
           let o : j < length l = omega arith in
@@ -217,13 +217,13 @@ numbers-back [] = refl
 numbers-back (n ∷ ms) = ap (λ l. n ∷ l) (numbers-back ms)
 
 -- the words of fact i are its numbers
-words-at : (ms : List ℕ) (i : ℕ) → i < length (map pos ms) / 5 → getD (factsIn (map pos ms)) i [] ≡ map pos (factAt ms i)
-words-at ms i h = fact-words (map pos ms) i h ∙ ext-getD (pos 0) (slice (5 * i) (5 * i + 5) (map pos ms)) (map pos (factAt ms i)) size at
+words-at : (ms : List ℕ) (i : ℕ) → i < length (map pos ms) / 5 → getD (factsIn (map pos ms)) i [] ≡ map pos (fiveAt ms i)
+words-at ms i h = fact-words (map pos ms) i h ∙ ext-getD (pos 0) (slice (5 * i) (5 * i + 5) (map pos ms)) (map pos (fiveAt ms i)) size at
   where
     size : length (slice (5 * i) (5 * i + 5) (map pos ms)) ≡ 5
     size = length-slice (5 * i) (5 * i + 5) (map pos ms) (omega arith) ∙ (omega arith)
 
-    at : (k : ℕ) → k < length (slice (5 * i) (5 * i + 5) (map pos ms)) → getD (slice (5 * i) (5 * i + 5) (map pos ms)) k (pos 0) ≡ getD (map pos (factAt ms i)) k (pos 0)
+    at : (k : ℕ) → k < length (slice (5 * i) (5 * i + 5) (map pos ms)) → getD (slice (5 * i) (5 * i + 5) (map pos ms)) k (pos 0) ≡ getD (map pos (fiveAt ms i)) k (pos 0)
     at k lt =
         let n = size in
         let o : k < 5 = omega arith in
@@ -233,20 +233,20 @@ words-at ms i h = fact-words (map pos ms) i h ∙ ext-getD (pos 0) (slice (5 * i
         ∙ word-number ms (5 * i + k)
         ∙ ap (λ n. pos (getD ms n 0)) e
         ∙ ap pos (sym (number-at ms i k o))
-        ∙ sym (word-number (factAt ms i) k)
+        ∙ sym (word-number (fiveAt ms i) k)
 
 -- a fine fact's words are right
-fine-right : (ms : List ℕ) (i : ℕ) → FineFact ms i → wrongFact (map pos (factAt ms i)) ≡ false
+fine-right : (ms : List ℕ) (i : ℕ) → FineFact ms i → wrongFact (map pos (fiveAt ms i)) ≡ false
 fine-right ms i f = rw (ne-eqb n 0 (λ e. let k = f .known in omega arith), values, zeros)
   where
     n : ℕ
     n = columnsOf (pos (getD ms (i * 5) 0))
 
     ws : List ℤ
-    ws = map pos (factAt ms i)
+    ws = map pos (fiveAt ms i)
 
     column : (c : ℕ) → c < 4 → getD (drop 1 ws) c (pos 0) ≡ pos (getD ms (i * 5 + 1 + c) 0)
-    column c o = word-number (factAt ms i) (suc c) ∙ ap pos (column-number ms i c o)
+    column c o = word-number (fiveAt ms i) (suc c) ∙ ap pos (column-number ms i c o)
 
     values : all isValue (take n (drop 1 ws)) ≡ true
     values = all-index isValue (pos 0) (take n (drop 1 ws)) (λ c lt.
@@ -292,21 +292,21 @@ distinct-places d [] h = tt
 distinct-places d (x ∷ l) h =
     ((λ m. let (i, lt, e) = in-at d x l m in h 0 (suc i) (omega arith) (omega arith) (sym e)), distinct-places d l (λ i j a b e. h (suc i) (suc j) (omega arith) (omega arith) e))
 
-module _ (ms : List ℕ) (m : ℕ) (rising : (i : ℕ) → suc i < m → factAt ms i ⊏ factAt ms (suc i)) where
+module _ (ms : List ℕ) (m : ℕ) (rising : (i : ℕ) → suc i < m → fiveAt ms i ⊏ fiveAt ms (suc i)) where
   -- and far apart
-  pub rising-far : (i j : ℕ) → i < j → j < m → factAt ms i ⊏ factAt ms j
+  pub rising-far : (i j : ℕ) → i < j → j < m → fiveAt ms i ⊏ fiveAt ms j
   rising-far i zero h k = absurd (omega arith)
   rising-far i (suc j) h k = go (λ b. rising-far i j b (omega arith)) (ltb i j) refl
     where
-      go : (i < j → factAt ms i ⊏ factAt ms j) → (t : Bool) → ltb i j ≡ t → factAt ms i ⊏ factAt ms (suc j)
-      go rec true q = less-trans (factAt ms i) (factAt ms j) (factAt ms (suc j)) (rec (ltb-true i j q)) (rising j k)
+      go : (i < j → fiveAt ms i ⊏ fiveAt ms j) → (t : Bool) → ltb i j ≡ t → fiveAt ms i ⊏ fiveAt ms (suc j)
+      go rec true q = less-trans (fiveAt ms i) (fiveAt ms j) (fiveAt ms (suc j)) (rec (ltb-true i j q)) (rising j k)
       go rec false q =
           let b = ltb-false i j q in
           let e : j ≡ i = omega arith in
-          subst (λ n. factAt ms n ⊏ factAt ms (suc j)) e (rising j k)
+          subst (λ n. fiveAt ms n ⊏ fiveAt ms (suc j)) e (rising j k)
 
 module _ (ms : List ℕ) (m : ℕ) (count : length ms ≡ m * 5) (few : m ≤ most-facts) (fine : (i : ℕ) → i < m → FineFact ms i)
-    (rising : (i : ℕ) → suc i < m → factAt ms i ⊏ factAt ms (suc i)) where
+    (rising : (i : ℕ) → suc i < m → fiveAt ms i ⊏ fiveAt ms (suc i)) where
   words-length : length (map pos ms) ≡ m * 5
   words-length = length-map ms pos ∙ count
 
@@ -322,7 +322,7 @@ module _ (ms : List ℕ) (m : ℕ) (count : length ms ≡ m * 5) (few : m ≤ mo
       (λ h. refl)
       (λ i h.
       rw (words-at ms i (omega arith), words-at ms (suc i) (omega arith))
-      (rising-above (factAt ms i) (factAt ms (suc i)) (rising i (omega arith)))))
+      (rising-above (fiveAt ms i) (fiveAt ms (suc i)) (rising i (omega arith)))))
 
   -- the log that they give has these numbers
   pub words-numbers : FactNumbers ms (logOf (map pos ms))
@@ -342,5 +342,5 @@ module _ (ms : List ℕ) (m : ℕ) (count : length ms ≡ m * 5) (few : m ≤ mo
   words-distinct =
       let n = words-count in
       distinct-places (fact 0 []) (logOf (map pos ms)) (λ i j a b e.
-      less-irrefl (factAt ms j)
-      (subst (λ f. f ⊏ factAt ms j) (same-numbers words-numbers words-numbers i j (omega arith) b e) (rising-far ms m rising i j a (omega arith))))
+      less-irrefl (fiveAt ms j)
+      (subst (λ f. f ⊏ fiveAt ms j) (same-numbers words-numbers words-numbers i j (omega arith) b e) (rising-far ms m rising i j a (omega arith))))

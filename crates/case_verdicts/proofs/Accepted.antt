@@ -9,7 +9,7 @@ use lib.Dec.{eqb, ltb}
 use lib.IntN.{ℤ, pos, negsuc}
 use lib.ListN.{length, length-map, drop}
 use borrow.Author.Tests.{eqb-true, eqb-false, ltb-true, not-true, not-false}
-use Rattle.sheet_format.specs.Limits.{constant-end, variables}
+use Rattle.sheet_format.specs.Limits.{constant-end, most-variables}
 use Rattle.sheet_format.specs.Relations.{relations, columnsOf}
 use Rattle.sheet_format.specs.Line.{Line, all, null, natural}
 use Rattle.sheet_format.specs.Cause.{Kind, question, saved, view, atom, row, other, kind, rest, second, terms, orOut, termOf, isTerm, isConstant, term, constant, inPlace, misplaced, wrongColumns, outOfRange, tooMany, wrongLength, cause, start, nextBy, next, refusal, scan, isHead, isAtom, atoms, same, occurs, bound, unsafe, heads, refusalOf}
@@ -38,7 +38,7 @@ in-range false u e = e
 fine-word : (z : ℤ) → term z ≡ true → FineTerm top (asTerm z)
 unfolding termOf width
 fine-word (pos n) e = ltb-true n constant-end (in-range (ltb n constant-end) (Constant n) e)
-fine-word (negsuc n) e = let h = ltb-true n variables (in-range (ltb n variables) (Variable (suc n)) e) in omega arith
+fine-word (negsuc n) e = let h = ltb-true n most-variables (in-range (ltb n most-variables) (Variable (suc n)) e) in omega arith
 
 fine-words : (zs : List ℤ) → all term zs ≡ true → Fine top (map asTerm zs)
 fine-words zs h t m = let (z, i, e) = from-map asTerm zs t m in subst (FineTerm top) (sym e) (fine-word z (all-in term zs z h i))

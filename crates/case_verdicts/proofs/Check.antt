@@ -19,7 +19,7 @@ use Rattle.case_verdicts.proofs.Decide.{same?, less?, fact?, in?, each-
 use Rattle.case_verdicts.proofs.Reduce.{good-case}
 use Rattle.case_verdicts.proofs.Shrink.{shrink, same-facts, at-most-size, at-most-twice}
 use Rattle.case_verdicts.proofs.Judge.{bare-accepted, bare-safe, says-covered, says-no-log}
-use Rattle.case_verdicts.proofs.Run.{Found, decided, found-values}
+use Rattle.case_verdicts.proofs.Run.{GoodState, decided, found-values}
 
 abbrev formed? : (table : Table) (f : Fact) → Formed table f ⊎ (Formed table f → ⊥)
 formed? table f = go (less? 0 (relation table (f .rel) .columns)) (same? (length (f .row)) (relation table (f .rel) .columns))
@@ -110,7 +110,7 @@ module _ (x : Sheet) {top end : ℕ} (room : top + length (jobs x) * width ≤ e
       (λ f m. values f (of-once fact? f log (s .within .at f m))))
       (λ none. absurd (none (s .answer) (s .still))) (case? x question safe (s .rest))
 
-  pub found-made-up : (g : Found x (free top)) → MadeUp top end x (tableauLog x (g .state))
+  pub found-made-up : (g : GoodState x (free top)) → MadeUp top end x (tableauLog x (g .state))
   found-made-up g f m n i = ⊎-elim (λ c. inl c) (λ r. inr (r .0, let lt = r .1 in omega arith)) (found-values x ok g f m n i)
 
   -- one of the three

@@ -6,10 +6,10 @@ use Prim.Native.Nat.{ℕ}
 use Rattle.query_meaning.specs.Meaning.{Term, Fact, Log, Block, In, value, row, fact, Answer}
 
 -- the first log has no fact that the second lacks
-pub record Within (log log′ : Log) : Type 0 where
+pub record SubLog (log log′ : Log) : Type 0 where
   pub at : (f : Fact) → In f log → In f log′
 
-pub monotone : {log log′ : Log} {b : Block} {t : List ℕ} → Within log log′ → Answer log b t → Answer log′ b t
+pub monotone : {log log′ : Log} {b : Block} {t : List ℕ} → SubLog log log′ → Answer log b t → Answer log′ b t
 monotone sub a = record { val = a .val; holds = λ x m. sub .at _ (a .holds x m); differ = a .differ; gives = a .gives }
 
 -- a row rests on the values of its own terms

@@ -12,7 +12,7 @@ use Rattle.query_meaning.specs.Meaning.{In}
 use Rattle.query_blocks.proofs.Shape.{in-map, from-map}
 use Rattle.case_verdicts.specs.Tableau.{State}
 use Rattle.case_verdicts.specs.Search.{Equation, _≈_, equations, Unifier, replace, after}
-use Rattle.case_verdicts.proofs.Distinct.{without, in-without, without-fewer, at-most, once, of-once, in-once, once-distinct}
+use Rattle.case_verdicts.proofs.Distinct.{takenOut, in-without, without-fewer, at-most, once, of-once, in-once, once-distinct}
 use Rattle.case_verdicts.proofs.Decide.{same?, row?}
 use Rattle.case_verdicts.proofs.Unify.{replace-same, replace-other}
 
@@ -60,7 +60,7 @@ module _ (top : ℕ) (slots : List ℕ) (s : State) (m n : ℕ) (made-up : top �
   lower =
       let old = once same? (made top (map s slots)) in
       let new = once same? (made top (map (after (replace m n) s) slots)) in
-      let h = at-most same? new (without same? m old) (once-distinct same? (made top (map (after (replace m n) s) slots)))
+      let h = at-most same? new (takenOut same? m old) (once-distinct same? (made top (map (after (replace m n) s) slots)))
       (λ k i. let (a, b) = of-made top k (map (after (replace m n) s) slots) (of-once same? k (made top (map (after (replace m n) s) slots)) i) in
       let (c, d) = left-over k a b in
       in-without same? m k old (in-once same? k (made top (map s slots)) (in-made top k (map s slots) c b)) d) in

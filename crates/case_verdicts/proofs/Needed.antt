@@ -10,7 +10,7 @@ use Rattle.query_meaning.specs.Blocks.{View}
 use Rattle.case_verdicts.specs.Table.{relation, parents}
 use Rattle.case_verdicts.specs.Verdict.{Sheet}
 use Rattle.case_verdicts.specs.Handed.{Distinct, Handed}
-use Rattle.case_verdicts.proofs.Laws.{Within}
+use Rattle.case_verdicts.proofs.Laws.{SubLog}
 use Rattle.case_verdicts.proofs.Distinct.{at-most, in-or}
 use Rattle.case_verdicts.proofs.Decide.{fact?, first-all}
 use Rattle.case_verdicts.proofs.Tableau.{of-parents}
@@ -18,13 +18,13 @@ use Rattle.case_verdicts.proofs.Shrink.{Enough, drops}
 
 -- these are the log's facts, each once
 pub record Exactly (log facts : Log) : Type 0 where
-  pub has : Within facts log
-  pub no-more : Within log facts
+  pub has : SubLog facts log
+  pub no-more : SubLog log facts
   pub count : length log ≡ length facts
 
 -- for tables without parents; with them a fact can be needed because another owes it
 pub needed : {x : Sheet} {top end : ℕ} → ((n : ℕ) → relation (x .table) n .parent ≡ 0) → (h : Handed top end x) (facts : Log)
-    → Distinct facts → Within facts (h .log) → Enough x facts (h .answer) → Exactly (h .log) facts
+    → Distinct facts → SubLog facts (h .log) → Enough x facts (h .answer) → Exactly (h .log) facts
 needed {x} parentless h facts once sub enough =
     let all : (f : Fact) → In f (h .log) → In f facts = λ f m.
     ⊎-elim (λ i. i) (λ out. absurd (drops x (h .log) facts (h .answer) (h .is) (h .spare-free) sub enough f m out (λ g n p. unowed f g p))) (in-or fact? f facts) in

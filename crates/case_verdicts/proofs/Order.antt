@@ -18,16 +18,16 @@ use Rattle.query_blocks.proofs.Accepted.{scan-first}
 use Rattle.case_verdicts.specs.Sheets.{isQuestion, isSaved, isView, sheetOf}
 
 -- where the list's head has been read, views alone are left
-record Views (heads questions lists views : List View) : Type 0 where
+record OnlyViews (heads questions lists views : List View) : Type 0 where
   all : heads ≡ views
   no-question : questions ≡ []
   no-list : lists ≡ []
 
 abbrev ViewsIn : List Line → Type 0
-ViewsIn ls = Views (blocks isHead ls) (blocks isQuestion ls) (blocks isSaved ls) (blocks isView ls)
+ViewsIn ls = OnlyViews (blocks isHead ls) (blocks isQuestion ls) (blocks isSaved ls) (blocks isView ls)
 
-views-by : (g : Seen) (k : Kind) (n : ℕ) (v : View) (hs qs ls ws : List View) → 2 ≤ g .block → inPlace g k ≡ true → (2 ≤ nextBy g k n .block → Views hs qs ls ws)
-    → Views (cond (isHead k) (v ∷ hs) hs) (cond (isQuestion k) (v ∷ qs) qs) (cond (isSaved k) (v ∷ ls) ls) (cond (isView k) (v ∷ ws) ws)
+views-by : (g : Seen) (k : Kind) (n : ℕ) (v : View) (hs qs ls ws : List View) → 2 ≤ g .block → inPlace g k ≡ true → (2 ≤ nextBy g k n .block → OnlyViews hs qs ls ws)
+    → OnlyViews (cond (isHead k) (v ∷ hs) hs) (cond (isQuestion k) (v ∷ qs) qs) (cond (isSaved k) (v ∷ ls) ls) (cond (isView k) (v ∷ ws) ws)
 views-by g question n v hs qs ls ws h p ih = absurd (let e = eqb-true (g .block) 0 p in omega arith)
 views-by g saved n v hs qs ls ws h p ih = absurd (let e = eqb-true (g .block) 1 p in omega arith)
 views-by g view n v hs qs ls ws h p ih = let r = ih (omega arith) in record { all = ap (λ l. v ∷ l) (r .all); no-question = r .no-question; no-list = r .no-list }
@@ -53,7 +53,7 @@ abbrev ListIn : List Line → Type 0
 ListIn ls = ListFirst (blocks isHead ls) (blocks isQuestion ls) (blocks isSaved ls) (blocks isView ls)
 
 list-by : (g : Seen) (k : Kind) (n : ℕ) (v : View) (hs qs ls ws : List View) → g .block ≡ 1 → inPlace g k ≡ true
-    → (2 ≤ nextBy g k n .block → Views hs qs ls ws) → (nextBy g k n .block ≡ 1 → ListFirst hs qs ls ws)
+    → (2 ≤ nextBy g k n .block → OnlyViews hs qs ls ws) → (nextBy g k n .block ≡ 1 → ListFirst hs qs ls ws)
     → ListFirst (cond (isHead k) (v ∷ hs) hs) (cond (isQuestion k) (v ∷ qs) qs) (cond (isSaved k) (v ∷ ls) ls) (cond (isView k) (v ∷ ws) ws)
 list-by g question n v hs qs ls ws h p more ih = absurd (let e = eqb-true (g .block) 0 p in omega arith)
 list-by g saved n v hs qs ls ws h p more ih =
@@ -80,7 +80,7 @@ list-left (l ∷ ls) g b n h s =
     list-by g (kind l) (length (rest l)) (viewOf l ls) _ _ _ _ h (c .placed) (λ i. views-left ls (next g l) l (n + 1) i r) (λ i. list-left ls (next g l) l (n + 1) i r)
 
 -- the question comes first
-pub record Ordered (heads questions lists views : List View) : Type 0 where
+pub record BlocksOrdered (heads questions lists views : List View) : Type 0 where
   pub question : View
   pub list : View
   pub all : heads ≡ question ∷ list ∷ views
@@ -88,7 +88,7 @@ pub record Ordered (heads questions lists views : List View) : Type 0 where
   pub one-list : lists ≡ list ∷ []
 
 order-by : (k : Kind) (n : ℕ) (v : View) (hs qs ls ws : List View) → inPlace start k ≡ true → (nextBy start k n .block ≡ 1 → ListFirst hs qs ls ws)
-    → Ordered (cond (isHead k) (v ∷ hs) hs) (cond (isQuestion k) (v ∷ qs) qs) (cond (isSaved k) (v ∷ ls) ls) (cond (isView k) (v ∷ ws) ws)
+    → BlocksOrdered (cond (isHead k) (v ∷ hs) hs) (cond (isQuestion k) (v ∷ qs) qs) (cond (isSaved k) (v ∷ ls) ls) (cond (isView k) (v ∷ ws) ws)
 order-by question n v hs qs ls ws p ih =
     let r = ih refl in
     record { question = v; list = r .list; all = ap (λ l. v ∷ l) (r .all); one-question = ap (λ l. v ∷ l) (r .no-question); one-list = r .one-list }
@@ -98,7 +98,7 @@ order-by atom n v hs qs ls ws p ih = no-way p
 order-by row n v hs qs ls ws p ih = no-way p
 order-by other n v hs qs ls ws p ih = no-way p
 
-ordered-from : (ls : List Line) → scan start [] 1 ls .number ≡ 0 → Ordered (blocks isHead ls) (blocks isQuestion ls) (blocks isSaved ls) (blocks isView ls)
+ordered-from : (ls : List Line) → scan start [] 1 ls .number ≡ 0 → BlocksOrdered (blocks isHead ls) (blocks isQuestion ls) (blocks isSaved ls) (blocks isView ls)
 unfolding blocks next scan
 ordered-from [] s = absurd (let e = ends-late start s in omega arith)
 ordered-from (l ∷ ls) s =
@@ -107,7 +107,7 @@ ordered-from (l ∷ ls) s =
 
 module _ (ls : List Line) (ok : refusalOf ls .number ≡ 0) where
   -- all blocks are the question's, the list's and the views, with their rows
-  pub ordered : Ordered (blocks isHead ls) (blocks isQuestion ls) (blocks isSaved ls) (blocks isView ls)
+  pub ordered : BlocksOrdered (blocks isHead ls) (blocks isQuestion ls) (blocks isSaved ls) (blocks isView ls)
   ordered = ordered-from ls (eqb-true _ 0 (accepted-scan ls ok))
 
   pub block-question : blockAt ls 1 ≡ sheetOf ls .question

@@ -12,7 +12,7 @@ use Rattle.query_blocks.proofs.Shape.{from-map}
 use Rattle.case_verdicts.specs.Verdict.{Sheet, Agreeing, Case}
 use Rattle.case_verdicts.specs.Accepted.{width, FineTerm, Fine, FineSheet}
 use Rattle.case_verdicts.specs.Tableau.{Job, listed, jobs, Copy, later, numbered, State, copy, withParents, tableauLog, headOf, Meets, Good}
-use Rattle.case_verdicts.proofs.Laws.{Within, monotone, same-row}
+use Rattle.case_verdicts.proofs.Laws.{SubLog, monotone, same-row}
 use Rattle.case_verdicts.proofs.Tableau.{job-numbered, numbered-job, of-listed, listed-in, Origin, origin, copy-holds, log-parented, job-block, job-is, log-formed}
 
 pub row-con : (v : ℕ → ℕ) (r : List ℕ) → row v (map con r) ≡ r
@@ -86,7 +86,7 @@ module _ (log : Log) where
 pub record Inside (x : Sheet) (log : Log) (a : List ℕ) : Type 0 where
   pub state : State
   pub good : Good x state
-  pub within : Within (tableauLog x state) log
+  pub within : SubLog (tableauLog x state) log
   pub head : headOf x state ≡ a
 
 module _ (x : Sheet) {top : ℕ} (ok : FineSheet top x) where
@@ -101,7 +101,7 @@ module _ (x : Sheet) {top : ℕ} (ok : FineSheet top x) where
         };
       }
 
-  log-within : (t : State) (log : Log) → Agreeing x log → ((c : Copy) → In c (numbered (jobs x)) → Serves log (copy t (c .number)) (c .job)) → Within (tableauLog x t) log
+  log-within : (t : State) (log : Log) → Agreeing x log → ((c : Copy) → In c (numbered (jobs x)) → Serves log (copy t (c .number)) (c .job)) → SubLog (tableauLog x t) log
   log-within t log ag serves = record { at = λ f m. let o = origin x t f m in go f o (o .from) }
     where
       go : (f : Fact) (o : Origin x t f) → In f (withParents (x .table) (factOf (copy t (o .copy-of .number)) (o .atom))) → In f log

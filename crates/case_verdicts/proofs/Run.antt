@@ -31,11 +31,11 @@ pub record Violation (top : ℕ) (x : Sheet) (s : State) : Type 0 where
 pub only : {C : ℕ → Type 0} {ns : List ℕ} {s : State} (es : List Equation) → Open C ns s es → (alt : List Equation) → In alt (es ∷ []) → Open C ns s alt
 only {C} {ns} {s} es o alt (inl e) = subst (Open C ns s) (sym e) o
 
-abbrev SettledBy : Sheet → State → Fact → Fact → Type 0
-SettledBy x s f g = SameKey (x .table) f g → f .row ≡ g .row
+abbrev KeySettled : Sheet → State → Fact → Fact → Type 0
+KeySettled x s f g = SameKey (x .table) f g → f .row ≡ g .row
 
-abbrev Fits : Sheet → State → (List ℕ → Type 0) → Block → (ℕ → ℕ) → Type 0
-Fits x s P b v = Holds (tableauLog x s) v b → Differ v b → P (row v (b .head))
+abbrev HeadHolds : Sheet → State → (List ℕ → Type 0) → Block → (ℕ → ℕ) → Type 0
+HeadHolds x s P b v = Holds (tableauLog x s) v b → Differ v b → P (row v (b .head))
 
 module _ (x : Sheet) {top : ℕ} (ok : FineSheet top x) (s : State) where
   abbrev copy-meets? : (c : Copy) → In c (numbered (jobs x)) → Meets (copy s (c .number)) (c .job) ⊎ Violation top x s
@@ -53,23 +53,23 @@ module _ (x : Sheet) {top : ℕ} (ok : FineSheet top x) (s : State) where
       go (yes e) (inr y) = inr y
       go (yes e) (inl d) = inl (record { gives = e; differ = d })
 
-  abbrev keyed? : (f g : Fact) → In f (tableauLog x s) → In g (tableauLog x s) → SettledBy x s f g ⊎ Violation top x s
+  abbrev keyed? : (f g : Fact) → In f (tableauLog x s) → In g (tableauLog x s) → KeySettled x s f g ⊎ Violation top x s
   keyed? f g m n = ⊎-elim (λ e. inl e) (λ k. inr (record { alts = _; must = same-key x ok s f g m n (k .0); opens = only _ (key-open x ok s f g m n (k .0 .rel) (k .1)) }))
       (settled-or (x .table) f g)
 
   -- P of every row that the block has by v
   abbrev fits? : (P : List ℕ → Type 0) (b : Block) → ((v : ℕ → ℕ) → Holds (tableauLog x s) v b → Differ v b → P (row v (b .head)) ⊎ Violation top x s)
-      → (v : ℕ → ℕ) → Fits x s P b v ⊎ Violation top x s
+      → (v : ℕ → ℕ) → HeadHolds x s P b v ⊎ Violation top x s
   fits? P b each v = go (holds? (tableauLog x s) v b) (differ? v b)
     where
-      go : Holds (tableauLog x s) v b ⊎ (Holds (tableauLog x s) v b → ⊥) → Differ v b ⊎ (Differ v b → ⊥) → Fits x s P b v ⊎ Violation top x s
+      go : Holds (tableauLog x s) v b ⊎ (Holds (tableauLog x s) v b → ⊥) → Differ v b ⊎ (Differ v b → ⊥) → HeadHolds x s P b v ⊎ Violation top x s
       go (inr out) d = inl (λ h. absurd (out h))
       go (inl h) (inr out) = inl (λ k d. absurd (out d))
       go (inl h) (inl d) = ⊎-elim (λ p. inl (λ k e. p)) (λ y. inr y) (each v h d)
 
   abbrev view? : Evaluable x → (w : View) → In w (x .views) → ((r : List ℕ) → Answer (tableauLog x s) (w .block) r → In r (w .rows)) ⊎ Violation top x s
   view? safe w m = ⊎-elim (λ all. inl (each-answer (tableauLog x s) (w .block) (safe .views w m) (λ r. In r (w .rows)) all)) (λ y. inr y)
-      (all-or (Fits x s (λ r. In r (w .rows)) (w .block)) (candidates (tableauLog x s) (w .block)) (λ v i. fits? (λ r. In r (w .rows)) (w .block) each v))
+      (all-or (HeadHolds x s (λ r. In r (w .rows)) (w .block)) (candidates (tableauLog x s) (w .block)) (λ v i. fits? (λ r. In r (w .rows)) (w .block) each v))
     where
       each : (v : ℕ → ℕ) → Holds (tableauLog x s) v (w .block) → Differ v (w .block) → In (row v (w .block .head)) (w .rows) ⊎ Violation top x s
       each v h d = go (in? row? (row v (w .block .head)) (w .rows))
@@ -80,7 +80,7 @@ module _ (x : Sheet) {top : ℕ} (ok : FineSheet top x) (s : State) where
 
   abbrev list? : Evaluable x → (l : Block) → In l (x .lists) → (Answer (tableauLog x s) l (headOf x s) → ⊥) ⊎ Violation top x s
   list? safe l m = ⊎-elim (λ all. inl (λ a. each-answer (tableauLog x s) l (safe .lists l m) (λ r. r ≡ headOf x s → ⊥) all (headOf x s) a refl)) (λ y. inr y)
-      (all-or (Fits x s (λ r. r ≡ headOf x s → ⊥) l) (candidates (tableauLog x s) l) (λ v i. fits? (λ r. r ≡ headOf x s → ⊥) l each v))
+      (all-or (HeadHolds x s (λ r. r ≡ headOf x s → ⊥) l) (candidates (tableauLog x s) l) (λ v i. fits? (λ r. r ≡ headOf x s → ⊥) l each v))
     where
       each : (v : ℕ → ℕ) → Holds (tableauLog x s) v l → Differ v l → (row v (l .head) ≡ headOf x s → ⊥) ⊎ Violation top x s
       each v h d = go (row? (row v (l .head)) (headOf x s))
@@ -94,7 +94,7 @@ module _ (x : Sheet) {top : ℕ} (ok : FineSheet top x) (s : State) where
       ⊎-elim (λ meets. ⊎-elim (λ missing. ⊎-elim (λ keyed. ⊎-elim (λ none-more.
       inl (record { meets = meets; keyed = λ f g m n. keyed f m g n; none-more = none-more; missing = missing }))
       (λ y. inr y) (all-or (λ w. (r : List ℕ) → Answer (tableauLog x s) (w .block) r → In r (w .rows)) (x .views) (view? safe)))
-      (λ y. inr y) (all-or (λ f. (g : Fact) → In g (tableauLog x s) → SettledBy x s f g) (tableauLog x s) (λ f m. all-or (SettledBy x s f) (tableauLog x s) (λ g n. keyed? f g m n))))
+      (λ y. inr y) (all-or (λ f. (g : Fact) → In g (tableauLog x s) → KeySettled x s f g) (tableauLog x s) (λ f m. all-or (KeySettled x s f) (tableauLog x s) (λ g n. keyed? f g m n))))
       (λ y. inr y) (all-or (λ l. Answer (tableauLog x s) l (headOf x s) → ⊥) (x .lists) (list? safe)))
       (λ y. inr y) (all-or (λ c. Meets (copy s (c .number)) (c .job)) (numbered (jobs x)) copy-meets?)
 
@@ -127,23 +127,23 @@ module _ {top : ℕ} (x : Sheet) (ok : FineSheet top x) where
 -- ---- the search
 
 -- a good state without new made-up values
-pub record Found (x : Sheet) (s : State) : Type 0 where
+pub record GoodState (x : Sheet) (s : State) : Type 0 where
   pub state : State
   pub good : Good x state
   pub old : (n : ℕ) → In n (map state (slots x)) → Has x s n
 
 abbrev pub Outcome : ℕ → Sheet → State → Type 0
-Outcome top x s = Found x s ⊎ Refuted top x s
+Outcome top x s = GoodState x s ⊎ Refuted top x s
 
 pub still-less : {k m n : ℕ} → k < m → m < suc n → k < n
 still-less h l = omega arith
 
-abbrev pub earlier : {top : ℕ} {x : Sheet} {s : State} {r : ℕ → ℕ} → Progress top (Stands x) (slots x) s r → Found x (after r s) → Found x s
+abbrev pub earlier : {top : ℕ} {x : Sheet} {s : State} {r : ℕ → ℕ} → Progress top (Stands x) (slots x) s r → GoodState x (after r s) → GoodState x s
 earlier p f = record { state = f .state; good = f .good; old = λ n i. ⊎-elim (λ c. inl c) (p .old n) (f .old n i) }
 
 module _ {top : ℕ} (x : Sheet) (ok : FineSheet top x) (s : State) (n : ℕ) (most : measure top (slots x) s < suc n)
     (next : (t : State) → measure top (slots x) t < n → Outcome top x t) where
-  abbrev pub alternative : (es : List Equation) → Open (Stands x) (slots x) s es → RefutedBy top x s es ⊎ Found x s
+  abbrev pub alternative : (es : List Equation) → Open (Stands x) (slots x) s es → RefutedBy top x s es ⊎ GoodState x s
   alternative es o =
       ⊎-elim (λ u. ⊎-elim (λ g. inr (earlier (u .2) g)) (λ z. inl (unified (u .1) z)) (next (after (u .0) s) (still-less (unified-lower (u .1) (u .2) o) most)))
       (λ c. inl (clashed c)) (unify x ok s es (o .known))
@@ -162,7 +162,7 @@ abbrev pub decided : (x : Sheet) {top : ℕ} → FineSheet top x → Evaluable x
 decided x {top} ok safe = search-from x ok safe (suc (measure top (slots x) (free top))) (free top) (le-refl _)
 
 -- the values of the log that is found
-pub found-values : (x : Sheet) {top : ℕ} → FineSheet top x → (g : Found x (free top)) → (f : Fact) → In f (tableauLog x (g .state)) → (n : ℕ) → In n (f .row)
+pub found-values : (x : Sheet) {top : ℕ} → FineSheet top x → (g : GoodState x (free top)) → (f : Fact) → In f (tableauLog x (g .state)) → (n : ℕ) → In n (f .row)
     → Stands x n ⊎ ((top ≤ n) × (n < top + length (jobs x) * width))
 found-values x {top} ok g f m n i = ⊎-elim (λ c. inl c) (λ j. ⊎-elim (λ c. inl c) made (g .old n j)) (known-log x ok (g .state) f m n i)
   where

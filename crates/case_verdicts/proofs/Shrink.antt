@@ -14,8 +14,8 @@ use Rattle.case_verdicts.specs.Handed.{Dropped, SpareFree, Distinct, row
 use Rattle.case_verdicts.specs.Accepted.{FineSheet}
 use Rattle.case_verdicts.specs.Tableau.{Job, listed, jobs, later, numbered, State, copy, copyFacts, withParents, facts, tableauLog}
 use Rattle.case_verdicts.proofs.Lists.{total, total-same, total-each, total-append, total-map, gather-length}
-use Rattle.case_verdicts.proofs.Laws.{Within, monotone}
-use Rattle.case_verdicts.proofs.Distinct.{without, of-without, in-without, without-fewer, without-distinct, at-most, in-or}
+use Rattle.case_verdicts.proofs.Laws.{SubLog, monotone}
+use Rattle.case_verdicts.proofs.Distinct.{takenOut, of-without, in-without, without-fewer, without-distinct, at-most, in-or}
 use Rattle.case_verdicts.proofs.Decide.{fact?}
 use Rattle.case_verdicts.proofs.Tableau.{log-parented, no-grandparent}
 use Rattle.case_verdicts.proofs.Reduce.{good-case, Inside, case-good}
@@ -27,7 +27,7 @@ pub record Parented (x : Sheet) (log : Log) : Type 0 where
   pub at : (f : Fact) → In f log → (g : Fact) → In g (parents (x .table) f) → In g log
 
 -- a part is a case too if it still gives the listed rows and the answer, and owes nothing: with fewer facts no view gives more, and no list
-pub part-case : (x : Sheet) (log rest : Log) (a : List ℕ) → Case x log a → Within rest log → Parented x rest
+pub part-case : (x : Sheet) (log rest : Log) (a : List ℕ) → Case x log a → SubLog rest log → Parented x rest
     → ((w : View) → In w (x .views) → (r : List ℕ) → In r (w .rows) → Answer rest (w .block) r) → Answer rest (x .question) a → Case x rest a
 part-case x log rest a k high parented given asked = record {
   agreeing = record {
@@ -48,12 +48,12 @@ pub record Enough (x : Sheet) (facts : Log) (a : List ℕ) : Type 0 where
   pub asked : Answer facts (x .question) a
 
 -- so it is with all that lies between a case and facts of it that are enough
-between : (x : Sheet) (log rest small : Log) (a : List ℕ) → Case x log a → Enough x small a → Within small rest → Within rest log → Parented x rest → Case x rest a
+between : (x : Sheet) (log rest small : Log) (a : List ℕ) → Case x log a → Enough x small a → SubLog small rest → SubLog rest log → Parented x rest → Case x rest a
 between x log rest small a k e low high parented =
     part-case x log rest a k high parented (λ w m r n. monotone low (e .given w m r n)) (monotone low (e .asked))
 
 -- and with another list of the same facts
-pub same-facts : (x : Sheet) (log log′ : Log) (a : List ℕ) → Within log log′ → Within log′ log → Case x log a → Case x log′ a
+pub same-facts : (x : Sheet) (log log′ : Log) (a : List ℕ) → SubLog log log′ → SubLog log′ log → Case x log a → Case x log′ a
 same-facts x log log′ a up down k =
     part-case x log log′ a k down (record { at = λ f m g n. up .at g (k .agreeing .lawful .parented f (down .at f m) g n) })
     (λ w m r n. monotone up (k .agreeing .agrees w m .none-missing r n)) (monotone up (k .asked))
@@ -61,13 +61,13 @@ same-facts x log log′ a up down k =
 -- ---- without a fact to spare a case has only the facts of the good state's log
 
 abbrev pub less : Fact → Log → Log
-less f log = without fact? f log
+less f log = takenOut fact? f log
 
 less-dropped : (f : Fact) (log : Log) → Dropped f log (less f log)
 less-dropped f log = record { only = λ g m. of-without fact? f g log m; kept = λ g m ne. in-without fact? f g log m ne }
 
 -- where some of the facts are enough, any other that no fact owes could be dropped
-pub drops : (x : Sheet) (log small : Log) (a : List ℕ) → Case x log a → SpareFree x log → Within small log → Enough x small a
+pub drops : (x : Sheet) (log small : Log) (a : List ℕ) → Case x log a → SpareFree x log → SubLog small log → Enough x small a
     → (f : Fact) → In f log → (In f small → ⊥) → ((g : Fact) → In g log → In f (parents (x .table) g) → ⊥) → ⊥
 drops x log small a k spare-free sub e f m out unowed = spare-free f m (less f log) (less-dropped f log) a (between x log (less f log) small a k e
     (record { at = λ g n. in-without fact? f g log (sub .at g n) (λ p. out (subst (λ z. In z small) p n)) })
@@ -91,7 +91,7 @@ module _ (x : Sheet) {top : ℕ} (ok : FineSheet top x) (log : Log) (a : List �
   owing : (f g : Fact) → In f log → In g (parents (x .table) f) → In f small
   owing f g m p = ⊎-elim (λ n. n) (λ out. absurd (outside f m out (λ h n q. no-grandparent (x .table) (ok .table) h f g q p))) (in-or fact? f small)
 
-  pub inside : Within log small
+  pub inside : SubLog log small
   inside = record {
     at = λ f m. ⊎-elim (λ n. n)
         (λ out. absurd (outside f m out (λ g n p. out (log-parented x (i .state) (ok .table) g (owing g f n p) f p)))) (in-or fact? f small);
@@ -176,13 +176,13 @@ spare-free-by x log none f m rest drop a c = none f m a (same-facts x rest (less
     (record { at = λ g i. let (p, ne) = of-without fact? f g log i in drop .kept g p ne }) c)
 
 -- a case without a fact to spare, with some of the log's facts
-pub record Shrunk (x : Sheet) (log : Log) : Type 0 where
+pub record SpareFreeCase (x : Sheet) (log : Log) : Type 0 where
   pub rest : Log
   pub answer : List ℕ
   pub still : Case x rest answer
   pub spare-free : SpareFree x rest
   pub distinct : Distinct rest
-  pub within : Within rest log
+  pub within : SubLog rest log
 
 module _ (x : Sheet) (decide : (log : Log) → ((a : List ℕ) × Case x log a) ⊎ ((a : List ℕ) → Case x log a → ⊥)) where
   -- a fact whose dropping leaves a case
@@ -198,12 +198,12 @@ module _ (x : Sheet) (decide : (log : Log) → ((a : List ℕ) × Case x log a) 
       go (inl found) (inr none) = inl found
       go (inr rest) (inr none) = inr (λ g m a k. ⊎-elim (λ e. none a (subst (λ z. Case x (less z log) a) e k)) (λ n. rest g n a k) m)
 
-  abbrev shrink-by : (n : ℕ) (log : Log) (a : List ℕ) → length log < n → Distinct log → Case x log a → Shrunk x log
+  abbrev shrink-by : (n : ℕ) (log : Log) (a : List ℕ) → length log < n → Distinct log → Case x log a → SpareFreeCase x log
   shrink-by zero log a h d k = absurd (omega arith)
   shrink-by (suc n) log a h d k = go (λ l b p q c. shrink-by n l b p q c) (search-spare log log (λ f m. m))
     where
-      go : ((l : Log) (b : List ℕ) → length l < n → Distinct l → Case x l b → Shrunk x l)
-          → ((f : Fact) × In f log × (b : List ℕ) × Case x (less f log) b) ⊎ ((f : Fact) → In f log → (b : List ℕ) → Case x (less f log) b → ⊥) → Shrunk x log
+      go : ((l : Log) (b : List ℕ) → length l < n → Distinct l → Case x l b → SpareFreeCase x l)
+          → ((f : Fact) × In f log × (b : List ℕ) × Case x (less f log) b) ⊎ ((f : Fact) → In f log → (b : List ℕ) → Case x (less f log) b → ⊥) → SpareFreeCase x log
       go rec (inl (f, m, b, c)) =
           let fewer = without-fewer fact? f log m in
           let r = rec (less f log) b (omega arith) (without-distinct fact? f log d) c in
@@ -224,5 +224,5 @@ module _ (x : Sheet) (decide : (log : Log) → ((a : List ℕ) × Case x log a) 
         within = record { at = λ g i. i };
       }
 
-  abbrev pub shrink : (log : Log) (a : List ℕ) → Distinct log → Case x log a → Shrunk x log
+  abbrev pub shrink : (log : Log) (a : List ℕ) → Distinct log → Case x log a → SpareFreeCase x log
   shrink log a d k = shrink-by (suc (length log)) log a (omega arith) d k

@@ -73,8 +73,8 @@ line? table r = ⊎-elim (λ e. inl (inl e))
     (λ z. then (of-dec (same? (relation table (r .parent) .columns) (r .columns))) (λ c. then (of-dec (same? (relation table (r .parent) .parent) 0)) (λ p. inl (inr (c, p)))))
     (of-dec (same? (r .parent) 0))
 
-abbrev Rows : ℕ → View → Type 0
-Rows top w = (r : List ℕ) → In r (w .rows) → (n : ℕ) → In n r → n < top
+abbrev RowsBelow : ℕ → View → Type 0
+RowsBelow top w = (r : List ℕ) → In r (w .rows) → (n : ℕ) → In n r → n < top
 
 abbrev Lengths : View → Type 0
 Lengths w = (r : List ℕ) → In r (w .rows) → length r ≡ length (w .block .head)
@@ -85,7 +85,7 @@ accept top x =
     then (block? top (x .table) (x .question)) (λ q.
     then (all-or (FineBlock top (x .table)) (x .lists) (λ l m. block? top (x .table) l)) (λ l.
     then (all-or (λ w. FineBlock top (x .table) (w .block)) (x .views) (λ w m. block? top (x .table) (w .block))) (λ v.
-    then (all-or (Rows top) (x .views) (λ w m. all-or (λ r. (n : ℕ) → In n r → n < top) (w .rows) (λ r i. all-or (λ n. n < top) r (λ n j. of-or (less? n top))))) (λ r.
+    then (all-or (RowsBelow top) (x .views) (λ w m. all-or (λ r. (n : ℕ) → In n r → n < top) (w .rows) (λ r i. all-or (λ n. n < top) r (λ n j. of-or (less? n top))))) (λ r.
     then (all-or Lengths (x .views) (λ w m. all-or (λ r. length r ≡ length (w .block .head)) (w .rows) (λ r i. of-dec (same? (length r) (length (w .block .head)))))) (λ n.
     then (all-or Safe (x .lists) (λ l m. safe? l)) (λ a.
     then (all-or (λ w. Safe (w .block)) (x .views) (λ w m. safe? (w .block))) (λ b.

@@ -32,9 +32,9 @@ use Rattle.case_verdicts.proofs.Check.{MadeUp}
 use Rattle.tableau_plan.specs.Plan.{tableauSize, tableauFacts}
 use Rattle.tableau_parts.specs.Views.{MissingBy}
 use Rattle.tableau_parts.specs.Walks as walks
-use Rattle.case_order.specs.Order.{factAt, Ordered}
+use Rattle.case_order.specs.Order.{fiveAt, Ordered}
 use Rattle.case_minimization.specs.Minimization.{IsCase, Shrunk}
-use Rattle.search_chase.specs.Parts.{ReadyPlan, Found}
+use Rattle.search_chase.specs.Parts.{ReadyPlan, StateFound}
 use Rattle.search_chase.proofs.Node as node
 use Rattle.search_chase.proofs.ReadyLaws.{ready-task}
 use Rattle.search_chase.proofs.NodeLaws.{facts-by, ready-views}
@@ -52,7 +52,7 @@ ordered-front ns n ms m o = record {
   every = λ i h. let (j, lt, e) = o .every i h in (j, lt, e ∙ sym (taken-fact ns n i h));
 }
 
-module _ (p : List ℕ) (x : Sheet) (r : ReadyPlan p x) (st : List ℕ) (f : Found x x st) where
+module _ (p : List ℕ) (x : Sheet) (r : ReadyPlan p x) (st : List ℕ) (f : StateFound x x st) where
   abbrev s : State
   s = stateOf top st
 
@@ -127,7 +127,7 @@ module _ (p : List ℕ) (x : Sheet) (r : ReadyPlan p x) (st : List ℕ) (f : Fou
         handed false u lacking = absurd (lacking (shrunk .still .1 .0) (shrunk .still .1 .1))
 
 -- what state::facts, order::arrange and shrink::shrink ensure, together
-pub spare-free-in : (p : List ℕ) (x : Sheet) (r : ReadyPlan p x) (st : List ℕ) (f : Found x x st) (none one two three : List ℕ) (n m k : ℕ) → length none ≡ tableau-numbers → length one ≡ length none → length two ≡ length one
+pub spare-free-in : (p : List ℕ) (x : Sheet) (r : ReadyPlan p x) (st : List ℕ) (f : StateFound x x st) (none one two three : List ℕ) (n m k : ℕ) → length none ≡ tableau-numbers → length one ≡ length none → length two ≡ length one
     → (length p ≡ plan-numbers → 0 ≤ tableauSize p → tableauSize p ≤ tableau-atoms → slot-end ≤ length st → tableau-numbers ≤ length none → (n ≡ tableauSize p - 0) × (take (n * 5) one ≡ tableauFacts p (stateOf top st) 0 n))
     → (n * 5 ≤ length one → Ordered one n two m × (length two ≡ length one))
     → (walks.FormedPlan p → m ≤ tableau-atoms → m * 5 ≤ length two → IsCase p (take (m * 5) two) → Shrunk p (take (m * 5) two) m (take (k * 5) three) k)

@@ -11,7 +11,7 @@ ghost use lib.ListN.{length, getD, take};
 ghost use Rattle.tableau_layout.specs.Layout.{tableau-atoms, tableau-numbers};
 ghost use Rattle.list_laws.specs.Wrote.{Wrote};
 ghost use Rattle.case_verdicts.specs.Verdict.{Sheet};
-ghost use Rattle.search_chase.specs.Parts.{ReadyPlan, Found};
+ghost use Rattle.search_chase.specs.Parts.{ReadyPlan, StateFound};
 ghost use Rattle.case_writer.specs.Over.{SpareFreeIn, HandsOver};
 
 // How many facts stand in the lent words, and the missing answer.
@@ -45,7 +45,7 @@ fn put_facts(out: &mut [i32], facts: &[usize])
 // The facts of a good state, in order and without any to spare, in front of the room; how many.
 fn spare_free(p: &[usize; PLAN_NUMBERS], st: &[usize], room: &mut [usize]) -> usize
     requires { ⌜ length (now room) ≡ tableau-numbers ⌝ }
-    ensures { λ k. ⌜ ((x : Sheet) → ReadyPlan (now (p .entry)) x → Found x x (now (st .entry)) → (k ≤ tableau-atoms) × SpareFreeIn (now (p .entry)) x (take (k * 5) (now (room .exit))) k) ⌝ }
+    ensures { λ k. ⌜ ((x : Sheet) → ReadyPlan (now (p .entry)) x → StateFound x x (now (st .entry)) → (k ≤ tableau-atoms) × SpareFreeIn (now (p .entry)) x (take (k * 5) (now (room .exit))) k) ⌝ }
 {
     let n = search_state::facts(p, st, 0, room);
     let m = case_order::arrange(room, n);
@@ -54,7 +54,7 @@ fn spare_free(p: &[usize; PLAN_NUMBERS], st: &[usize], room: &mut [usize]) -> us
 
 // Hands the case of a good state over, with its least missing answer. Nothing is written where there is too little room.
 pub fn hand_over(p: &[usize; PLAN_NUMBERS], st: &[usize], out: &mut [i32]) -> HandedCase
-    ensures { λ r. ⌜ ((x : Sheet) → ReadyPlan (now (p .entry)) x → Found x x (now (st .entry)) → tableau-numbers ≤ length (now (out .entry)) → HandsOver x (now (out .entry)) (now (out .exit)) (r .count) (r .missing)) ⌝ }
+    ensures { λ r. ⌜ ((x : Sheet) → ReadyPlan (now (p .entry)) x → StateFound x x (now (st .entry)) → tableau-numbers ≤ length (now (out .entry)) → HandsOver x (now (out .entry)) (now (out .exit)) (r .count) (r .missing)) ⌝ }
     ensures { λ r. ⌜ (length (now (out .entry)) < tableau-numbers → now (out .exit) ≡ now (out .entry)) ⌝ }
 {
     if out.len() < TABLEAU_NUMBERS {

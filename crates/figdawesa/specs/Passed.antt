@@ -4,8 +4,8 @@ use Rattle.judge.specs.declared.Judgement.{Judgement}
 use Rattle.figdawesa.specs.declared.Ended.{Ended}
 use Rattle.figdawesa.specs.declared.Outcome.{Outcome}
 
-abbrev pub told : Ended → Returned
-told r = record { number = r .number; line = r .line; count = r .count }
+abbrev pub returnedOf : Ended → Returned
+returnedOf r = record { number = r .number; line = r .line; count = r .count }
 
 abbrev pub judgementOf : Outcome → Judgement
 judgementOf r = record { verdict = r .verdict; number = r .number; line = r .line; count = r .count; missing = r .missing }

@@ -9,7 +9,7 @@ ghost use Rattle.sheet_format.specs.declared.Ending.{Ending};
 ghost use Rattle.query_meaning.specs.Evaluate.{Evaluated};
 ghost use Rattle.sheet_lines.specs.Start.{lineStart};
 ghost use Rattle.judge.specs.Judged.{Judged};
-ghost use Rattle.figdawesa.specs.Passed.{told, judgementOf};
+ghost use Rattle.figdawesa.specs.Passed.{returnedOf, judgementOf};
 
 // How a call ended: a refusal's number and line, both 0 where nothing is refused, and the count of what was written.
 #[repr(C)]
@@ -38,7 +38,7 @@ pub struct Outcome {
 
 // An ending in three numbers.
 fn in_numbers(e: Ending) -> Ended
-    ensures { λ r. ⌜ told r ≡ returned e ⌝ }
+    ensures { λ r. ⌜ returnedOf r ≡ returned e ⌝ }
 {
     match e {
         Ending::Done(count) => Ended {
@@ -57,7 +57,7 @@ fn in_numbers(e: Ending) -> Ended
 // A sheet's bytes to its number form in the lent words.
 #[no_mangle]
 pub extern "C" fn figdawesa_read(sheet: &[u8], out: &mut [i32]) -> Ended
-    ensures { λ r. ⌜ (told r ≡ returned (readEnding (now (sheet .entry)) (length (now (out .entry))))) × (now (out .exit) ≡ readWords (now (sheet .entry)) (now (out .entry))) ⌝ }
+    ensures { λ r. ⌜ (returnedOf r ≡ returned (readEnding (now (sheet .entry)) (length (now (out .entry))))) × (now (out .exit) ≡ readWords (now (sheet .entry)) (now (out .entry))) ⌝ }
 {
     in_numbers(sheet::read(sheet, out))
 }
@@ -65,7 +65,7 @@ pub extern "C" fn figdawesa_read(sheet: &[u8], out: &mut [i32]) -> Ended
 // A number form to its sheet's bytes in the lent bytes.
 #[no_mangle]
 pub extern "C" fn figdawesa_write(words: &[i32], out: &mut [u8]) -> Ended
-    ensures { λ r. ⌜ (told r ≡ returned (writeEnding (now (words .entry)) (length (now (out .entry))))) × (now (out .exit) ≡ writeBytes (now (words .entry)) (now (out .entry))) ⌝ }
+    ensures { λ r. ⌜ (returnedOf r ≡ returned (writeEnding (now (words .entry)) (length (now (out .entry))))) × (now (out .exit) ≡ writeBytes (now (words .entry)) (now (out .entry))) ⌝ }
 {
     in_numbers(sheet::write(words, out))
 }
@@ -92,7 +92,7 @@ pub extern "C" fn figdawesa_evaluate(
     facts: &[i32],
     out: &mut [i32],
 ) -> Ended
-    ensures { λ r. ⌜ ((e : Ending) × (told r ≡ returned e) × Evaluated (now (sheet .entry)) block (now (facts .entry)) (now (out .entry)) (now (out .exit)) e) ⌝ }
+    ensures { λ r. ⌜ ((e : Ending) × (returnedOf r ≡ returned e) × Evaluated (now (sheet .entry)) block (now (facts .entry)) (now (out .entry)) (now (out .exit)) e) ⌝ }
 {
     in_numbers(evaluate::evaluate(sheet, block, facts, out))
 }

@@ -30,7 +30,7 @@ use Rattle.case_verdicts.proofs.Accepted.{accepted-sheet, accepted-lists}
 use Rattle.case_verdicts.proofs.Order.{block-question, block-list, block-view, block-count}
 use Rattle.case_verdicts.proofs.Judge.{says-covered, says-no-log}
 use Rattle.tableau_plan.specs.Plan.{Plan}
-use Rattle.search_chase.specs.Parts.{ReadyPlan, Found, FoundBy}
+use Rattle.search_chase.specs.Parts.{ReadyPlan, StateFound, FoundBy}
 use Rattle.case_writer.specs.Over.{HandsOver}
 use Rattle.judge.specs.Judged.{judgement, SheetSent, Short, Said, HandedOver, Decided, Judged, least-room}
 use Rattle.judge.specs.declared.Judgement.{Judgement}
@@ -57,7 +57,7 @@ module _ (ls : List Line) (ok : refusalOf ls .number ≡ 0) where
 -- ---- the verdict from the two searches
 
 module _ (p : List ℕ) (x : Sheet) (r : ReadyPlan p x) (out : List ℤ) (room : least-room ≤ length out) where
-  pub found-case : (b : Bool) (ws : List ℕ) → b ≡ true → FoundBy b x x ws → Found x x ws
+  pub found-case : (b : Bool) (ws : List ℕ) → b ≡ true → FoundBy b x x ws → StateFound x x ws
   found-case true ws e f = f
   found-case false ws e f = absurd (true≢false (sym e))
 

@@ -8,7 +8,7 @@ use native.Mathlib.Decide.{decLt}
 use borrow.Author.Count.{below-more}
 use lib.ListN.{length, getD}
 use lib.Seq.{ext-getD}
-use Rattle.list_laws.specs.Order.{_⊏_, Agree}
+use Rattle.list_laws.specs.Order.{_⊏_, SameBefore}
 
 pub less-irrefl : (t : List ℕ) → t ⊏ t → ⊥
 less-irrefl [] h = h
@@ -35,42 +35,42 @@ not-below t u (inr k) h = less-not t u h k
 
 -- ---- a loop over the places, up to the first difference
 
-pub agree-none : (t w : List ℕ) → Agree 0 t w
+pub agree-none : (t w : List ℕ) → SameBefore 0 t w
 agree-none t w = record { same = λ q lt. absurd (omega arith) }
 
-pub agree-more : (k : ℕ) (t w : List ℕ) → Agree k t w → getD t k 0 ≡ getD w k 0 → Agree (k + 1) t w
+pub agree-more : (k : ℕ) (t w : List ℕ) → SameBefore k t w → getD t k 0 ≡ getD w k 0 → SameBefore (k + 1) t w
 agree-more k t w a e = record { same = below-more (λ q. getD t q 0 ≡ getD w q 0) k (a .same) e }
 
-pub agree-sym : {k : ℕ} {t w : List ℕ} → Agree k t w → Agree k w t
+pub agree-sym : {k : ℕ} {t w : List ℕ} → SameBefore k t w → SameBefore k w t
 agree-sym a = record { same = λ q lt. sym (a .same q lt) }
 
-pub agree-trans : {k : ℕ} {t u w : List ℕ} → Agree k t u → Agree k u w → Agree k t w
+pub agree-trans : {k : ℕ} {t u w : List ℕ} → SameBefore k t u → SameBefore k u w → SameBefore k t w
 agree-trans a b = record { same = λ q lt. a .same q lt ∙ b .same q lt }
 
-pub agree-less : {k : ℕ} {t w : List ℕ} (j : ℕ) → j ≤ k → Agree k t w → Agree j t w
+pub agree-less : {k : ℕ} {t w : List ℕ} (j : ℕ) → j ≤ k → SameBefore k t w → SameBefore j t w
 agree-less j le a = record { same = λ q lt. a .same q (omega arith) }
 
 -- the first difference decides
-pub order : (k : ℕ) (u w : List ℕ) → k < length u → k < length w → Agree k u w → getD u k 0 < getD w k 0 → u ⊏ w
+pub order : (k : ℕ) (u w : List ℕ) → k < length u → k < length w → SameBefore k u w → getD u k 0 < getD w k 0 → u ⊏ w
 order k [] w in-u in-w a lt = absurd (omega arith)
 order k (m ∷ l) [] in-u in-w a lt = absurd (omega arith)
 order zero (m ∷ l) (n ∷ r) in-u in-w a lt = inl lt
 order (suc k) (m ∷ l) (n ∷ r) in-u in-w a lt =
     inr (a .same 0 (omega arith), order k l r (omega arith) (omega arith) (record { same = λ q h. a .same (suc q) (omega arith) }) lt)
 
-pub record Differ (u w : List ℕ) : Type 0 where
+pub record FirstDifference (u w : List ℕ) : Type 0 where
   pub at : ℕ
   pub inside : at < length u
-  pub agree : Agree at u w
+  pub agree : SameBefore at u w
   pub less : getD u at 0 < getD w at 0
 
-pub differ : (u w : List ℕ) → u ⊏ w → Differ u w
+pub differ : (u w : List ℕ) → u ⊏ w → FirstDifference u w
 differ [] w h = absurd h
 differ (m ∷ l) [] h = absurd h
 differ (m ∷ l) (n ∷ r) (inl lt) = record { at = 0; inside = omega arith; agree = agree-none (m ∷ l) (n ∷ r); less = lt }
 differ (m ∷ l) (n ∷ r) (inr h) = later (differ l r (h .1))
   where
-    later : Differ l r → Differ (m ∷ l) (n ∷ r)
+    later : FirstDifference l r → FirstDifference (m ∷ l) (n ∷ r)
     later d = record { at = suc (d .at); inside = let i = d .inside in omega arith; agree = record { same = same }; less = d .less }
       where
         same : (q : ℕ) → q < suc (d .at) → getD (m ∷ l) q 0 ≡ getD (n ∷ r) q 0
@@ -78,7 +78,7 @@ differ (m ∷ l) (n ∷ r) (inr h) = later (differ l r (h .1))
         same (suc q) lt = d .agree .same q (omega arith)
 
 -- no difference: the same
-pub agree-all : (k : ℕ) (t u : List ℕ) → length t ≡ k → length u ≡ k → Agree k t u → t ≡ u
+pub agree-all : (k : ℕ) (t u : List ℕ) → length t ≡ k → length u ≡ k → SameBefore k t u → t ≡ u
 agree-all k t u long long′ a = ext-getD 0 t u (long ∙ sym long′) (λ i lt. a .same i (omega arith))
 
 compare-first : (m n : ℕ) (l r : List ℕ) → Dec (m < n) → Dec (n < m) → (l ⊏ r) ⊎ ((l ≡ r) ⊎ (r ⊏ l)) → ((m ∷ l) ⊏ (n ∷ r)) ⊎ (((m ∷ l) ≡ (n ∷ r)) ⊎ ((n ∷ r) ⊏ (m ∷ l)))

@@ -13,7 +13,7 @@ abbrev pub _⊏_ : List ℕ → List ℕ → Type 0
 
 infix 20 _⊏_
 -- t and w agree at the places before p
-pub record Agree (p : ℕ) (t w : List ℕ) : Type 0 where
+pub record SameBefore (p : ℕ) (t w : List ℕ) : Type 0 where
   pub same : (q : ℕ) → q < p → getD t q 0 ≡ getD w q 0
 
 -- t is below u; or it is u, or above

@@ -15,12 +15,12 @@ use Rattle.sheet_format.proofs.WordLines.{lines-length}
 use Rattle.sheet_format.specs.Line.{Line, null, natural, wordLines}
 use Rattle.sheet_format.specs.Cause.{kindOf, kind, rest, second, terms, isHead, isAtom, atoms}
 use Rattle.query_meaning.specs.Blocks.{View, asTerm, atomOf, blockOf, viewOf, blocks, allBlocks, nth, blockAt}
-use Rattle.query_encoding.specs.Encoding.{number, termAt, atomAt, BlockNumbers, isBlock, BlockFound}
+use Rattle.query_encoding.specs.Encoding.{termNumber, termAt, atomAt, BlockNumbers, isBlock, BlockFound}
 use Rattle.sheet_format.proofs.Lists.{no-way}
 use Rattle.query_blocks.proofs.Accepted.{accepted-clean}
 use Rattle.query_blocks.proofs.Shape.{isNth, blockNth, block-of, blocks-head, blocks-other, nth-first, nth-past, no-nth, accepted-fine, accepted-shaped}
 use Rattle.query_blocks.proofs.Words.{kind-word, second-word, rest-word, term-word}
-use Rattle.query_blocks.specs.Parts.{AcceptedLines, HeadAt, numberAt, entryOf}
+use Rattle.query_blocks.specs.Parts.{AcceptedLines, HeadAt, termNumberAt, entryOf}
 
 -- ---- a number by its place
 
@@ -29,11 +29,11 @@ module _ (ws : List ℤ) (h x : ℕ) where
   unfolding entryOf
   entry-relation lt e = rw (lt-ltb x block-head lt, eq-eqb (x % 5) 0 e) refl
 
-  pub entry-term : x < block-head → (x % 5 ≡ 0 → ⊥) → numberAt ws (7 * (h + 1 + x / 5) + 2 + x % 5) ≡ entryOf ws h x
+  pub entry-term : x < block-head → (x % 5 ≡ 0 → ⊥) → termNumberAt ws (7 * (h + 1 + x / 5) + 2 + x % 5) ≡ entryOf ws h x
   unfolding entryOf
   entry-term lt e = rw (lt-ltb x block-head lt, ne-eqb (x % 5) 0 e) refl
 
-  pub entry-head : block-head ≤ x → numberAt ws (7 * h + 2 + (x - block-head)) ≡ entryOf ws h x
+  pub entry-head : block-head ≤ x → termNumberAt ws (7 * h + 2 + (x - block-head)) ≡ entryOf ws h x
   unfolding entryOf
   entry-head le = rw (le-ltb x block-head le) refl
 
@@ -155,8 +155,8 @@ after : List ℤ → ℕ → List Line
 after ws h = atoms (drop (h + 1) (wordLines ws))
 
 -- a list of words as terms, at a place
-term-at : (ts : List ℤ) (c : ℕ) → number (asTerm (getD ts c (pos 0))) ≡ number (termAt (map asTerm ts) c)
-term-at ts c = ap number (sym (List·getD-map asTerm ts c (pos 0)))
+term-at : (ts : List ℤ) (c : ℕ) → termNumber (asTerm (getD ts c (pos 0))) ≡ termNumber (termAt (map asTerm ts) c)
+term-at ts c = ap termNumber (sym (List·getD-map asTerm ts c (pos 0)))
 
 module _ (ws : List ℤ) (h : ℕ) (lt : h < length ws / 7) (a : AcceptedLines (wordLines ws)) (blk : List ℕ) (each : (x : ℕ) → x < block-width → getD blk x 0 ≡ entryOf ws h x) where
   -- atom j is line h + 1 + j
@@ -182,22 +182,22 @@ module _ (ws : List ℤ) (h : ℕ) (lt : h < length ws / 7) (a : AcceptedLines (
       ∙ ap (λ n. natural (getD ws (7 * (h + 1 + n) + 2) (pos 0))) e
       ∙ ap natural (sym (second-word ws (h + 1 + j) p (formed ws (h + 1 + j) p a)))
 
-  term-place : (j : ℕ) → j < most-atoms → h + 1 + j < length ws / 7 → (c : ℕ) → c < 4 → getD blk (j * 5 + 1 + c) 0 ≡ number (termAt (map asTerm (terms (getD (wordLines ws) (h + 1 + j) []))) c)
+  term-place : (j : ℕ) → j < most-atoms → h + 1 + j < length ws / 7 → (c : ℕ) → c < 4 → getD blk (j * 5 + 1 + c) 0 ≡ termNumber (termAt (map asTerm (terms (getD (wordLines ws) (h + 1 + j) []))) c)
   term-place j few p c four =
       let e : 7 * (h + 1 + (j * 5 + 1 + c) / 5) + 2 + (j * 5 + 1 + c) % 5 ≡ 7 * (h + 1 + j) + 3 + c = omega arith in
       each (j * 5 + 1 + c) (omega arith)
       ∙ sym (entry-term ws h (j * 5 + 1 + c) (omega arith) (λ z. omega arith))
-      ∙ ap (numberAt ws) e
-      ∙ ap (λ z. number (asTerm z)) (sym (term-word ws (h + 1 + j) p (formed ws (h + 1 + j) p a) c four))
+      ∙ ap (termNumberAt ws) e
+      ∙ ap (λ z. termNumber (asTerm z)) (sym (term-word ws (h + 1 + j) p (formed ws (h + 1 + j) p a) c four))
       ∙ term-at (terms (getD (wordLines ws) (h + 1 + j) [])) c
 
-  head-place : (p : ℕ) → p < 4 → getD blk (block-head + p) 0 ≡ number (termAt (map asTerm (rest (getD (wordLines ws) h []))) p)
+  head-place : (p : ℕ) → p < 4 → getD blk (block-head + p) 0 ≡ termNumber (termAt (map asTerm (rest (getD (wordLines ws) h []))) p)
   head-place p four =
       let e : 7 * h + 2 + (block-head + p - block-head) ≡ 7 * h + 2 + p = omega arith in
       each (block-head + p) (omega arith)
       ∙ sym (entry-head ws h (block-head + p) (omega arith))
-      ∙ ap (numberAt ws) e
-      ∙ ap (λ z. number (asTerm z)) (sym (rest-word ws h lt (formed ws h lt a) p (omega arith)))
+      ∙ ap (termNumberAt ws) e
+      ∙ ap (λ z. termNumber (asTerm z)) (sym (rest-word ws h lt (formed ws h lt a) p (omega arith)))
       ∙ term-at (rest (getD (wordLines ws) h [])) p
 
   pub block-numbers : (n : ℕ) → length blk ≡ block-width → length (atoms (drop (h + 1) (wordLines ws))) ≤ most-atoms → n ≡ length (atoms (drop (h + 1) (wordLines ws)))
@@ -209,7 +209,7 @@ module _ (ws : List ℤ) (h : ℕ) (lt : h < length ws / 7) (a : AcceptedLines (
         count = simp length-map e;
         few = omega arith;
         relation = λ j k. relation-word j (omega arith) (atom-inside j (omega arith)) ∙ ap (λ b. b .rel) (atom-line j (omega arith));
-        columns = λ j k c four. term-place j (omega arith) (atom-inside j (omega arith)) c four ∙ ap (λ b. number (termAt (b .terms) c)) (atom-line j (omega arith));
+        columns = λ j k c four. term-place j (omega arith) (atom-inside j (omega arith)) c four ∙ ap (λ b. termNumber (termAt (b .terms) c)) (atom-line j (omega arith));
         head = head-place;
       }
 

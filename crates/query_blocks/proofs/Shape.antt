@@ -123,7 +123,7 @@ bound-in ls n h =
     (atomOf l, in-map atomOf ls l i, subst (λ w. In (asTerm w) (map asTerm (terms l))) (sym g) (in-map asTerm (terms l) z j))
 
 -- a block of an accepted sheet
-pub record Fine (b : Block) : Type 0 where
+pub record AcceptedBlock (b : Block) : Type 0 where
   pub shaped : Shaped b
   pub some : 1 ≤ length (b .atoms)
   pub few : length (b .atoms) ≤ most-atoms
@@ -138,7 +138,7 @@ some-lines : (ls : List Line) → null ls ≡ false → 1 ≤ length ls
 some-lines [] e = no-way (sym e)
 some-lines (l ∷ ls) e = omega arith
 
-block-fine : (l : Line) (ls : List Line) → HeadLine l → AtomLines (atoms ls) → length (atoms ls) ≤ most-atoms → null (atoms ls) ≡ false → all (bound (atoms ls)) (rest l) ≡ true → Fine (blockOf l ls)
+block-fine : (l : Line) (ls : List Line) → HeadLine l → AtomLines (atoms ls) → length (atoms ls) ≤ most-atoms → null (atoms ls) ≡ false → all (bound (atoms ls)) (rest l) ≡ true → AcceptedBlock (blockOf l ls)
 block-fine l ls d a few n b =
     record {
       shaped = record {
@@ -204,9 +204,9 @@ no-nth (suc k) = nth-by [] k ∙ ap not (lt-ltb 0 (suc k) (omega arith))
 -- ---- each block is shaped
 
 Each : List Line → Type 0
-Each ls = (k : ℕ) → isNth (allBlocks ls) k ≡ true → Fine (blockNth (allBlocks ls) k)
+Each ls = (k : ℕ) → isNth (allBlocks ls) k ≡ true → AcceptedBlock (blockNth (allBlocks ls) k)
 
-each-more : (v : View) (vs : List View) → Fine (v .block) → ((k : ℕ) → isNth vs k ≡ true → Fine (blockNth vs k)) → (k : ℕ) → isNth (v ∷ vs) k ≡ true → Fine (blockNth (v ∷ vs) k)
+each-more : (v : View) (vs : List View) → AcceptedBlock (v .block) → ((k : ℕ) → isNth vs k ≡ true → AcceptedBlock (blockNth vs k)) → (k : ℕ) → isNth (v ∷ vs) k ≡ true → AcceptedBlock (blockNth (v ∷ vs) k)
 each-more v vs f ih zero e = no-way e
 each-more v vs f ih (suc zero) e = f
 each-more v vs f ih (suc (suc k)) e = ih (suc k) (sym (nth-past v vs k) ∙ e)
@@ -224,7 +224,7 @@ each-from (l ∷ ls) g b n m s h = go (each-from ls (next g l) l (n + 1) (m + 1)
     c : Clean g l
     c = scan-first l ls g b n s .0
 
-    go : Each ls → (t : Bool) → isHead (kind l) ≡ t → (k : ℕ) → isNth (cond t (viewOf l ls ∷ allBlocks ls) (allBlocks ls)) k ≡ true → Fine (blockNth (cond t (viewOf l ls ∷ allBlocks ls) (allBlocks ls)) k)
+    go : Each ls → (t : Bool) → isHead (kind l) ≡ t → (k : ℕ) → isNth (cond t (viewOf l ls ∷ allBlocks ls) (allBlocks ls)) k ≡ true → AcceptedBlock (blockNth (cond t (viewOf l ls ∷ allBlocks ls) (allBlocks ls)) k)
     go ih true e =
         let z = no-atoms g (kind l) (length (rest l)) e in
         let a = front-atoms ls (next g l) l (n + 1) (omega arith) (scan-first l ls g b n s .1) in
@@ -232,9 +232,9 @@ each-from (l ∷ ls) g b n m s h = go (each-from ls (next g l) l (n + 1) (m + 1)
         each-more (viewOf l ls) (allBlocks ls) (block-fine l ls (head-line g l c e) (a .0) (let w = a .1 in omega arith) (u .0) (u .1)) ih
     go ih false e = ih
 
-pub accepted-fine : (ls : List Line) → refusalOf ls .number ≡ 0 → (k : ℕ) → isBlock ls k ≡ true → Fine (blockAt ls k)
+pub accepted-fine : (ls : List Line) → refusalOf ls .number ≡ 0 → (k : ℕ) → isBlock ls k ≡ true → AcceptedBlock (blockAt ls k)
 unfolding Each
-accepted-fine ls h k e = subst Fine (sym (block-of ls k)) (each-from ls start [] 1 1 (eqb-true _ 0 (accepted-scan ls h)) (accepted-heads ls h) k e)
+accepted-fine ls h k e = subst AcceptedBlock (sym (block-of ls k)) (each-from ls start [] 1 1 (eqb-true _ 0 (accepted-scan ls h)) (accepted-heads ls h) k e)
 
 pub accepted-shaped : (ls : List Line) → refusalOf ls .number ≡ 0 → (k : ℕ) → isBlock ls k ≡ true → Shaped (blockAt ls k)
 accepted-shaped ls h k e = accepted-fine ls h k e .shaped

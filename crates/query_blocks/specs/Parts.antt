@@ -10,7 +10,7 @@ use Rattle.query_layout.specs.Layout.{block-head}
 use Rattle.sheet_format.specs.Line.{Line, natural}
 use Rattle.sheet_format.specs.Cause.{refusalOf}
 use Rattle.query_meaning.specs.Blocks.{asTerm, blockOf, blockAt}
-use Rattle.query_encoding.specs.Encoding.{number, isBlock}
+use Rattle.query_encoding.specs.Encoding.{termNumber, isBlock}
 
 abbrev pub AcceptedLines : List Line → Type 0
 AcceptedLines ls = refusalOf ls .number ≡ 0
@@ -21,12 +21,12 @@ pub record HeadAt (ls : List Line) (k r : ℕ) : Type 0 where
   pub nowhere : length ls ≤ r → isBlock ls k ≡ false
 
 -- a word's number as a term
-abbrev pub numberAt : List ℤ → ℕ → ℕ
-numberAt ws i = number (asTerm (getD ws i (pos 0)))
+abbrev pub termNumberAt : List ℤ → ℕ → ℕ
+termNumberAt ws i = termNumber (asTerm (getD ws i (pos 0)))
 
 -- number x of a block whose head is line h: six lines of five numbers each, a relation and four terms, and then the head's four terms
 unfoldable pub entryOf : List ℤ → ℕ → ℕ → ℕ
 entryOf ws h x =
     cond (ltb x block-head)
-    (cond (eqb (x % 5) 0) (natural (getD ws (7 * (h + 1 + x / 5) + 2) (pos 0))) (numberAt ws (7 * (h + 1 + x / 5) + 2 + x % 5)))
-    (numberAt ws (7 * h + 2 + (x - block-head)))
+    (cond (eqb (x % 5) 0) (natural (getD ws (7 * (h + 1 + x / 5) + 2) (pos 0))) (termNumberAt ws (7 * (h + 1 + x / 5) + 2 + x % 5)))
+    (termNumberAt ws (7 * h + 2 + (x - block-head)))

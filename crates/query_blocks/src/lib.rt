@@ -15,7 +15,7 @@ ghost use Rattle.sheet_format.specs.Limits.{most-atoms};
 ghost use Rattle.sheet_format.specs.Line.{natural, wordLines};
 ghost use Rattle.sheet_format.specs.Cause.{kindOf, isHead, isAtom, atoms, refusalOf};
 ghost use Rattle.query_meaning.specs.Blocks.{asTerm};
-ghost use Rattle.query_encoding.specs.Encoding.{number, BlockFound};
+ghost use Rattle.query_encoding.specs.Encoding.{termNumber, BlockFound};
 ghost use Rattle.query_blocks.specs.Parts.{AcceptedLines, HeadAt, entryOf};
 
 // A block of a sheet in plain numbers: whether there is one, how many atoms it has, its atoms and head.
@@ -27,7 +27,7 @@ pub struct Numbers {
 
 // A word as a term: a constant from 13 on, a variable by its index.
 fn term_number(word: i32) -> usize
-    ensures { λ r. ⌜ r ≡ number (asTerm word) ⌝ }
+    ensures { λ r. ⌜ r ≡ termNumber (asTerm word) ⌝ }
 {
     if word < 0 {
         return (0 - (word as i64)) as usize;

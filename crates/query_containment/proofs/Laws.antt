@@ -12,14 +12,14 @@ use lib.Dec.{ltb}
 use lib.ListN.{length, getD, set, take, length-set, List·getD-eq-default}
 use lib.Seq.{getD-set-same, getD-set-other, getD-take, length-take-le}
 use Rattle.query_layout.specs.Layout.{block-head, names}
-use Rattle.list_laws.specs.Order.{Agree}
+use Rattle.list_laws.specs.Order.{SameBefore}
 use Rattle.query_join.specs.Joins.{valueOf, Becomes, AtomMet, headRow, Given}
 use Rattle.query_answers.specs.Answers.{column}
 use Rattle.query_answers.proofs.Laws.{value-variable, value-constant}
 use Rattle.query_answers.proofs.Rows.{given-column, head-at}
 use Rattle.sheet_format.specs.Limits.{constant-end}
 use Rattle.query_meaning.specs.Facts.{value-end}
-use Rattle.query_containment.specs.Containment.{frozen-at, BelowFrozen, Plain, OwnValue, OwnValues, under, atomUnder, Fronted, FactPut, AtomsPut, Contained}
+use Rattle.query_containment.specs.Containment.{frozen-at, BelowFrozen, NoneFrozen, OwnValue, OwnValues, under, atomUnder, Fronted, FactPut, AtomsPut, Contained}
 
 -- ---- small numbers
 
@@ -69,7 +69,7 @@ value-same u v e t = side (decLt t names)
     side (no h) = value-constant u t (omega arith) ∙ sym (value-constant v t (omega arith))
 
 -- what a variable became, thawed, is what the valuation says that gives the question a row with the same columns
-pub thaw-value : (q : List ℕ) (n : ℕ) (facts row w : List ℕ) (k x y : ℕ) → BelowFrozen row → k ≤ 4 → x < names → OwnValue q row k x y → (g : Given q n facts w) → Agree k row w
+pub thaw-value : (q : List ℕ) (n : ℕ) (facts row w : List ℕ) (k x y : ℕ) → BelowFrozen row → k ≤ 4 → x < names → OwnValue q row k x y → (g : Given q n facts w) → SameBefore k row w
     → thaw (g .val) y ≡ g .val x
 thaw-value q n facts row w k x y small le lt own g a =
     ⊎-elim (λ e. ap (thaw (g .val)) e ∙ thaw-own (g .val) x) (λ o. side (o .0) (o .1) (o .2) (o .3)) (own .is)
@@ -117,8 +117,8 @@ pub record Laid (q vals : List ℕ) (n : ℕ) (facts F : List ℕ) (m : ℕ) : T
   pub front : Fronted (m * 5) facts F
   pub here : (j : ℕ) → j < n → Becomes q F (under vals) j (m + j)
 
-module _ (q l facts row : List ℕ) (n ln k m : ℕ) (vals F : List ℕ) (plain : Plain q l facts row) (le : k ≤ 4) (own : OwnValues q row k vals) (laid : Laid q vals n facts F m)
-    (w : List ℕ) (g : Given q n facts w) (a : Agree k row w) where
+module _ (q l facts row : List ℕ) (n ln k m : ℕ) (vals F : List ℕ) (plain : NoneFrozen q l facts row) (le : k ≤ 4) (own : OwnValues q row k vals) (laid : Laid q vals n facts F m)
+    (w : List ℕ) (g : Given q n facts w) (a : SameBefore k row w) where
   -- a term of the question, frozen and thawed
   thaw-question : (i : ℕ) → thaw (g .val) (valueOf (under vals) (getD q i 0)) ≡ valueOf (g .val) (getD q i 0)
   thaw-question i =
@@ -167,7 +167,7 @@ module _ (q l facts row : List ℕ) (n ln k m : ℕ) (vals F : List ℕ) (plain 
           ∙ ap (thaw (g .val)) (given-column l ln F (headRow (under vals) q) f p lt ∙ head-at q (under vals) p lt)
           ∙ thaw-question (block-head + p)
 
-pub covers : (q l facts row : List ℕ) (n ln k m : ℕ) (vals F : List ℕ) → Plain q l facts row → k ≤ 4 → OwnValues q row k vals → Laid q vals n facts F m
+pub covers : (q l facts row : List ℕ) (n ln k m : ℕ) (vals F : List ℕ) → NoneFrozen q l facts row → k ≤ 4 → OwnValues q row k vals → Laid q vals n facts F m
     → Given l ln F (headRow (under vals) q) → Contained q n l ln facts row k
 covers q l facts row n ln k m vals F plain le own laid f = record { gives = λ w g a. thawed q l facts row n ln k m vals F plain le own laid w g a f }
 

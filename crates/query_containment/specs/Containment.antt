@@ -5,7 +5,7 @@ use mathlib.Core.Logic.{_⊎_}
 use Prim.Native.Nat.{ℕ, _+_, _*_, _<_}
 use lib.ListN.{length, getD}
 use Rattle.query_layout.specs.Layout.{block-head, names}
-use Rattle.list_laws.specs.Order.{Agree}
+use Rattle.list_laws.specs.Order.{SameBefore}
 use Rattle.query_meaning.specs.Facts.{value-end}
 use Rattle.query_join.specs.Joins.{valueOf, Becomes, Given}
 
@@ -18,7 +18,7 @@ pub record BelowFrozen (s : List ℕ) : Type 0 where
   pub all : (i : ℕ) → getD s i 0 < frozen-at
 
 -- no value of the two blocks, of the facts and of the row stands for a variable
-pub record Plain (q l facts row : List ℕ) : Type 0 where
+pub record NoneFrozen (q l facts row : List ℕ) : Type 0 where
   pub question : BelowFrozen q
   pub list : BelowFrozen l
   pub given : BelowFrozen facts
@@ -59,4 +59,4 @@ pub record AtomsPut (q vals : List ℕ) (n m : ℕ) (old new : List ℕ) : Type 
 
 -- the list is given each row that the question is given and that has the row's values in the columns before k
 pub record Contained (q : List ℕ) (n : ℕ) (l : List ℕ) (ln : ℕ) (facts row : List ℕ) (k : ℕ) : Type 0 where
-  pub gives : (w : List ℕ) → Given q n facts w → Agree k row w → Given l ln facts w
+  pub gives : (w : List ℕ) → Given q n facts w → SameBefore k row w → Given l ln facts w

@@ -19,7 +19,7 @@ ghost use Rattle.tableau_layout.specs.Layout.{tableau-numbers};
 ghost use Rattle.query_layout.specs.Layout.{names};
 ghost use Rattle.sheet_format.specs.Limits.{most-atoms};
 ghost use Rattle.query_join.specs.Joins.{valueOf, headRow};
-ghost use Rattle.query_containment.specs.Containment.{BelowFrozen, Plain, OwnValue, OwnValues, under, atomUnder, Fronted, FactPut, AtomsPut, Contained};
+ghost use Rattle.query_containment.specs.Containment.{BelowFrozen, NoneFrozen, OwnValue, OwnValues, under, atomUnder, Fronted, FactPut, AtomsPut, Contained};
 
 // Given facts come in up to a tableau's numbers; with a question's atoms they have room.
 const ROOM: usize = TABLEAU_NUMBERS + HEAD_AT;
@@ -48,7 +48,7 @@ fn is_plain(
     facts: &[usize],
     row: [usize; 4],
 ) -> bool
-    ensures { λ r. ⌜ (r ≡ true → Plain (now (q .entry)) (now (l .entry)) (now (facts .entry)) row) ⌝ }
+    ensures { λ r. ⌜ (r ≡ true → NoneFrozen (now (q .entry)) (now (l .entry)) (now (facts .entry)) row) ⌝ }
 {
     if !is_small(q) {
         return false;
@@ -189,7 +189,7 @@ fn is_covered(
     k: usize,
 ) -> bool
     requires { ⌜ (k ≤ 4) × (length (now facts) ≤ tableau-numbers) ⌝ }
-    requires { ⌜ Plain (now q) (now l) (now facts) row ⌝ }
+    requires { ⌜ NoneFrozen (now q) (now l) (now facts) row ⌝ }
     ensures { λ r. ⌜ (r ≡ true → Contained (now (q .entry)) (min qn most-atoms) (now (l .entry)) (min ln most-atoms) (now (facts .entry)) row k) ⌝ }
 {
     let n = at_most_six(qn);

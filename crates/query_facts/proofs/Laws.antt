@@ -20,7 +20,7 @@ use Rattle.sheet_format.specs.Relations.{columnsOf, relations}
 use Rattle.query_meaning.specs.Meaning.{Fact, Log, In}
 use Rattle.query_meaning.specs.Facts.{factByFact, factIn, factsIn, factsRefusal, fives, isValue, logOf, relationOf, unused, used, value-end, wrongFact}
 use Rattle.query_encoding.specs.Encoding.{FactNumbers, ShapedLog, factAt}
-use Rattle.query_facts.specs.Parts.{before, inRange, most-fact-words}
+use Rattle.query_facts.specs.Parts.{factBefore, inRange, most-fact-words}
 use Rattle.query_facts.proofs.Words.{not-either, zero-word, value-range, zero-range, part-slice, all-same}
 
 -- ---- a relation's columns
@@ -115,12 +115,12 @@ module _ (ws : List ℤ) (i : ℕ) (h : i < length ws / 5) where
 pub fact-some : (ws : List ℤ) (i : ℕ) → i < length ws / 5 → null (getD (factsIn ws) i []) ≡ false
 fact-some ws i h = ap null (fact-words ws i h ∙ slice-next (5 * i) (5 * i + 5) ws (pos 0) (omega arith) (omega arith))
 
-pub order-first : (fs : List (List ℤ)) (i : ℕ) → i ≡ 0 → true ≡ (null (before fs i) || above (before fs i) (getD fs i []))
+pub order-first : (fs : List (List ℤ)) (i : ℕ) → i ≡ 0 → true ≡ (null (factBefore fs i) || above (factBefore fs i) (getD fs i []))
 order-first fs i e = rw e
 
 pub order-next : (ws : List ℤ) (i : ℕ) (r : Bool) → (i ≡ 0 → ⊥) → i < length ws / 5
     → r ≡ above (getD (factsIn ws) (i - 1) []) (getD (factsIn ws) (i - 1 + 1) [])
-    → r ≡ (null (before (factsIn ws) i) || above (before (factsIn ws) i) (getD (factsIn ws) i []))
+    → r ≡ (null (factBefore (factsIn ws) i) || above (factBefore (factsIn ws) i) (getD (factsIn ws) i []))
 order-next ws zero r n h e = absurd (n refl)
 order-next ws (suc i) r n h e =
     let p : suc i - 1 ≡ i = omega arith in
@@ -129,23 +129,23 @@ order-next ws (suc i) r n h e =
 -- ---- fact by fact
 
 module _ (fs : List (List ℤ)) (i : ℕ) (h : i < length fs) where
-  pub fact-wrong : wrongFact (getD fs i []) ≡ true → refusal 11 0 ≡ factByFact (before fs i) (drop i fs)
+  pub fact-wrong : wrongFact (getD fs i []) ≡ true → refusal 11 0 ≡ factByFact (factBefore fs i) (drop i fs)
   unfolding factByFact
   fact-wrong e = rw (drop-next fs i [] h, e)
 
-  pub fact-low : wrongFact (getD fs i []) ≡ false → null (before fs i) || above (before fs i) (getD fs i []) ≡ false
-      → refusal 12 0 ≡ factByFact (before fs i) (drop i fs)
+  pub fact-low : wrongFact (getD fs i []) ≡ false → null (factBefore fs i) || above (factBefore fs i) (getD fs i []) ≡ false
+      → refusal 12 0 ≡ factByFact (factBefore fs i) (drop i fs)
   unfolding factByFact
-  fact-low e g = rw (drop-next fs i [] h, e, not-either (null (before fs i)) (above (before fs i) (getD fs i [])), g)
+  fact-low e g = rw (drop-next fs i [] h, e, not-either (null (factBefore fs i)) (above (factBefore fs i) (getD fs i [])), g)
 
-  pub fact-goes : wrongFact (getD fs i []) ≡ false → null (before fs i) || above (before fs i) (getD fs i []) ≡ true
-      → factByFact (before fs (i + 1)) (drop (i + 1) fs) ≡ factByFact (before fs i) (drop i fs)
+  pub fact-goes : wrongFact (getD fs i []) ≡ false → null (factBefore fs i) || above (factBefore fs i) (getD fs i []) ≡ true
+      → factByFact (factBefore fs (i + 1)) (drop (i + 1) fs) ≡ factByFact (factBefore fs i) (drop i fs)
   unfolding factByFact
   fact-goes e g =
-      rw (drop-next fs i [] h, e, not-either (null (before fs i)) (above (before fs i) (getD fs i [])), g)
-      (ap (λ n. factByFact (before fs n) (drop (i + 1) fs)) (add-one i))
+      rw (drop-next fs i [] h, e, not-either (null (factBefore fs i)) (above (factBefore fs i) (getD fs i [])), g)
+      (ap (λ n. factByFact (factBefore fs n) (drop (i + 1) fs)) (add-one i))
 
-pub facts-end : (fs : List (List ℤ)) (i : ℕ) → length fs ≤ i → none ≡ factByFact (before fs i) (drop i fs)
+pub facts-end : (fs : List (List ℤ)) (i : ℕ) → length fs ≤ i → none ≡ factByFact (factBefore fs i) (drop i fs)
 unfolding factByFact
 facts-end fs i h = rw (drop-of-length-le fs h)
 

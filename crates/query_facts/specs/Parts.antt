@@ -12,9 +12,9 @@ abbrev pub inRange : ℤ → ℤ → Bool
 inRange end z = not (ltZ z (pos 0)) && not (leZ end z)
 
 -- the fact before fact i; none before the first
-abbrev pub before : List (List ℤ) → ℕ → List ℤ
-before fs zero = []
-before fs (suc i) = getD fs i []
+abbrev pub factBefore : List (List ℤ) → ℕ → List ℤ
+factBefore fs zero = []
+factBefore fs (suc i) = getD fs i []
 
 -- the words of given facts, at most
 abbrev pub most-fact-words : ℕ

@@ -13,7 +13,7 @@ ghost use Rattle.sheet_format.specs.Cause.{above};
 ghost use Rattle.sheet_format.specs.Line.{all, natural, null};
 ghost use Rattle.query_meaning.specs.Facts.{fact-words, factByFact, factsIn, factsRefusal, logOf, wrongFact};
 ghost use Rattle.query_encoding.specs.Encoding.{FactNumbers};
-ghost use Rattle.query_facts.specs.Parts.{before, inRange};
+ghost use Rattle.query_facts.specs.Parts.{factBefore, inRange};
 
 const MOST_FACT_WORDS: usize = MOST_FACTS * FACT_WORDS;
 
@@ -86,7 +86,7 @@ fn is_above(fs: &[i32], i: usize) -> bool
 // Fact i is the first, or above the one before it.
 fn in_order(fs: &[i32], i: usize) -> bool
     requires { ⌜ i < length (now fs) / fact-words ⌝ }
-    ensures { λ r. ⌜ r ≡ (null (before (factsIn (now (fs .entry))) i) || above (before (factsIn (now (fs .entry))) i) (getD (factsIn (now (fs .entry))) i [])) ⌝ }
+    ensures { λ r. ⌜ r ≡ (null (factBefore (factsIn (now (fs .entry))) i) || above (factBefore (factsIn (now (fs .entry))) i) (getD (factsIn (now (fs .entry))) i [])) ⌝ }
 {
     if i == 0 {
         return true;

@@ -28,10 +28,10 @@ use Rattle.case_verdicts.proofs.Tableau.{numbered-job}
 use Rattle.case_verdicts.proofs.Reduce.{row-con}
 use Rattle.case_verdicts.proofs.Refute.{unified, clashed}
 use Rattle.tableau_plan.specs.Plan.{rowAt, rowValues, rowCount, viewCount, blockNumbers, tableauFacts, tableauSize}
-use Rattle.search_state.specs.State.{made-up, Fresh, Constants, Equated, EquatedBy}
+use Rattle.search_state.specs.State.{made-up-slots, Fresh, Constants, Equated, EquatedBy}
 use Rattle.search_state.specs.Parts.{Own}
 use Rattle.search_state.proofs.Laws.{own-free}
-use Rattle.search_chase.specs.Parts.{ReadyPlan, sheetBy, fromBy, Proper, Settled, Stood, Fitting, Heads, HeadsBy, Started, SoughtBy, Found, FoundBy}
+use Rattle.search_chase.specs.Parts.{ReadyPlan, sheetBy, fromBy, Proper, Settled, Stood, Fitting, Heads, HeadsBy, Started, FoundOrLost, StateFound, FoundBy}
 use Rattle.search_chase.proofs.Fresh.{proper-value, copy-small}
 use Rattle.search_chase.proofs.Node.{Task, nth-in, head-refuted, kept-row, fine-row}
 use Rattle.search_chase.proofs.ReadyLaws.{ready-task, ready-facts}
@@ -183,12 +183,12 @@ module _ (p : List ℕ) (x : Sheet) (r : ReadyPlan p x) where
 
   -- ---- all rows
 
-  made-up-few : (ws : List ℕ) → made-up ws ≤ length ws
-  unfolding made-up
+  made-up-few : (ws : List ℕ) → made-up-slots ws ≤ length ws
+  unfolding made-up-slots
   made-up-few [] = omega arith
   made-up-few (w ∷ ws) = go (ltb w top) (made-up-few ws)
     where
-      go : (b : Bool) → made-up ws ≤ length ws → cond b (made-up ws) (suc (made-up ws)) ≤ suc (length ws)
+      go : (b : Bool) → made-up-slots ws ≤ length ws → cond b (made-up-slots ws) (suc (made-up-slots ws)) ≤ suc (length ws)
       go true le = omega arith
       go false le = omega arith
 
@@ -205,14 +205,14 @@ module _ (p : List ℕ) (x : Sheet) (r : ReadyPlan p x) where
   }
 
   -- what the search below says of all
-  pub found-by : (goal : Goal) (b : Bool) (ws lv out lw : List ℕ) (marks : List Bool) (sl : List ℕ) (sm : List Bool) (i : ℕ) → Heads x (sheetBy goal x) ws i → SoughtBy b x (sheetBy goal x) ws lv out lw marks sl sm → FoundBy b x (sheetBy goal x) out
+  pub found-by : (goal : Goal) (b : Bool) (ws lv out lw : List ℕ) (marks : List Bool) (sl : List ℕ) (sm : List Bool) (i : ℕ) → Heads x (sheetBy goal x) ws i → FoundOrLost b x (sheetBy goal x) ws lv out lw marks sl sm → FoundBy b x (sheetBy goal x) out
   found-by goal true ws lv out lw marks sl sm i h s = s
   found-by goal false ws lv out lw marks sl sm i h s =
       h .back (subst (Refuted top (sheetBy goal x)) (relaxed-all ws lv) (rests-more ws lv (h .proper .size) (h .proper .each) (sheetBy goal x) marks [] (λ k e. refl) (s .rests)))
 
 -- what a search found is copied, or there is nothing
 pub found-yes : (x y : Sheet) (b : Bool) (ws out : List ℕ) → b ≡ true → out ≡ ws → FoundBy b x y ws → FoundBy true x y out
-found-yes x y true ws out e same f = subst (Found x y) (sym same) f
+found-yes x y true ws out e same f = subst (StateFound x y) (sym same) f
 found-yes x y false ws out e same f = absurd (true≢false (sym e))
 
 pub found-no : (x y : Sheet) (b : Bool) (ws out : List ℕ) → b ≡ false → FoundBy b x y ws → FoundBy false x y out

@@ -24,7 +24,7 @@ use Rattle.case_verdicts.proofs.Decide.{less?, same?, in?}
 use Rattle.case_verdicts.proofs.Tableau.{numbered-job, of-listed, copy-block, job-is}
 use Rattle.case_verdicts.proofs.Refute.{unified, clashed}
 use Rattle.tableau_plan.specs.Plan.{rowAt, rowValues, rowCount, viewCount}
-use Rattle.search_state.specs.State.{made-up, Fresh, Constants, Equated, EquatedBy}
+use Rattle.search_state.specs.State.{made-up-slots, Fresh, Constants, Equated, EquatedBy}
 use Rattle.search_state.specs.Parts.{Own}
 use Rattle.search_choices.specs.Choices.{Subset, MarksAdded, MarksPut}
 use Rattle.search_choices.proofs.Laws.{within-same, within-trans}
@@ -32,7 +32,7 @@ use Rattle.search_conflict.specs.Conflict.{kept, relaxed, Rests, Assigned}
 use Rattle.search_conflict.proofs.Jumps.{below-by, relaxed-plain, relaxed-constant, relaxed-kept, relaxed-back, rests-more, jump, refuted-below}
 use Rattle.search_nogoods.specs.Nogoods.{Forgot}
 use Rattle.search_learning.specs.Rows.{Unmarked, Learned}
-use Rattle.search_chase.specs.Parts.{ReadyPlan, sheetBy, Proper, Settled, NodeBy, Stood, Fitting, Found, Levelled, SameLevels, Lost, OpenNode, Taken, Passed, TakenBy, AssignedTo, JumpsBy, turned, TriedRows, Failed, Going, Started, SoughtBy, Nogoods, RefutedAs}
+use Rattle.search_chase.specs.Parts.{ReadyPlan, sheetBy, Proper, Settled, NodeBy, Stood, Fitting, StateFound, Levelled, SameLevels, Lost, OpenNode, Taken, RowPassed, TakenBy, AssignedIfTaken, JumpsBy, roundFrom, TriedRows, Failed, Going, Started, FoundOrLost, Nogoods, RefutedAs}
 use Rattle.search_chase.proofs.Node.{Task, nth-in, in-nth, meets-kept}
 use Rattle.search_chase.proofs.ReadyLaws.{ready-task}
 use Rattle.search_chase.proofs.Nogoods.{strikes-under, strikes-back, strikes-learned}
@@ -177,7 +177,7 @@ module _ (p : List ℕ) (x : Sheet) (r : ReadyPlan p x) where
 
     -- ---- a row that the stray row cannot become
 
-    tried-passed : (out : List ℕ) → Passed p view (at n) ws out u → TriedRows p y ws lv marks view u at (n + 1)
+    tried-passed : (out : List ℕ) → RowPassed p view (at n) ws out u → TriedRows p y ws lv marks view u at (n + 1)
     tried-passed out t = record { each = λ s w. below-more _ n (here .tried .each s w) (λ e. clashed (t .clash e)) }
 
     -- ---- one that it becomes: the slots of the stray row belong to choice c
@@ -309,41 +309,41 @@ module _ (p : List ℕ) (x : Sheet) (r : ReadyPlan p x) where
     took false out take e = absurd (true≢false (sym e))
 
     -- the row was not taken
-    pub going-passed : (res : Bool) (out lx : List ℕ) (c : ℕ) → Take res out → AssignedTo res lw lx u c → res ≡ false → Going p x y ws lv out lx marks view u at (n + 1) gone last sl sm
+    pub going-passed : (res : Bool) (out lx : List ℕ) (c : ℕ) → Take res out → AssignedIfTaken res lw lx u c → res ≡ false → Going p x y ws lv out lx marks view u at (n + 1) gone last sl sm
     going-passed true out lx c take to e = absurd (true≢false e)
     going-passed false out lx c take to e =
         let t = at-words false out take in
         record { same = t .kept; levels = subst (SameLevels ws lv) (sym to) (here .levels); opened = o; tried = tried-passed out t; failed = here .failed; strikes = here .strikes }
 
-    given-yes : (res : Bool) (lx : List ℕ) (c : ℕ) → res ≡ true → AssignedTo res lw lx u c → Assigned lw lx u c
+    given-yes : (res : Bool) (lx : List ℕ) (c : ℕ) → res ≡ true → AssignedIfTaken res lw lx u c → Assigned lw lx u c
     given-yes true lx c e to = to
     given-yes false lx c e to = absurd (true≢false (sym e))
 
     -- it was, and its slots belong to choice c
-    module _ (res : Bool) (out : List ℕ) (take : Take res out) (yes : res ≡ true) (lx : List ℕ) (c deeper : ℕ) (size : length lw ≡ slot-end) (to : AssignedTo res lw lx u c) (above : c < deeper) (le : next ≤ deeper)
+    module _ (res : Bool) (out : List ℕ) (take : Take res out) (yes : res ≡ true) (lx : List ℕ) (c deeper : ℕ) (size : length lw ≡ slot-end) (to : AssignedIfTaken res lw lx u c) (above : c < deeper) (le : next ≤ deeper)
         (found : Bool) (end ly : List ℕ) (below : List Bool) (tl : List ℕ) (tm : List Bool)
-        (sought : Started x y out (left - 1) → Levelled out lx deeper → Nogoods y out lx sl sm → SoughtBy found x y out lx end ly below tl tm) where
+        (sought : Started x y out (left - 1) → Levelled out lx deeper → Nogoods y out lx sl sm → FoundOrLost found x y out lx end ly below tl tm) where
       taken : Taken p view (at n) ws out u
       taken = took res out take yes
 
       a : Assigned lw lx u c
       a = given-yes res lx c yes to
 
-      below-said : SoughtBy found x y out lx end ly below tl tm
+      below-said : FoundOrLost found x y out lx end ly below tl tm
       below-said = sought (taken-begins out taken) (levelled out taken lx c deeper size a above le) (strikes-taken out taken lx c deeper size a)
 
       -- something good was found
-      pub going-found : found ≡ true → Found x y end
+      pub going-found : found ≡ true → StateFound x y end
       going-found e = go found e below-said
         where
-          go : (f : Bool) → f ≡ true → SoughtBy f x y out lx end ly below tl tm → Found x y end
+          go : (f : Bool) → f ≡ true → FoundOrLost f x y out lx end ly below tl tm → StateFound x y end
           go true e s = s
           go false e s = absurd (true≢false (sym e))
 
       lost : found ≡ false → Lost y out lx end ly below tl tm
       lost e = go found e below-said
         where
-          go : (f : Bool) → f ≡ false → SoughtBy f x y out lx end ly below tl tm → Lost y out lx end ly below tl tm
+          go : (f : Bool) → f ≡ false → FoundOrLost f x y out lx end ly below tl tm → Lost y out lx end ly below tl tm
           go true e s = absurd (true≢false e)
           go false e s = s
 
@@ -383,21 +383,21 @@ pub take-at : (p : List ℕ) (res : Bool) (view q k : ℕ) (st out u : List ℕ)
 take-at p res view q k st out u e take = subst (λ z. Own st → Fresh st u → Constants (rowValues p z) → TakenBy res p view z st out u) e take
 
 -- each row has its turn
-turned-below : (first rows i : ℕ) → first + i < rows → turned first rows i ≡ first + i
-unfolding turned
+turned-below : (first rows i : ℕ) → first + i < rows → roundFrom first rows i ≡ first + i
+unfolding roundFrom
 turned-below first rows i lt = ap (λ b. cond b (first + i) (first + i - rows)) (lt-ltb (first + i) rows lt)
 
-turned-above : (first rows i : ℕ) → rows ≤ first + i → turned first rows i ≡ first + i - rows
-unfolding turned
+turned-above : (first rows i : ℕ) → rows ≤ first + i → roundFrom first rows i ≡ first + i - rows
+unfolding roundFrom
 turned-above first rows i le = ap (λ b. cond b (first + i) (first + i - rows)) (le-ltb (first + i) rows le)
 
-pub turned-inside : (first rows i : ℕ) → first < rows → i < rows → turned first rows i < rows
+pub turned-inside : (first rows i : ℕ) → first < rows → i < rows → roundFrom first rows i < rows
 turned-inside first rows i a b = ⊎-elim (λ lt. let e = turned-below first rows i lt in omega arith) (λ le. let e = turned-above first rows i le in omega arith) (less? (first + i) rows)
 
-pub turned-by : (first rows i : ℕ) → (k : ℕ) → k ≡ first + i → (rows ≤ k → k - rows ≡ turned first rows i) × (k < rows → k ≡ turned first rows i)
+pub turned-by : (first rows i : ℕ) → (k : ℕ) → k ≡ first + i → (rows ≤ k → k - rows ≡ roundFrom first rows i) × (k < rows → k ≡ roundFrom first rows i)
 turned-by first rows i k e = (λ le. let t = turned-above first rows i (omega arith) in omega arith, λ lt. let t = turned-below first rows i (omega arith) in omega arith)
 
-turn-of : (first rows j : ℕ) → first < rows → j < rows → (i : ℕ) × (i < rows) × (turned first rows i ≡ j)
+turn-of : (first rows j : ℕ) → first < rows → j < rows → (i : ℕ) × (i < rows) × (roundFrom first rows i ≡ j)
 turn-of first rows j a b = ⊎-elim
     (λ lt. (j + rows - first, omega arith, (let e = turned-above first rows (j + rows - first) (omega arith) in omega arith)))
     (λ le. (j - first, omega arith, (let e = turned-below first rows (j - first) (omega arith) in omega arith)))
@@ -405,7 +405,7 @@ turn-of first rows j a b = ⊎-elim
 
 -- all rows tried
 pub going-all : (p : List ℕ) (x y : Sheet) (ws lv st lw : List ℕ) (marks : List Bool) (view : ℕ) (u : List ℕ) (first rows n : ℕ) → rows ≤ n → rows ≡ rowCount p → (0 < rows → first < rows)
-    → (gone : List Bool) (last : ℕ) (sl : List ℕ) (sm : List Bool) → Going p x y ws lv st lw marks view u (turned first rows) n gone last sl sm → Lost y ws lv st lw marks sl sm
+    → (gone : List Bool) (last : ℕ) (sl : List ℕ) (sm : List Bool) → Going p x y ws lv st lw marks view u (roundFrom first rows) n gone last sl sm → Lost y ws lv st lw marks sl sm
 going-all p x y ws lv st lw marks view u first rows n le e inside gone last sl sm here = record {
   strikes = here .strikes;
   rests = here .opened .refuted marks (within-same marks) (λ j lt.
@@ -438,7 +438,7 @@ passed-other p view i ws u ne = record { clash = λ e. absurd (ne e); kept = ref
 -- ---- what a state was found to be
 
 pub done-by : (p : List ℕ) (x y : Sheet) (ws lv : List ℕ) (marks : List Bool) (view : ℕ) (u : List ℕ) (left : ℕ) (done good : Bool) → done ≡ true → Started x y ws left → NodeBy done good p x y ws lv marks view u
-    → (sl : List ℕ) (sm : List Bool) → Nogoods y ws lv sl sm → SoughtBy good x y ws lv ws lv marks sl sm
+    → (sl : List ℕ) (sm : List Bool) → Nogoods y ws lv sl sm → FoundOrLost good x y ws lv ws lv marks sl sm
 done-by p x y ws lv marks view u left true true e b n sl sm all = record { good = n (b .settled); size = b .proper .size; stood = b .stood }
 done-by p x y ws lv marks view u left true false e b n sl sm all = record { strikes = all; rests = n; kept = refl; levels = record { each = λ k lt. refl } }
 done-by p x y ws lv marks view u left false good e b n sl sm all = absurd (true≢false (sym e))

@@ -13,7 +13,7 @@ use Rattle.tableau_layout.specs.Layout.{blocks-at, most-copies, slot-end, list-
 use Rattle.list_laws.proofs.Lists.{inside}
 use Rattle.query_meaning.specs.Meaning.{Term, con, var, Atom, Block, In, row}
 use Rattle.query_meaning.specs.Blocks.{View, nth}
-use Rattle.query_encoding.specs.Encoding.{BlockNumbers, Shaped, padded, number, termAt}
+use Rattle.query_encoding.specs.Encoding.{BlockNumbers, Shaped, padded, termNumber, termAt}
 use Rattle.query_encoding.proofs.Lists.{in-at}
 use Rattle.case_verdicts.specs.Verdict.{Sheet}
 use Rattle.case_verdicts.specs.Sheets.{top}
@@ -82,14 +82,14 @@ still-block p b blk turn bn sh fixed = record {
   head = λ c m.
       let (i, lt, e) = in-at (con 0) (con c) (blk .head) m in
       let s = sh .short in
-      number-still c (block-head + i) (omega arith) (inr (omega arith)) (bn .head i (omega arith) ∙ ap number e);
+      number-still c (block-head + i) (omega arith) (inr (omega arith)) (bn .head i (omega arith) ∙ ap termNumber e);
   atoms = λ a m c n.
       let (j, lt, e) = in-at (record { rel = 0; terms = [] }) a (blk .atoms) m in
       let (i, li, f) = in-at (con 0) (con c) (a .terms) n in
       let (full, s) = sh .formed a m in
       let k = bn .count in
       let few = bn .few in
-      number-still c (j * 5 + 1 + i) (omega arith) (inl (omega arith)) (bn .columns j (omega arith) i (omega arith) ∙ ap (λ (q : Atom). number (termAt (q .terms) i)) e ∙ ap number f);
+      number-still c (j * 5 + 1 + i) (omega arith) (inl (omega arith)) (bn .columns j (omega arith) i (omega arith) ∙ ap (λ (q : Atom). termNumber (termAt (q .terms) i)) e ∙ ap termNumber f);
   plain = sh .plain;
 }
   where

@@ -22,7 +22,7 @@ use Rattle.case_verdicts.specs.Words.{stateOf}
 use Rattle.query_join.specs.Joins.{headRow}
 use Rattle.query_answers.specs.Answers.{WitnessAt}
 use Rattle.tableau_plan.specs.Plan.{Plan, listCount, viewCount, askedSize, rowCount, rowAt, rowValues, blockNumbers, blockSize, tableauSize, tableauFacts}
-use Rattle.search_state.specs.State.{made-up, Fresh, Equated}
+use Rattle.search_state.specs.State.{made-up-slots, Fresh, Equated}
 use Rattle.search_state.specs.Parts.{Own}
 use Rattle.tableau_parts.specs.Views.{GivenToList, StrayAt, NoStray}
 use Rattle.search_choices.specs.Choices.{Subset, MarksAdded, MarksPut}
@@ -83,7 +83,7 @@ abbrev pub Settled : Sheet → State → Type 0
 Settled y s = (c : Copy) → In c (numbered (jobs y)) → Meets (copy s (c .number)) (c .job)
 
 -- a good state was found, and stands in the words
-pub record Found (x y : Sheet) (out : List ℕ) : Type 0 where
+pub record StateFound (x y : Sheet) (out : List ℕ) : Type 0 where
   pub good : Good y (stateOf top out)
   pub size : length out ≡ slot-end
   pub stood : Stood x out
@@ -111,9 +111,9 @@ pub record Lost (y : Sheet) (ws lv out lw : List ℕ) (marks : List Bool) (sl : 
   pub levels : SameLevels ws lv lw
   pub strikes : Nogoods y ws lv sl sm
 
-abbrev pub SoughtBy : Bool → Sheet → Sheet → List ℕ → List ℕ → List ℕ → List ℕ → List Bool → List ℕ → List Bool → Type 0
-SoughtBy true x y ws lv out lw marks sl sm = Found x y out
-SoughtBy false x y ws lv out lw marks sl sm = Lost y ws lv out lw marks sl sm
+abbrev pub FoundOrLost : Bool → Sheet → Sheet → List ℕ → List ℕ → List ℕ → List ℕ → List Bool → List ℕ → List Bool → Type 0
+FoundOrLost true x y ws lv out lw marks sl sm = StateFound x y out
+FoundOrLost false x y ws lv out lw marks sl sm = Lost y ws lv out lw marks sl sm
 
 -- a state that is neither good nor refuted yet: a stray row, which is none of its view's listed rows, and whose alternatives decide, whatever
 -- the choices that are not marked
@@ -164,18 +164,18 @@ pub record Taken (p : List ℕ) (view i : ℕ) (ws out u : List ℕ) : Type 0 wh
   pub step : Equated ws out u (rowValues p i)
   pub own : Own out
 
-pub record Passed (p : List ℕ) (view i : ℕ) (ws out u : List ℕ) : Type 0 where
+pub record RowPassed (p : List ℕ) (view i : ℕ) (ws out u : List ℕ) : Type 0 where
   pub clash : rowAt p i 0 ≡ view → Clash top (equations u (rowValues p i))
   pub kept : out ≡ ws
 
 abbrev pub TakenBy : Bool → List ℕ → ℕ → ℕ → List ℕ → List ℕ → List ℕ → Type 0
 TakenBy true p view i ws out u = Taken p view i ws out u
-TakenBy false p view i ws out u = Passed p view i ws out u
+TakenBy false p view i ws out u = RowPassed p view i ws out u
 
 -- the slots of a row that was taken belong to choice b
-abbrev pub AssignedTo : Bool → List ℕ → List ℕ → List ℕ → ℕ → Type 0
-AssignedTo true lv lw u b = Assigned lv lw u b
-AssignedTo false lv lw u b = lw ≡ lv
+abbrev pub AssignedIfTaken : Bool → List ℕ → List ℕ → List ℕ → ℕ → Type 0
+AssignedIfTaken true lv lw u b = Assigned lv lw u b
+AssignedIfTaken false lv lw u b = lw ≡ lv
 
 -- a failure below does not rest on choice b, and its marks stand for the state above; or they are added, but for those of the next choice
 abbrev pub JumpsBy : Bool → List Bool → List Bool → ℕ → ℕ → List Bool → Type 0
@@ -183,8 +183,8 @@ JumpsBy true old below b next marks = (getD below b true ≡ false) × MarksPut 
 JumpsBy false old below b next marks = MarksAdded old below next marks
 
 -- the rows are tried from one of them on, round to it again
-unfoldable pub turned : ℕ → ℕ → ℕ → ℕ
-turned first rows i = cond (ltb (first + i) rows) (first + i) (first + i - rows)
+unfoldable pub roundFrom : ℕ → ℕ → ℕ → ℕ
+roundFrom first rows i = cond (ltb (first + i) rows) (first + i) (first + i - rows)
 
 -- the first n rows of the view, in that order, are refuted as what the stray row u becomes, whatever the choices that are not marked
 pub record TriedRows (p : List ℕ) (y : Sheet) (ws lv : List ℕ) (marks : List Bool) (view : ℕ) (u : List ℕ) (at : ℕ → ℕ) (n : ℕ) : Type 0 where
@@ -214,7 +214,7 @@ pub record Started (x y : Sheet) (ws : List ℕ) (left : ℕ) : Type 0 where
   pub proper : Proper ws
   pub stood : Stood x ws
   pub settled : Settled y (stateOf top ws)
-  pub room : made-up ws < left
+  pub room : made-up-slots ws < left
 
 -- ---- the heads of the copies
 
@@ -231,5 +231,5 @@ HeadsBy false x y ws i = Refuted top y (free top)
 
 -- a good state in the words, or none at all
 abbrev pub FoundBy : Bool → Sheet → Sheet → List ℕ → Type 0
-FoundBy true x y ws = Found x y ws
+FoundBy true x y ws = StateFound x y ws
 FoundBy false x y ws = Refuted top y (free top)

@@ -34,7 +34,7 @@ ghost use Rattle.search_state.specs.State.{Fresh, Constants};
 ghost use Rattle.search_state.specs.Parts.{Own};
 ghost use Rattle.tableau_parts.specs.Views.{GivenAt};
 ghost use Rattle.tableau_parts.specs.Walks as walks;
-ghost use Rattle.search_chase.specs.Parts.{ReadyPlan, Proper, sheetBy, fromBy, numbersOf, NodeBy, GivenBy, ShutBy, ByStrays, TakenBy, AssignedTo, JumpsBy, turned, Started, Levelled, SoughtBy, Nogoods, RefutedAs, Heads, HeadsBy, FoundBy};
+ghost use Rattle.search_chase.specs.Parts.{ReadyPlan, Proper, sheetBy, fromBy, numbersOf, NodeBy, GivenBy, ShutBy, ByStrays, TakenBy, AssignedIfTaken, JumpsBy, roundFrom, Started, Levelled, FoundOrLost, Nogoods, RefutedAs, Heads, HeadsBy, FoundBy};
 ghost use Rattle.case_verdicts.specs.Verdict.{Sheet};
 ghost use Rattle.search_nogoods.specs.Sizes.{most-choices, nogood-numbers, nogood-marks};
 ghost use Rattle.search_chase.specs.Parts as specs;
@@ -374,7 +374,7 @@ fn take(
 ) -> bool
     requires { ⌜ (i < most-rows) × (length (now u) ≡ 4) ⌝ }
     ensures { λ r. ⌜ (Own (now (st .entry)) → Fresh (now (st .entry)) (now (u .entry)) → Constants (rowValues (now (p .entry)) i) → TakenBy r (now (p .entry)) view i (now (st .entry)) (now (st .exit)) (now (u .entry))) ⌝ }
-    ensures { λ r. ⌜ AssignedTo r (now (lv .entry)) (now (lv .exit)) (now (u .entry)) b ⌝ }
+    ensures { λ r. ⌜ AssignedIfTaken r (now (lv .entry)) (now (lv .exit)) (now (u .entry)) b ⌝ }
     ensures { λ r. ⌜ (length (now (st .exit)) ≡ length (now (st .entry))) × (length (now (lv .exit)) ≡ length (now (lv .entry))) ⌝ }
 {
     if !become_row(p, st, view, u, i) {
@@ -437,7 +437,7 @@ fn below_or_0(first: usize, rows: usize) -> usize
 // The row whose turn is the i-th.
 fn turn(first: usize, rows: usize, i: usize) -> usize
     requires { ⌜ (first < rows) × (i < rows) × (rows ≤ most-rows) ⌝ }
-    ensures { λ r. ⌜ (r ≡ turned first rows i) × (r < rows) ⌝ }
+    ensures { λ r. ⌜ (r ≡ roundFrom first rows i) × (r < rows) ⌝ }
 {
     let k = first + i;
     if rows <= k {
@@ -489,7 +489,7 @@ fn seek(
     u: &[usize; 4],
 ) -> bool
     requires { ⌜ (length (now st) ≡ slot-end) × (length (now lv) ≡ slot-end) × (0 < next) × (next ≤ most-choices) × (length (now sl) ≡ nogood-numbers) × (length (now sm) ≡ nogood-marks) ⌝ }
-    ensures { λ r. ⌜ ((x : Sheet) → ReadyPlan (now (p .entry)) x → Started x (sheetBy goal x) (now (st .entry)) left → Levelled (now (st .entry)) (now (lv .entry)) next → Nogoods (sheetBy goal x) (now (st .entry)) (now (lv .entry)) (now (sl .entry)) (now (sm .entry)) → SoughtBy r x (sheetBy goal x) (now (st .entry)) (now (lv .entry)) (now (st .exit)) (now (lv .exit)) (now (marks .exit)) (now (sl .exit)) (now (sm .exit))) ⌝ }
+    ensures { λ r. ⌜ ((x : Sheet) → ReadyPlan (now (p .entry)) x → Started x (sheetBy goal x) (now (st .entry)) left → Levelled (now (st .entry)) (now (lv .entry)) next → Nogoods (sheetBy goal x) (now (st .entry)) (now (lv .entry)) (now (sl .entry)) (now (sm .entry)) → FoundOrLost r x (sheetBy goal x) (now (st .entry)) (now (lv .entry)) (now (st .exit)) (now (lv .exit)) (now (marks .exit)) (now (sl .exit)) (now (sm .exit))) ⌝ }
     ensures { λ r. ⌜ (length (now (st .exit)) ≡ length (now (st .entry))) × (length (now (lv .exit)) ≡ length (now (lv .entry))) × (length (now (sl .exit)) ≡ length (now (sl .entry))) × (length (now (sm .exit)) ≡ length (now (sm .entry))) ⌝ }
 {
     if left == 0 {

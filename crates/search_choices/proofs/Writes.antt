@@ -49,18 +49,18 @@ module _ (old others : List Bool) (skip : ℕ) (marks : List Bool) (n : ℕ) (a 
 
 -- ---- the first n marks are those of f
 
-pub record Filled (f : ℕ → Bool) (marks : List Bool) (n : ℕ) : Type 0 where
+pub record MarksFilled (f : ℕ → Bool) (marks : List Bool) (n : ℕ) : Type 0 where
   pub each : (k : ℕ) → k < n → getD marks k true ≡ f k
 
-pub filled-none : (f : ℕ → Bool) (marks : List Bool) → Filled f marks 0
+pub filled-none : (f : ℕ → Bool) (marks : List Bool) → MarksFilled f marks 0
 filled-none f marks = record { each = λ k lt. absurd (omega arith) }
 
-pub filled-more : (f : ℕ → Bool) (marks : List Bool) (n : ℕ) (b : Bool) → n < length marks → b ≡ f n → Filled f marks n → Filled f (set marks n b) (n + 1)
+pub filled-more : (f : ℕ → Bool) (marks : List Bool) (n : ℕ) (b : Bool) → n < length marks → b ≡ f n → MarksFilled f marks n → MarksFilled f (set marks n b) (n + 1)
 filled-more f marks n b lt e a = record {
   each = below-more _ n (λ k l. getD-set-other marks n k b true (λ q. omega arith) ∙ a .each k l) (getD-set-same marks n b true lt ∙ e);
 }
 
-pub filled-all : (f : ℕ → Bool) (marks : List Bool) (n m : ℕ) → m ≤ n → Filled f marks n → (k : ℕ) → k < m → getD marks k true ≡ f k
+pub filled-all : (f : ℕ → Bool) (marks : List Bool) (n m : ℕ) → m ≤ n → MarksFilled f marks n → (k : ℕ) → k < m → getD marks k true ≡ f k
 filled-all f marks n m l a k lt = a .each k (omega arith)
 
 -- ---- none from k on is marked

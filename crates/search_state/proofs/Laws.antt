@@ -18,7 +18,7 @@ use Rattle.case_verdicts.specs.Words.{stateOf}
 use Rattle.case_verdicts.proofs.Decide.{same?}
 use Rattle.case_verdicts.proofs.Unify.{unify-none, unify-same, unify-left, unify-more, clash, clash-more, clash-rest, replace-same, replace-other}
 use Rattle.case_verdicts.proofs.Words.{words-replaced}
-use Rattle.search_state.specs.State.{made-up, Fresh, Constants}
+use Rattle.search_state.specs.State.{made-up-slots, Fresh, Constants}
 use Rattle.search_state.specs.Parts.{Own, FreshValue, freed, MadeEqual, ApartFrom, Others, MetBy, constant, again, new, unlike, outside, other}
 
 -- ---- lists
@@ -48,13 +48,13 @@ fresh-slot ws own n h =
 -- ---- made-up values
 
 -- a constant in the place of a made-up value leaves one fewer
-pub made-up-set : (ws : List ℕ) (n w : ℕ) → n < length ws → top ≤ getD ws n 0 → w < top → made-up (set ws n w) < made-up ws
-unfolding made-up
+pub made-up-set : (ws : List ℕ) (n w : ℕ) → n < length ws → top ≤ getD ws n 0 → w < top → made-up-slots (set ws n w) < made-up-slots ws
+unfolding made-up-slots
 made-up-set [] n w h g k = absurd (omega arith)
 made-up-set (x ∷ ws) zero w h g k = rw (lt-ltb w top k, le-ltb x top g) (omega arith)
 made-up-set (x ∷ ws) (suc n) w h g k = go (ltb x top) (made-up-set ws n w (omega arith) g k)
   where
-    go : (b : Bool) → made-up (set ws n w) < made-up ws → cond b (made-up (set ws n w)) (suc (made-up (set ws n w))) < cond b (made-up ws) (suc (made-up ws))
+    go : (b : Bool) → made-up-slots (set ws n w) < made-up-slots ws → cond b (made-up-slots (set ws n w)) (suc (made-up-slots (set ws n w))) < cond b (made-up-slots ws) (suc (made-up-slots ws))
     go true l = l
     go false l = omega arith
 
@@ -115,16 +115,16 @@ back-end ws out u c h b = ext-getD 0 out ws (b .same) (λ n _. b .others n (λ m
 -- ---- one column after the other
 
 -- the values of us were made those of rs
-pub record Progress (ws out us rs : List ℕ) : Type 0 where
+pub record RowsUnified (ws out us rs : List ℕ) : Type 0 where
   pub by : ℕ → ℕ
   pub unifier : Unifier top by (equations us rs)
   pub state : stateOf top out ≡ after by (stateOf top ws)
   pub same : length out ≡ length ws
   pub others : Others ws out us
   pub own : Own out
-  pub unchanged : ((us ≡ rs) × (out ≡ ws)) ⊎ (made-up out < made-up ws)
+  pub unchanged : ((us ≡ rs) × (out ≡ ws)) ⊎ (made-up-slots out < made-up-slots ws)
 
-module _ (ws out us rs : List ℕ) (v w : ℕ) (fresh : FreshValue ws v) (small : w < top) (p : Progress ws out us rs) where
+module _ (ws out us rs : List ℕ) (v w : ℕ) (fresh : FreshValue ws v) (small : w < top) (p : RowsUnified ws out us rs) where
   by-constant : (c : ℕ) → c < top → p .by c ≡ c
   by-constant c h = p .unifier .keeps c h
 
@@ -145,7 +145,7 @@ module _ (ws out us rs : List ℕ) (v w : ℕ) (fresh : FreshValue ws v) (small 
   others-more n off = p .others n (λ m. off (inr m))
 
   -- the two values are one already
-  keep : p .by v ≡ p .by w → ((v ∷ us ≡ w ∷ rs) × (out ≡ ws)) ⊎ (made-up out < made-up ws) → Progress ws out (v ∷ us) (w ∷ rs)
+  keep : p .by v ≡ p .by w → ((v ∷ us ≡ w ∷ rs) × (out ≡ ws)) ⊎ (made-up-slots out < made-up-slots ws) → RowsUnified ws out (v ∷ us) (w ∷ rs)
   keep e unchanged = record {
     by = p .by;
     unifier = unify-more v w (p .unifier) (λ n. n) (unify-same top (p .by v) (p .by w) e);
@@ -156,16 +156,16 @@ module _ (ws out us rs : List ℕ) (v w : ℕ) (fresh : FreshValue ws v) (small 
     unchanged = unchanged;
   }
 
-  constant-kept : v ≡ w → Progress ws out (v ∷ us) (w ∷ rs)
+  constant-kept : v ≡ w → RowsUnified ws out (v ∷ us) (w ∷ rs)
   constant-kept e = keep (ap (p .by) e) (⊎-elim (λ u. inl ((λ i. e i ∷ u .0 i), u .1)) (λ l. inr l) (p .unchanged))
 
-  slot-kept : top ≤ v → (getD out (v - top) 0 ≡ v → ⊥) → getD out (v - top) 0 ≡ w → Progress ws out (v ∷ us) (w ∷ rs)
+  slot-kept : top ≤ v → (getD out (v - top) 0 ≡ v → ⊥) → getD out (v - top) 0 ≡ w → RowsUnified ws out (v ∷ us) (w ∷ rs)
   slot-kept ge moved e =
       keep (by-slot ge ∙ e ∙ sym (by-constant w small))
       (⊎-elim (λ u. absurd (moved (ap (λ (l : List ℕ). getD l (v - top) 0) (u .1) ∙ slot ge .1))) (λ l. inr l) (p .unchanged))
 
-  least : made-up out ≤ made-up ws
-  least = ⊎-elim (λ u. let e = ap made-up (u .1) in omega arith) (λ l. omega arith) (p .unchanged)
+  least : made-up-slots out ≤ made-up-slots ws
+  least = ⊎-elim (λ u. let e = ap made-up-slots (u .1) in omega arith) (λ l. omega arith) (p .unchanged)
 
   module _ (ge : top ≤ v) (lt : v - top < length out) (e : getD out (v - top) 0 ≡ v) where
     -- no other slot has the value
@@ -181,7 +181,7 @@ module _ (ws out us rs : List ℕ) (v w : ℕ) (fresh : FreshValue ws v) (small 
             ∙ ap (replace v w) (sym e ∙ ap (λ (k : ℕ). getD out k 0) (sym q))
         go (no q) = getD-set-other out (v - top) i w 0 q ∙ sym (replace-other v w (getD out i 0) (only i h q))
 
-    slot-set : Progress ws (set out (v - top) w) (v ∷ us) (w ∷ rs)
+    slot-set : RowsUnified ws (set out (v - top) w) (v ∷ us) (w ∷ rs)
     slot-set = record {
       by = after (replace v w) (p .by);
       unifier = unify-more v w (p .unifier) (replace v w) one;
@@ -201,10 +201,10 @@ module _ (ws out us rs : List ℕ) (v w : ℕ) (fresh : FreshValue ws v) (small 
         own n (yes q) h = inl (let g = ap (λ (k : ℕ). getD (set out (v - top) w) k 0) q ∙ getD-set-same out (v - top) w 0 lt in omega arith)
         own n (no q) h = rw (getD-set-other out (v - top) n w 0 q) (p .own n h)
 
-  progress-joined : {next : List ℕ} → MadeEqual out next v w → Progress ws next (v ∷ us) (w ∷ rs)
-  progress-joined (constant e h same) = subst (λ (o : List ℕ). Progress ws o (v ∷ us) (w ∷ rs)) (sym same) (constant-kept e)
-  progress-joined (again ge lt moved e same) = subst (λ (o : List ℕ). Progress ws o (v ∷ us) (w ∷ rs)) (sym same) (slot-kept ge moved e)
-  progress-joined (new ge lt e same) = subst (λ (o : List ℕ). Progress ws o (v ∷ us) (w ∷ rs)) (sym same) (slot-set ge lt e)
+  progress-joined : {next : List ℕ} → MadeEqual out next v w → RowsUnified ws next (v ∷ us) (w ∷ rs)
+  progress-joined (constant e h same) = subst (λ (o : List ℕ). RowsUnified ws o (v ∷ us) (w ∷ rs)) (sym same) (constant-kept e)
+  progress-joined (again ge lt moved e same) = subst (λ (o : List ℕ). RowsUnified ws o (v ∷ us) (w ∷ rs)) (sym same) (slot-kept ge moved e)
+  progress-joined (new ge lt e same) = subst (λ (o : List ℕ). RowsUnified ws o (v ∷ us) (w ∷ rs)) (sym same) (slot-set ge lt e)
 
   -- different constants
   apart : (c : ℕ) → p .by v ≡ c → c < top → (c ≡ w → ⊥) → Clash top ((v ≈ w) ∷ equations us rs)
@@ -233,17 +233,17 @@ clash-front (suc c) (m ∷ u) [] k = nothing (drop c u) k
     nothing (x ∷ l) j = j
 clash-front (suc c) (m ∷ u) (n ∷ r) k = clash-rest (m ≈ n) (clash-front c u r k)
 
-pub progress-start : (ws u r : List ℕ) (c : ℕ) → length u ≤ c → length r ≤ c → Own ws → Progress ws ws (drop c u) (drop c r)
+pub progress-start : (ws u r : List ℕ) (c : ℕ) → length u ≤ c → length r ≤ c → Own ws → RowsUnified ws ws (drop c u) (drop c r)
 progress-start ws u r c h g own = rw (drop-of-length-le u h, drop-of-length-le r g) none
   where
-    none : Progress ws ws [] []
+    none : RowsUnified ws ws [] []
     none = record { by = λ n. n; unifier = unify-none top; state = refl; same = refl; others = λ n off. refl; own = own; unchanged = inl (refl, refl) }
 
-module _ (ws out u r : List ℕ) (c : ℕ) (some : 0 < c) (here : c ≤ length u) (there : c ≤ length r) (f : Fresh ws u) (k : Constants r) (p : Progress ws out (drop c u) (drop c r)) where
-  pub progress-more : {next : List ℕ} → MadeEqual out next (getD u (c - 1) 0) (getD r (c - 1) 0) → Progress ws next (drop (c - 1) u) (drop (c - 1) r)
+module _ (ws out u r : List ℕ) (c : ℕ) (some : 0 < c) (here : c ≤ length u) (there : c ≤ length r) (f : Fresh ws u) (k : Constants r) (p : RowsUnified ws out (drop c u) (drop c r)) where
+  pub progress-more : {next : List ℕ} → MadeEqual out next (getD u (c - 1) 0) (getD r (c - 1) 0) → RowsUnified ws next (drop (c - 1) u) (drop (c - 1) r)
   progress-more {next} j =
-      subst (λ (l : List ℕ). Progress ws next l (drop (c - 1) r)) (sym (one-more u c some here))
-      (subst (λ (l : List ℕ). Progress ws next (getD u (c - 1) 0 ∷ drop c u) l) (sym (one-more r c some there))
+      subst (λ (l : List ℕ). RowsUnified ws next l (drop (c - 1) r)) (sym (one-more u c some here))
+      (subst (λ (l : List ℕ). RowsUnified ws next (getD u (c - 1) 0 ∷ drop c u) l) (sym (one-more r c some there))
       (progress-joined ws out (drop c u) (drop c r) (getD u (c - 1) 0) (getD r (c - 1) 0) (f _ (in-at (c - 1) u (omega arith))) (k _ (in-at (c - 1) r (omega arith))) p j))
 
   pub progress-clash : {next : List ℕ} → ApartFrom out (getD u (c - 1) 0) (getD r (c - 1) 0) → next ≡ out → MetBy false ws next u r
@@ -256,7 +256,7 @@ module _ (ws out u r : List ℕ) (c : ℕ) (some : 0 < c) (here : c ≤ length u
     λ n off. ap (λ (l : List ℕ). getD l n 0) same ∙ p .others n (λ m. off (in-drop (top + n) c u m)),
   )
 
-pub progress-end : (ws out u r : List ℕ) (c : ℕ) → c ≤ 0 → Progress ws out (drop c u) (drop c r) → MetBy true ws out u r
+pub progress-end : (ws out u r : List ℕ) (c : ℕ) → c ≤ 0 → RowsUnified ws out (drop c u) (drop c r) → MetBy true ws out u r
 progress-end ws out u r zero h p = (
   record { by = p .by; unifier = p .unifier; state = p .state; same = p .same; others = p .others; fewer = ⊎-elim (λ u. inl (u .0)) (λ l. inr l) (p .unchanged) },
   p .own,

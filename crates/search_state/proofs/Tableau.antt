@@ -13,13 +13,13 @@ use Rattle.case_verdicts.specs.Tableau.{State}
 use Rattle.case_verdicts.specs.Sheets.{top}
 use Rattle.case_verdicts.specs.Words.{stateOf}
 use Rattle.tableau_plan.specs.Plan.{slotValue, tableauFacts}
-use Rattle.search_state.specs.Parts.{numberAt}
+use Rattle.search_state.specs.Parts.{numberUnder}
 
 module _ (p : List ℕ) (s : State) where
-  pub relation-number : (x : ℕ) → x % 5 ≡ 0 → getD p x 0 ≡ numberAt p s x
+  pub relation-number : (x : ℕ) → x % 5 ≡ 0 → getD p x 0 ≡ numberUnder p s x
   relation-number x h = sym (ap (λ b. cond b (getD p x 0) (slotValue s (getD p x 0))) (eq-eqb (x % 5) 0 h))
 
-  pub value-number : (x : ℕ) → (x % 5 ≡ 0 → ⊥) → slotValue s (getD p x 0) ≡ numberAt p s x
+  pub value-number : (x : ℕ) → (x % 5 ≡ 0 → ⊥) → slotValue s (getD p x 0) ≡ numberUnder p s x
   value-number x h = sym (ap (λ b. cond b (getD p x 0) (slotValue s (getD p x 0))) (ne-eqb (x % 5) 0 h))
 
   facts-length : (i n : ℕ) → length (tableauFacts p s i n) ≡ n * 5
@@ -27,7 +27,7 @@ module _ (p : List ℕ) (s : State) where
   facts-length i zero = refl
   facts-length i (suc n) = let e = facts-length (suc i) n in omega arith
 
-  facts-at : (i n j : ℕ) → j < n * 5 → getD (tableauFacts p s i n) j 0 ≡ numberAt p s (i * 5 + j)
+  facts-at : (i n j : ℕ) → j < n * 5 → getD (tableauFacts p s i n) j 0 ≡ numberUnder p s (i * 5 + j)
   unfolding tableauFacts
   facts-at i zero j h = absurd (omega arith)
   facts-at i (suc n) zero h = relation-number (i * 5 + 0) (omega arith)
@@ -36,9 +36,9 @@ module _ (p : List ℕ) (s : State) where
   facts-at i (suc n) (suc (suc (suc zero))) h = value-number (i * 5 + 3) (λ e. omega arith)
   facts-at i (suc n) (suc (suc (suc (suc zero)))) h = value-number (i * 5 + 4) (λ e. omega arith)
   facts-at i (suc n) (suc (suc (suc (suc (suc j))))) h =
-      facts-at (suc i) n j (omega arith) ∙ ap (numberAt p s) (let e : suc i * 5 + j ≡ i * 5 + suc (suc (suc (suc (suc j)))) = omega arith in e)
+      facts-at (suc i) n j (omega arith) ∙ ap (numberUnder p s) (let e : suc i * 5 + j ≡ i * 5 + suc (suc (suc (suc (suc j)))) = omega arith in e)
 
-  pub facts-taken : (out : List ℕ) (i n : ℕ) → n * 5 ≤ length out → ((x : ℕ) → x < n * 5 → getD out x 0 ≡ numberAt p s (i * 5 + x))
+  pub facts-taken : (out : List ℕ) (i n : ℕ) → n * 5 ≤ length out → ((x : ℕ) → x < n * 5 → getD out x 0 ≡ numberUnder p s (i * 5 + x))
       → take (n * 5) out ≡ tableauFacts p s i n
   facts-taken out i n room each =
       let l = length-take-le (n * 5) out room in

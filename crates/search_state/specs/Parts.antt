@@ -51,5 +51,5 @@ MetBy true ws out u r = Equated ws out u r × Own out
 MetBy false ws out u r = Clash top (equations u r) × (length out ≡ length ws) × Others ws out u
 
 -- number x of the tableau under a state: relations stand at multiples of five
-abbrev pub numberAt : List ℕ → State → ℕ → ℕ
-numberAt p s x = cond (eqb (x % 5) 0) (getD p x 0) (slotValue s (getD p x 0))
+abbrev pub numberUnder : List ℕ → State → ℕ → ℕ
+numberUnder p s x = cond (eqb (x % 5) 0) (getD p x 0) (slotValue s (getD p x 0))

@@ -13,9 +13,9 @@ use Rattle.case_verdicts.specs.Search.{after, equations, Unifier, Clash}
 use Rattle.case_verdicts.specs.Words.{stateOf}
 
 -- the slots whose value is made up
-unfoldable pub made-up : List ℕ → ℕ
-made-up [] = 0
-made-up (w ∷ ws) = cond (ltb w top) (made-up ws) (suc (made-up ws))
+unfoldable pub made-up-slots : List ℕ → ℕ
+made-up-slots [] = 0
+made-up-slots (w ∷ ws) = cond (ltb w top) (made-up-slots ws) (suc (made-up-slots ws))
 
 -- each value is a constant, or made up and then the own value of a slot that still has it
 abbrev pub Fresh : List ℕ → List ℕ → Type 0
@@ -31,7 +31,7 @@ pub record Equated (ws out u r : List ℕ) : Type 0 where
   pub state : stateOf top out ≡ after by (stateOf top ws)
   pub same : length out ≡ length ws
   pub others : (n : ℕ) → (In (top + n) u → ⊥) → getD out n 0 ≡ getD ws n 0
-  pub fewer : (u ≡ r) ⊎ (made-up out < made-up ws)
+  pub fewer : (u ≡ r) ⊎ (made-up-slots out < made-up-slots ws)
 
 abbrev pub EquatedBy : Bool → List ℕ → List ℕ → List ℕ → List ℕ → Type 0
 EquatedBy true ws out u r = Equated ws out u r

@@ -18,7 +18,7 @@ ghost use Rattle.case_verdicts.specs.Search as search;
 ghost use Rattle.case_verdicts.specs.Words.{stateOf};
 ghost use Rattle.tableau_plan.specs.Plan.{tableauSize, tableauFacts, slotValue};
 ghost use Rattle.search_state.specs.State.{Fresh, Constants, EquatedBy};
-ghost use Rattle.search_state.specs.Parts.{Own, freed, JoinedBy, MetBy, numberAt};
+ghost use Rattle.search_state.specs.Parts.{Own, freed, JoinedBy, MetBy, numberUnder};
 
 // Writes the words of the first state: each slot its own made-up value. More words than there are slots are left as they are.
 pub fn free(ws: &mut [usize])
@@ -122,7 +122,7 @@ fn value_of(st: &[usize], t: usize) -> usize
 // Number x of the tableau under a state.
 fn number_at(p: &[usize; PLAN_NUMBERS], st: &[usize], x: usize) -> usize
     requires { ⌜ (x < tableau-numbers) × (slot-end ≤ length (now st)) ⌝ }
-    ensures { λ r. ⌜ r ≡ numberAt (now (p .entry)) (stateOf top (now (st .entry))) x ⌝ }
+    ensures { λ r. ⌜ r ≡ numberUnder (now (p .entry)) (stateOf top (now (st .entry))) x ⌝ }
 {
     let t = p[x];
     if x % FACT_NUMBERS == 0 {
@@ -134,7 +134,7 @@ fn number_at(p: &[usize; PLAN_NUMBERS], st: &[usize], x: usize) -> usize
 // The numbers of the tableau under a state, from number `from` on.
 fn numbers(p: &[usize; PLAN_NUMBERS], st: &[usize], from: usize, count: usize, out: &mut [usize])
     requires { ⌜ (from + count ≤ tableau-numbers) × (slot-end ≤ length (now st)) × (count ≤ length (now out)) ⌝ }
-    ensures { λ r. ⌜ ((x : ℕ) → x < count → getD (now (out .exit)) x 0 ≡ numberAt (now (p .entry)) (stateOf top (now (st .entry))) (from + x)) ⌝ }
+    ensures { λ r. ⌜ ((x : ℕ) → x < count → getD (now (out .exit)) x 0 ≡ numberUnder (now (p .entry)) (stateOf top (now (st .entry))) (from + x)) ⌝ }
 {
     let mut x = 0;
     while x < count {

@@ -11,22 +11,22 @@ use Rattle.sheet_format.specs.Field.{fits}
 use Rattle.sheet_format.specs.Line.{Line, all, null}
 use Rattle.sheet_format.proofs.Lists.{and-left, and-right}
 
-pub record Good (l : Line) : Type 0 where
+pub record FittingLine (l : Line) : Type 0 where
   pub few : length l ≤ most-fields
   pub fitting : all fits l ≡ true
 
 abbrev pub Goods : List Line → Type 0
 Goods [] = Unit {0}
-Goods (l ∷ ls) = Good l × Goods ls
+Goods (l ∷ ls) = FittingLine l × Goods ls
 
-pub nil-good : Good []
+pub nil-good : FittingLine []
 nil-good = record { few = omega arith; fitting = refl }
 
-abbrev pub Formed : List Line → Type 0
-Formed ls = all (λ l. not (null l)) ls ≡ true
+abbrev pub LinesNonempty : List Line → Type 0
+LinesNonempty ls = all (λ l. not (null l)) ls ≡ true
 
-pub formed-head : (l : Line) (ls : List Line) → Formed (l ∷ ls) → null l ≡ false
+pub formed-head : (l : Line) (ls : List Line) → LinesNonempty (l ∷ ls) → null l ≡ false
 formed-head l ls h = not-true (null l) (and-left (not (null l)) (all (λ l. not (null l)) ls) h)
 
-pub formed-tail : (l : Line) (ls : List Line) → Formed (l ∷ ls) → Formed ls
+pub formed-tail : (l : Line) (ls : List Line) → LinesNonempty (l ∷ ls) → LinesNonempty ls
 formed-tail l ls h = and-right (not (null l)) (all (λ l. not (null l)) ls) h

@@ -15,49 +15,49 @@ use Rattle.sheet_format.specs.Line.{Line, all, gather, null, closedFrom,
 use Rattle.sheet_format.specs.declared.Field.{Field}
 use Rattle.sheet_format.specs.declared.Field.the-variants.{Number, Malformed}
 use Rattle.sheet_format.proofs.Lists.{no-way, and-left, and-right, and-both, all-append, all-replicate, append-nil}
-use Rattle.sheet_format.proofs.Good.{Good, Goods, Formed, nil-good, formed-head, formed-tail}
+use Rattle.sheet_format.proofs.Good.{FittingLine, Goods, LinesNonempty, nil-good, formed-head, formed-tail}
 use Rattle.sheet_format.proofs.FieldLaws.{field-length, field-back, field-shown, field-fits, field-open}
 
--- ---- lines of bytes: `Open` bytes hold no byte 10
+-- ---- lines of bytes: `NoLineEnd` bytes hold no byte 10
 
-abbrev pub Open : List ℕ → Type 0
-Open s = all (λ b. not (eqb b 10)) s ≡ true
+abbrev pub NoLineEnd : List ℕ → Type 0
+NoLineEnd s = all (λ b. not (eqb b 10)) s ≡ true
 
-open-head : (b : ℕ) (s : List ℕ) → Open (b ∷ s) → eqb b 10 ≡ false
+open-head : (b : ℕ) (s : List ℕ) → NoLineEnd (b ∷ s) → eqb b 10 ≡ false
 open-head b s h = not-true (eqb b 10) (and-left (not (eqb b 10)) (all (λ b. not (eqb b 10)) s) h)
 
-open-tail : (b : ℕ) (s : List ℕ) → Open (b ∷ s) → Open s
+open-tail : (b : ℕ) (s : List ℕ) → NoLineEnd (b ∷ s) → NoLineEnd s
 open-tail b s h = and-right (not (eqb b 10)) (all (λ b. not (eqb b 10)) s) h
 
-closed-line : (cur xs ys : List ℕ) → Open xs → closedFrom cur (xs ++ 10 ∷ ys) ≡ (cur ++ xs) ∷ closedFrom [] ys
+closed-line : (cur xs ys : List ℕ) → NoLineEnd xs → closedFrom cur (xs ++ 10 ∷ ys) ≡ (cur ++ xs) ∷ closedFrom [] ys
 unfolding closedFrom
 closed-line cur [] ys h = ap (λ l. l ∷ closedFrom [] ys) (sym (append-nil cur))
 closed-line cur (b ∷ xs) ys h =
     rw (open-head b xs h) (closed-line (cur ++ (b ∷ [])) xs ys (open-tail b xs h) ∙ ap (λ l. l ∷ closedFrom [] ys) (append-assoc cur (b ∷ []) xs))
 
-closed-none : (cur xs : List ℕ) → Open xs → closedFrom cur xs ≡ []
+closed-none : (cur xs : List ℕ) → NoLineEnd xs → closedFrom cur xs ≡ []
 unfolding closedFrom
 closed-none cur [] h = refl
 closed-none cur (b ∷ xs) h = rw (open-head b xs h) (closed-none (cur ++ (b ∷ [])) xs (open-tail b xs h))
 
-open-line : (cur xs ys : List ℕ) → Open xs → openFrom cur (xs ++ 10 ∷ ys) ≡ openFrom [] ys
+open-line : (cur xs ys : List ℕ) → NoLineEnd xs → openFrom cur (xs ++ 10 ∷ ys) ≡ openFrom [] ys
 unfolding openFrom
 open-line cur [] ys h = refl
 open-line cur (b ∷ xs) ys h = rw (open-head b xs h) (open-line (cur ++ (b ∷ [])) xs ys (open-tail b xs h))
 
-open-rest : (cur xs : List ℕ) → Open xs → openFrom cur xs ≡ cur ++ xs
+open-rest : (cur xs : List ℕ) → NoLineEnd xs → openFrom cur xs ≡ cur ++ xs
 unfolding openFrom
 open-rest cur [] h = sym (append-nil cur)
 open-rest cur (b ∷ xs) h = rw (open-head b xs h) (open-rest (cur ++ (b ∷ [])) xs (open-tail b xs h) ∙ append-assoc cur (b ∷ []) xs)
 
 -- the first line of a sheet's bytes
-pub closed-first : (xs ys : List ℕ) → Open xs → closed (xs ++ 10 ∷ ys) ≡ xs ∷ closed ys
+pub closed-first : (xs ys : List ℕ) → NoLineEnd xs → closed (xs ++ 10 ∷ ys) ≡ xs ∷ closed ys
 closed-first xs ys h = closed-line [] xs ys h
 
-pub closed-nothing : (xs : List ℕ) → Open xs → closed xs ≡ []
+pub closed-nothing : (xs : List ℕ) → NoLineEnd xs → closed xs ≡ []
 closed-nothing xs h = closed-none [] xs h
 
-pub lines-first : (xs ys : List ℕ) → Open xs → byteLines (xs ++ 10 ∷ ys) ≡ lineOf xs ∷ byteLines ys
+pub lines-first : (xs ys : List ℕ) → NoLineEnd xs → byteLines (xs ++ 10 ∷ ys) ≡ lineOf xs ∷ byteLines ys
 unfolding byteLines
 lines-first xs ys h = rw (closed-line [] xs ys h, open-line [] xs ys h)
 
@@ -66,7 +66,7 @@ unfolding byteLines closedFrom openFrom
 lines-none = refl
 
 -- bytes that no byte 10 closes are a malformed line
-pub lines-open : (b : ℕ) (xs : List ℕ) → Open (b ∷ xs) → byteLines (b ∷ xs) ≡ [] ∷ []
+pub lines-open : (b : ℕ) (xs : List ℕ) → NoLineEnd (b ∷ xs) → byteLines (b ∷ xs) ≡ [] ∷ []
 unfolding byteLines
 lines-open b xs h = rw (closed-none [] (b ∷ xs) h, open-rest [] (b ∷ xs) h)
 
@@ -130,13 +130,13 @@ pub line-by : (s : List ℕ) (t : Bool) → wellFormed s ≡ t → lineOf s ≡ 
 unfolding lineOf
 line-by s t e = ap (λ b. cond b (map number (fieldsIn s)) []) e
 
-pub line-good : (s : List ℕ) → Good (lineOf s)
+pub line-good : (s : List ℕ) → FittingLine (lineOf s)
 line-good s = go (wellFormed s) refl
   where
-    go : (t : Bool) → wellFormed s ≡ t → Good (lineOf s)
-    go false e = subst Good (sym (line-by s false e)) nil-good
+    go : (t : Bool) → wellFormed s ≡ t → FittingLine (lineOf s)
+    go false e = subst FittingLine (sym (line-by s false e)) nil-good
     go true e = let w = well-formed s e in let f = w .few in let l = fields-length (length s / field-bytes) s in
-        subst Good (sym (line-by s true e)) (record { few = omega arith; fitting = all-fit (length s / field-bytes) s (let q = w .whole in omega arith) (w .numbers) })
+        subst FittingLine (sym (line-by s true e)) (record { few = omega arith; fitting = all-fit (length s / field-bytes) s (let q = w .whole in omega arith) (w .numbers) })
 
 pub line-shown : (s : List ℕ) → null (lineOf s) ≡ false → gather fieldBytes (lineOf s) ≡ s
 line-shown s h = go (wellFormed s) refl
@@ -151,7 +151,7 @@ pub bytes-length : (l : Line) → length (gather fieldBytes l) ≡ length l * 8
 bytes-length [] = refl
 bytes-length (z ∷ l) = let a = field-length z in let b = bytes-length l in simp length-append (omega arith)
 
-pub bytes-open : (l : Line) → all fits l ≡ true → Open (gather fieldBytes l)
+pub bytes-open : (l : Line) → all fits l ≡ true → NoLineEnd (gather fieldBytes l)
 bytes-open [] h = refl
 bytes-open (z ∷ l) h =
     all-append (λ b. not (eqb b 10)) (fieldBytes z) (gather fieldBytes l) (field-open (fieldBytes z) z (field-back z (and-left (fits z) (all fits l) h)))
@@ -172,7 +172,7 @@ numbers-same [] = refl
 numbers-same (z ∷ l) = ap (λ r. z ∷ r) (numbers-same l)
 
 -- a line's bytes read back
-pub line-back : (l : Line) → Good l → null l ≡ false → lineOf (gather fieldBytes l) ≡ l
+pub line-back : (l : Line) → FittingLine l → null l ≡ false → lineOf (gather fieldBytes l) ≡ l
 unfolding lineOf
 line-back [] g h = no-way (sym h)
 line-back (z ∷ l) g h =
@@ -186,7 +186,7 @@ line-back (z ∷ l) g h =
 
 -- ---- lines of words
 
-pub words-length : (l : Line) → Good l → length (lineWords l) ≡ 7
+pub words-length : (l : Line) → FittingLine l → length (lineWords l) ≡ 7
 unfolding lineWords
 words-length l g = let f = g .few in simp (length-append, length-replicate) (omega arith)
 
@@ -197,7 +197,7 @@ zeros (pos n ∷ l) h = let e = eqb-true n 0 (and-left (eqb n 0) (all isZero l) 
 zeros (negsuc n ∷ l) h = no-way h
 
 -- a line's words read back
-pub word-back : (l : Line) → Good l → wordLine (lineWords l) ≡ l
+pub word-back : (l : Line) → FittingLine l → wordLine (lineWords l) ≡ l
 unfolding wordLine lineWords
 word-back [] g = refl
 word-back (z ∷ l) g =
@@ -239,13 +239,13 @@ word-by : (ws : List ℤ) (t : Bool) → wellFormedWords ws ≡ t → wordLine w
 unfolding wordLine
 word-by ws t e = ap (λ b. cond b (take (count ws) (drop 1 ws)) []) e
 
-pub word-good : (ws : List ℤ) → Good (wordLine ws)
+pub word-good : (ws : List ℤ) → FittingLine (wordLine ws)
 word-good ws = go (wellFormedWords ws) refl
   where
-    go : (t : Bool) → wellFormedWords ws ≡ t → Good (wordLine ws)
-    go false e = subst Good (sym (word-by ws false e)) nil-good
+    go : (t : Bool) → wellFormedWords ws ≡ t → FittingLine (wordLine ws)
+    go false e = subst FittingLine (sym (word-by ws false e)) nil-good
     go true e = let w = formed-words ws e in let f = w .few in
-        subst Good (sym (word-by ws true e)) (record { few = simp length-take (omega arith); fitting = w .fitting })
+        subst FittingLine (sym (word-by ws true e)) (record { few = simp length-take (omega arith); fitting = w .fitting })
 
 pub natural-pos : (z : ℤ) → 1 ≤ natural z → z ≡ pos (natural z)
 natural-pos (pos n) h = refl
@@ -304,7 +304,7 @@ unfolding sevens
 sevens-good zero ws = tt
 sevens-good (suc k) ws = (word-good (take line-words ws), sevens-good k (drop line-words ws))
 
-pub sevens-shown : (k : ℕ) (ws : List ℤ) → length ws ≡ k * 7 → Formed (sevens k ws) → wordsOf (sevens k ws) ≡ ws
+pub sevens-shown : (k : ℕ) (ws : List ℤ) → length ws ≡ k * 7 → LinesNonempty (sevens k ws) → wordsOf (sevens k ws) ≡ ws
 unfolding sevens wordsOf
 sevens-shown zero [] e h = refl
 sevens-shown zero (w ∷ ws) e h = absurd (omega arith)
@@ -319,7 +319,7 @@ unfolding bytesOf lineBytes
 bytes-cons l ls = append-assoc (gather fieldBytes l) (10 ∷ []) (bytesOf ls)
 
 -- the bytes read back
-pub bytes-back : (ls : List Line) → Goods ls → Formed ls → byteLines (bytesOf ls) ≡ ls
+pub bytes-back : (ls : List Line) → Goods ls → LinesNonempty ls → byteLines (bytesOf ls) ≡ ls
 unfolding bytesOf
 bytes-back [] g h = lines-none
 bytes-back (l ∷ ls) g h =
@@ -352,12 +352,12 @@ null-nil : (s : List ℕ) → null s ≡ true → s ≡ []
 null-nil [] h = refl
 null-nil (b ∷ s) h = no-way h
 
-from-end : (cur : List ℕ) (t : Bool) → null cur ≡ t → Formed (cond t [] ([] ∷ [])) → bytesOf (cond t [] ([] ∷ [])) ≡ cur ++ []
+from-end : (cur : List ℕ) (t : Bool) → null cur ≡ t → LinesNonempty (cond t [] ([] ∷ [])) → bytesOf (cond t [] ([] ∷ [])) ≡ cur ++ []
 unfolding bytesOf
 from-end cur true e h = sym (append-nil cur ∙ null-nil cur e)
 from-end cur false e h = no-way h
 
-from-shown : (s cur : List ℕ) → Formed (linesFrom cur s) → bytesOf (linesFrom cur s) ≡ cur ++ s
+from-shown : (s cur : List ℕ) → LinesNonempty (linesFrom cur s) → bytesOf (linesFrom cur s) ≡ cur ++ s
 unfolding linesFrom closedFrom openFrom
 from-shown [] cur h = from-end cur (null cur) refl h
 from-shown (b ∷ s) cur h = go (eqb b 10) refl h (from-shown s []) (from-shown s (cur ++ (b ∷ [])))
@@ -365,8 +365,8 @@ from-shown (b ∷ s) cur h = go (eqb b 10) refl h (from-shown s []) (from-shown 
     lines : Bool → List Line
     lines t = map lineOf (cond t (cur ∷ closedFrom [] s) (closedFrom (cur ++ (b ∷ [])) s)) ++ cond (null (cond t (openFrom [] s) (openFrom (cur ++ (b ∷ [])) s))) [] ([] ∷ [])
 
-    go : (t : Bool) → eqb b 10 ≡ t → Formed (lines t) → (Formed (linesFrom [] s) → bytesOf (linesFrom [] s) ≡ s)
-        → (Formed (linesFrom (cur ++ (b ∷ [])) s) → bytesOf (linesFrom (cur ++ (b ∷ [])) s) ≡ (cur ++ (b ∷ [])) ++ s) → bytesOf (lines t) ≡ cur ++ b ∷ s
+    go : (t : Bool) → eqb b 10 ≡ t → LinesNonempty (lines t) → (LinesNonempty (linesFrom [] s) → bytesOf (linesFrom [] s) ≡ s)
+        → (LinesNonempty (linesFrom (cur ++ (b ∷ [])) s) → bytesOf (linesFrom (cur ++ (b ∷ [])) s) ≡ (cur ++ (b ∷ [])) ++ s) → bytesOf (lines t) ≡ cur ++ b ∷ s
     go true e f i j =
         let r = linesFrom [] s in
         bytes-cons (lineOf cur) r
@@ -376,7 +376,7 @@ from-shown (b ∷ s) cur h = go (eqb b 10) refl h (from-shown s []) (from-shown 
     go false e f i j = j f ∙ append-assoc cur (b ∷ []) s
 
 -- the lines, written out again, are the bytes
-pub bytes-shown : (s : List ℕ) → Formed (byteLines s) → bytesOf (byteLines s) ≡ s
+pub bytes-shown : (s : List ℕ) → LinesNonempty (byteLines s) → bytesOf (byteLines s) ≡ s
 unfolding byteLines linesFrom
 bytes-shown s h = from-shown s [] h
 

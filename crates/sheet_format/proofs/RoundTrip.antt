@@ -42,15 +42,15 @@ ending-is r room wanted m e le = rw (eq-eqb (r .number) 0 e, le-ltb room wanted 
 
 -- ---- the number form that write accepts
 
-pub record Words (ws : List ℤ) : Type 0 where
+pub record CleanWords (ws : List ℤ) : Type 0 where
   pub clean : refusalOf (wordLines ws) .number ≡ 0
   pub whole : length ws ≡ length ws / line-words * 7
 
-words-clean : (ws : List ℤ) → wordsRefusal ws .number ≡ 0 → Words ws
+words-clean : (ws : List ℤ) → wordsRefusal ws .number ≡ 0 → CleanWords ws
 unfolding wordsRefusal
 words-clean ws e = go (ltb most-words (length ws)) (eqb (length ws % line-words) 0) refl e
   where
-    go : (t u : Bool) → eqb (length ws % line-words) 0 ≡ u → cond t (refusal 1 0) (cond u (refusalOf (wordLines ws)) (refusal 2 0)) .number ≡ 0 → Words ws
+    go : (t u : Bool) → eqb (length ws % line-words) 0 ≡ u → cond t (refusal 1 0) (cond u (refusalOf (wordLines ws)) (refusal 2 0)) .number ≡ 0 → CleanWords ws
     go true u b f = absurd (omega arith)
     go false false b f = absurd (omega arith)
     go false true b f = let m = eqb-true (length ws % line-words) 0 b in record { clean = f; whole = omega arith }

@@ -106,7 +106,7 @@ scan-malformed p = scan-malformed-from p start [] 1 (omega arith)
 -- ---- how many lines there can be
 
 -- k lines lead to g: each block has its head and its atoms, and the views their rows
-record Within (g : Seen) (k : ℕ) : Type 0 where
+record LinesWithin (g : Seen) (k : ℕ) : Type 0 where
   lines : k ≤ 4 * g .views + g .rows + g .atoms + min (g .block) 1 + 7 * (min (g .block) 2 - 1) + 3 * (g .block - 2)
   blocks : g .block ≤ 3
   lasts : g .last ≤ 5 * g .block
@@ -115,7 +115,7 @@ record Within (g : Seen) (k : ℕ) : Type 0 where
   some-views : g .views ≤ 8
   some-rows : g .rows ≤ 40
 
-within-start : Within start 0
+within-start : LinesWithin start 0
 within-start = omega arith
 
 atoms-left : (g : Seen) → g .block ≤ 3 → leb (atomsOf (g .block)) (g .atoms) ≡ false → g .atoms < 6 - 3 * (g .block - 2)
@@ -125,7 +125,7 @@ atoms-left g b e = go (eqb (g .block) 3) refl (leb-false (atomsOf (g .block)) (g
     go true f h = let q = eqb-true (g .block) 3 f in omega arith
     go false f h = let q = eqb-false (g .block) 3 f in omega arith
 
-within-next : (g : Seen) (c : Kind) (n k : ℕ) → Within g k → inPlace g c ≡ true → tooMany g c ≡ false → Within (nextBy g c n) (k + 1)
+within-next : (g : Seen) (c : Kind) (n k : ℕ) → LinesWithin g k → inPlace g c ≡ true → tooMany g c ≡ false → LinesWithin (nextBy g c n) (k + 1)
 within-next g question n k w p r = let e = eqb-true (g .block) 0 p in omega arith
 within-next g saved n k w p r = let e = eqb-true (g .block) 1 p in omega arith
 within-next g view n k w p r = let e = leb-true 2 (g .block) p in let f = leb-false 8 (g .views) r in omega arith
@@ -133,7 +133,7 @@ within-next g atom n k w p r = let e = leb-true 1 (g .last) (both _ _ p .0) in l
 within-next g row n k w p r = let e = eqb-true (g .block) 3 (both _ _ p .0) in let f = leb-false 40 (g .rows) r in omega arith
 within-next g other n k w p r = true-false (sym p)
 
-scan-long-from : (p : List Line) (g : Seen) (b : Line) (n k : ℕ) → 1 ≤ n → Within g k → 86 < k + length p → 0 < scan g b n p .line
+scan-long-from : (p : List Line) (g : Seen) (b : Line) (n k : ℕ) → 1 ≤ n → LinesWithin g k → 86 < k + length p → 0 < scan g b n p .line
 unfolding next
 scan-long-from [] g b n k le w h = absurd (omega arith)
 scan-long-from (l ∷ p) g b n k le w h =

@@ -6,7 +6,7 @@ use lib.Dec.{eqb, ltb, leb}
 use lib.IntN.{ℤ, pos, negsuc}
 use lib.Signed.{ltZ}
 use lib.ListN.{length}
-use Rattle.sheet_format.specs.Limits.{constant-end, variables, most-atoms, most-view-atoms, most-views, most-rows}
+use Rattle.sheet_format.specs.Limits.{constant-end, most-variables, most-atoms, most-view-atoms, most-views, most-rows}
 use Rattle.sheet_format.specs.Relations.{columnsOf}
 use Rattle.sheet_format.specs.Line.{Line, all, null}
 use Rattle.sheet_format.specs.declared.Refusal.{Refusal}
@@ -53,7 +53,7 @@ orOut false t = OutOfRange
 
 unfoldable pub termOf : ℤ → Term
 termOf (pos n) = orOut (ltb n constant-end) (Constant n)
-termOf (negsuc n) = orOut (ltb n variables) (Variable (suc n))
+termOf (negsuc n) = orOut (ltb n most-variables) (Variable (suc n))
 
 abbrev pub isTerm : Term → Bool
 isTerm (Constant n) = true

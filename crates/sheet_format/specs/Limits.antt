@@ -41,8 +41,8 @@ abbrev pub constant-end : ℕ
 constant-end = 1000000
 
 -- variables are -1 down to minus this
-abbrev pub variables : ℕ
-variables = 12
+abbrev pub most-variables : ℕ
+most-variables = 12
 
 -- atoms of the question or the list, and of a view
 abbrev pub most-atoms : ℕ

@@ -5,6 +5,6 @@ use Prim.Native.Nat.{ℕ, suc}
 use lib.Dec.{eqb}
 
 -- how many bytes stand before the first byte 10
-unfoldable pub before : List ℕ → ℕ
-before [] = 0
-before (b ∷ s) = cond (eqb b 10) 0 (suc (before s))
+unfoldable pub beforeEnd : List ℕ → ℕ
+beforeEnd [] = 0
+beforeEnd (b ∷ s) = cond (eqb b 10) 0 (suc (beforeEnd s))

@@ -10,7 +10,7 @@ use lib.ListN.{length, take, drop, length-drop, drop-of-length-le}
 use lib.Seq.{length-take-le}
 use Rattle.sheet_format.specs.Line.{closed}
 use Rattle.sheet_format.proofs.LineLaws.{closed-nothing}
-use Rattle.sheet_line_ends.specs.Before.{before}
+use Rattle.sheet_line_ends.specs.Before.{beforeEnd}
 use Rattle.sheet_lines.specs.Start.{startIn, lineStart}
 use Rattle.sheet_lines.proofs.FindLaws.{closed-at, closed-open}
 use Rattle.sheet_line_ends.proofs.Laws.{end-inside}
@@ -27,7 +27,7 @@ cond-zero : (t : Bool) → _≡_ {A = ℕ} (cond t 0 0) 0
 cond-zero true = refl
 cond-zero false = refl
 
-pub start-none : (s : List ℕ) (at k number : ℕ) → at ≤ length s → at + before (drop at s) ≡ length s → lineStart s number ≡ startFrom s at k number → 0 ≡ lineStart s number
+pub start-none : (s : List ℕ) (at k number : ℕ) → at ≤ length s → at + beforeEnd (drop at s) ≡ length s → lineStart s number ≡ startFrom s at k number → 0 ≡ lineStart s number
 start-none s at k number le h e = sym (e ∙ ap (λ x. cond (ltb number k) 0 (startIn at x (number - k))) (closed-open s at le h) ∙ cond-zero (ltb number k))
 
 pub start-end : (s : List ℕ) (at k number : ℕ) → length s ≤ at → lineStart s number ≡ startFrom s at k number → 0 ≡ lineStart s number
@@ -38,14 +38,14 @@ start-end s at k number le e =
     ∙ ap (λ x. cond (ltb number k) 0 (startIn at x (number - k))) (closed-nothing [] refl)
     ∙ cond-zero (ltb number k))
 
-pub start-here : (s : List ℕ) (at e k number : ℕ) → at ≤ length s → e ≡ at + before (drop at s) → e < length s → k ≡ number → lineStart s number ≡ startFrom s at k number → at ≡ lineStart s number
+pub start-here : (s : List ℕ) (at e k number : ℕ) → at ≤ length s → e ≡ at + beforeEnd (drop at s) → e < length s → k ≡ number → lineStart s number ≡ startFrom s at k number → at ≡ lineStart s number
 start-here s at e k number le is lt same h =
     sym
     (h
     ∙ rw (le-ltb number k (omega arith), closed-at s at e le is lt)
     (ap (λ n. startIn at (take (e - at) (drop at s) ∷ closed (drop (e + 1) s)) n) (let z : number - k ≡ 0 = omega arith in z)))
 
-pub start-next : (s : List ℕ) (at e k number : ℕ) → at ≤ length s → e ≡ at + before (drop at s) → e < length s → (k ≡ number → ⊥) → lineStart s number ≡ startFrom s at k number → lineStart s number ≡ startFrom s (e + 1) (k + 1) number
+pub start-next : (s : List ℕ) (at e k number : ℕ) → at ≤ length s → e ≡ at + beforeEnd (drop at s) → e < length s → (k ≡ number → ⊥) → lineStart s number ≡ startFrom s at k number → lineStart s number ≡ startFrom s (e + 1) (k + 1) number
 start-next s at e k number le is lt other h = h ∙ go (ltb number k) refl
   where
     rest : List (List ℕ)

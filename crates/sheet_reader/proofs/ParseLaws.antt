@@ -12,31 +12,31 @@ use Rattle.sheet_format.specs.Limits.{most-lines, line-words}
 use Rattle.sheet_format.specs.Line.{Line, all, null, byteLines, lineOf, lineWords, wordsOf}
 use Rattle.sheet_format.specs.Cause.{scan, start, refusalOf}
 use Rattle.sheet_format.proofs.Lists.{no-way, append-nil, gather-append}
-use Rattle.sheet_format.proofs.Good.{Good, Goods, nil-good}
+use Rattle.sheet_format.proofs.Good.{FittingLine, Goods, nil-good}
 use Rattle.sheet_format.proofs.LineLaws.{lines-first, lines-none, lines-open, line-good, goods-append}
 use Rattle.sheet_format.proofs.ScanLaws.{refused-front, scan-malformed, scan-long, accepted-lines, accepted-length}
 use Rattle.list_laws.specs.Wrote.{Wrote}
-use Rattle.sheet_line_ends.specs.Before.{before}
+use Rattle.sheet_line_ends.specs.Before.{beforeEnd}
 use Rattle.sheet_line_ends.proofs.Laws.{before-open, before-closes}
 use Rattle.sheet_reader.specs.Parsed.{Parsed}
 
 -- ---- the line at a place
 
-pub line-closes : (s : List ℕ) (at e : ℕ) → at ≤ length s → e ≡ at + before (drop at s) → e < length s → byteLines (drop at s) ≡ lineOf (take (e - at) (drop at s)) ∷ byteLines (drop (e + 1) s)
+pub line-closes : (s : List ℕ) (at e : ℕ) → at ≤ length s → e ≡ at + beforeEnd (drop at s) → e < length s → byteLines (drop at s) ≡ lineOf (take (e - at) (drop at s)) ∷ byteLines (drop (e + 1) s)
 line-closes s at e le is lt =
     let t = drop at s in
     let l = length-drop at s in
-    let k : e - at ≡ before t = omega arith in
+    let k : e - at ≡ beforeEnd t = omega arith in
     ap byteLines (before-closes t (omega arith))
-    ∙ lines-first (take (before t) t) (drop (suc (before t)) t) (before-open t)
-    ∙ ap (λ n. lineOf (take n t) ∷ byteLines (drop (suc (before t)) t)) (sym k)
-    ∙ ap (λ x. lineOf (take (e - at) t) ∷ byteLines x) (drop-drop (suc (before t)) at s ∙ ap (λ n. drop n s) (let q : at + suc (before t) ≡ e + 1 = omega arith in q))
+    ∙ lines-first (take (beforeEnd t) t) (drop (suc (beforeEnd t)) t) (before-open t)
+    ∙ ap (λ n. lineOf (take n t) ∷ byteLines (drop (suc (beforeEnd t)) t)) (sym k)
+    ∙ ap (λ x. lineOf (take (e - at) t) ∷ byteLines x) (drop-drop (suc (beforeEnd t)) at s ∙ ap (λ n. drop n s) (let q : at + suc (beforeEnd t) ≡ e + 1 = omega arith in q))
 
-open-line : (t : List ℕ) → 0 < length t → before t ≡ length t → byteLines t ≡ [] ∷ []
+open-line : (t : List ℕ) → 0 < length t → beforeEnd t ≡ length t → byteLines t ≡ [] ∷ []
 open-line [] some h = absurd (omega arith)
 open-line (b ∷ t) some h = lines-open b t (subst (λ x. all (λ b. not (eqb b 10)) x ≡ true) (ap (λ n. take n (b ∷ t)) h ∙ take-length (b ∷ t)) (before-open (b ∷ t)))
 
-pub line-stays-open : (s : List ℕ) (at : ℕ) → at < length s → at + before (drop at s) ≡ length s → byteLines (drop at s) ≡ [] ∷ []
+pub line-stays-open : (s : List ℕ) (at : ℕ) → at < length s → at + beforeEnd (drop at s) ≡ length s → byteLines (drop at s) ≡ [] ∷ []
 line-stays-open s at lt h = let l = length-drop at s in open-line (drop at s) (omega arith) (omega arith)
 
 -- ---- the lines so far
@@ -81,7 +81,7 @@ words-more ws us n p l e w = ap (λ k. take k us) (let q : (n + 1) * 7 ≡ n * 7
 count-more : (p : List Line) (l : Line) (n : ℕ) → length p ≡ n → length (p ++ (l ∷ [])) ≡ n + 1
 count-more p l n e = length-append p (l ∷ []) ∙ ap (λ k. k + 1) e
 
-pub parsing-more : (s : List ℕ) (ws us : List ℤ) (n at e : ℕ) → Parsing s ws n at → n < 87 → e ≡ at + before (drop at s) → e < length s
+pub parsing-more : (s : List ℕ) (ws us : List ℤ) (n at e : ℕ) → Parsing s ws n at → n < 87 → e ≡ at + beforeEnd (drop at s) → e < length s
     → Wrote ws us (n * 7) (n * 7 + 7) (lineWords (lineOf (take (e - at) (drop at s)))) → Parsing s us (n + 1) (e + 1)
 parsing-more s ws us n at e p f is lt w =
     let l = lineOf (take (e - at) (drop at s)) in
@@ -108,12 +108,12 @@ parsed-malformed s ws us n at q p f e w =
     (goods-append (p .lines) ([] ∷ []) (p .good) (nil-good, tt)) (p .rest ∙ ap (λ x. p .lines ++ x) e ∙ sym (append-assoc (p .lines) ([] ∷ []) q))
     (scan-malformed (p .lines)) (λ z. not-formed (p .lines) (accepted-lines (p .lines ++ ([] ∷ [])) z))
 
-pub parsed-open : (s : List ℕ) (ws us : List ℤ) (n at : ℕ) → Parsing s ws n at → n < 87 → at < length s → at + before (drop at s) ≡ length s
+pub parsed-open : (s : List ℕ) (ws us : List ℤ) (n at : ℕ) → Parsing s ws n at → n < 87 → at < length s → at + beforeEnd (drop at s) ≡ length s
     → Wrote ws us (n * 7) (n * 7 + 7) (replicate 7 (pos 0)) → Parsed s us (n + 1)
 unfolding lineWords
 parsed-open s ws us n at p f lt h w = parsed-malformed s ws us n at [] p f (line-stays-open s at lt h) w
 
-pub parsed-broken : (s : List ℕ) (ws us : List ℤ) (n at e : ℕ) → Parsing s ws n at → n < 87 → e ≡ at + before (drop at s) → e < length s
+pub parsed-broken : (s : List ℕ) (ws us : List ℤ) (n at e : ℕ) → Parsing s ws n at → n < 87 → e ≡ at + beforeEnd (drop at s) → e < length s
     → lineOf (take (e - at) (drop at s)) ≡ [] → Wrote ws us (n * 7) (n * 7 + 7) (lineWords (lineOf (take (e - at) (drop at s)))) → Parsed s us (n + 1)
 parsed-broken s ws us n at e p f is lt h w =
     parsed-malformed s ws us n at (byteLines (drop (e + 1) s)) p f (line-closes s at e (p .inside) is lt ∙ ap (λ x. x ∷ byteLines (drop (e + 1) s)) h)
@@ -125,6 +125,6 @@ unfolding lineWords
 no-count [] h = refl
 no-count (z ∷ l) h = let q : _≡_ {A = ℕ} (suc (length l)) 0 = cc in absurd (omega arith)
 
-pub some-count : (l : Line) → Good l → 0 < length l → getD (lineWords l) 0 (pos 0) ≡ pos (length l)
+pub some-count : (l : Line) → FittingLine l → 0 < length l → getD (lineWords l) 0 (pos 0) ≡ pos (length l)
 unfolding lineWords
 some-count l g h = refl

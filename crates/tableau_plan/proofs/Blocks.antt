@@ -63,11 +63,11 @@ no-block ls b e =
 
 -- ---- the first n blocks have been stored
 
-pub record Begun (p : List ℕ) (ls : List Line) (n : ℕ) : Type 0 where
+pub record BlocksSoFar (p : List ℕ) (ls : List Line) (n : ℕ) : Type 0 where
   pub within : n ≤ length (allBlocks ls)
   pub each : (b : ℕ) → b < n → BlockNumbers (blockNumbers p b) (blockSize p b) (blockAt ls (suc b))
 
-pub begun-none : (p : List ℕ) (ls : List Line) → Begun p ls 0
+pub begun-none : (p : List ℕ) (ls : List Line) → BlocksSoFar p ls 0
 begun-none p ls = record { within = omega arith; each = λ b h. absurd (omega arith) }
 
 -- a block stands in numbers that are the same
@@ -76,7 +76,7 @@ pub numbers-same : (p q : List ℕ) (c : ℕ) (k : List ℕ → Type 0) → leng
 numbers-same p q c k s t lt e h = subst k (sym (part-same p q (blocks-at + c * block-width) block-width (omega arith) (t ∙ sym s) e)) h
 
 pub begun-more : (p q : List ℕ) (ls : List Line) (b : ℕ) (some : Bool) (n : ℕ) (blk : List ℕ) → b < most-blocks → length p ≡ plan-numbers → BlockStored p q b n blk → some ≡ true → BlockFound ls (b + 1) some n blk
-    → Begun p ls b → Begun q ls (b + 1)
+    → BlocksSoFar p ls b → BlocksSoFar q ls (b + 1)
 begun-more p q ls b some n blk lt s w is f h =
     let t = w .long in
     let i : isBlock ls (b + 1) ≡ true = sym (f .found) ∙ is in
@@ -91,13 +91,13 @@ begun-more p q ls b some n blk lt s w is f h =
           (subst (λ z. BlockNumbers z (blockSize q b) (blockAt ls (suc b))) (sym e) (subst (λ z. BlockNumbers blk z (blockAt ls (suc b))) (sym (w .size)) m));
     }
 
-pub begun-end : (p : List ℕ) (ls : List Line) (b n : ℕ) (blk : List ℕ) (some : Bool) → some ≡ false → BlockFound ls (b + 1) some n blk → Begun p ls b → Blocks p ls b
+pub begun-end : (p : List ℕ) (ls : List Line) (b n : ℕ) (blk : List ℕ) (some : Bool) → some ≡ false → BlockFound ls (b + 1) some n blk → BlocksSoFar p ls b → Blocks p ls b
 begun-end p ls b n blk some is f h =
     let l = no-block ls b (sym (f .found) ∙ is) in
     let w = h .within in
     record { count = omega arith; each = h .each }
 
-pub begun-all : (p : List ℕ) (ls : List Line) (b : ℕ) → AcceptedLines ls → most-blocks ≤ b → Begun p ls b → Blocks p ls b
+pub begun-all : (p : List ℕ) (ls : List Line) (b : ℕ) → AcceptedLines ls → most-blocks ≤ b → BlocksSoFar p ls b → Blocks p ls b
 begun-all p ls b ok le h =
     let v = accepted-views ls ok in
     let c = block-count ls ok in

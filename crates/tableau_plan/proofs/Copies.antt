@@ -15,10 +15,10 @@ use Rattle.sheet_format.specs.Limits.{most-atoms, most-rows}
 use Rattle.query_encoding.proofs.Lists.{at-in}
 use Rattle.list_laws.proofs.Lists.{part-get}
 use Rattle.query_meaning.specs.Meaning.{Atom, Block}
-use Rattle.query_encoding.specs.Encoding.{number, termAt, atomAt, BlockNumbers}
+use Rattle.query_encoding.specs.Encoding.{termNumber, termAt, atomAt, BlockNumbers}
 use Rattle.case_verdicts.specs.Tableau.{copy}
 use Rattle.tableau_plan.specs.Plan.{blockNumbers, blockSize, slotValue}
-use Rattle.tableau_plan.specs.Parts.{KeptOutside, slotOf, placedNumber, sourceOf, noBlock, PlacedAtom, unplaced, atomsFrom, Sources, PlacedNumbers, TableauDone}
+use Rattle.tableau_plan.specs.Parts.{KeptOutside, slotOf, placedNumber, sourceOf, emptyBlock, PlacedAtom, unplaced, atomsFrom, Sources, PlacedNumbers, TableauDone}
 use Rattle.tableau_plan.proofs.Blocks.{numbers-same}
 use Rattle.tableau_plan.proofs.Tableau.{slot-value, term-fine}
 
@@ -34,9 +34,9 @@ sources-kept p q n bs s h d = record {
   low = λ k l. let e = source-same p q k h in let w = d .low k l in omega arith;
   numbers = λ k l.
       let w = d .low k l in
-      subst (λ b. BlockNumbers (blockNumbers q b) (blockSize q b) (getD bs k noBlock)) (sym (source-same p q k h))
-      (subst (λ z. BlockNumbers (blockNumbers q (sourceOf p k)) z (getD bs k noBlock)) (sym (h .above (sizes-at + sourceOf p k) (omega arith)))
-      (numbers-same p q (sourceOf p k) (λ z. BlockNumbers z (blockSize p (sourceOf p k)) (getD bs k noBlock)) s (h .same ∙ s) w (λ y g v. h .above y (omega arith)) (d .numbers k l)));
+      subst (λ b. BlockNumbers (blockNumbers q b) (blockSize q b) (getD bs k emptyBlock)) (sym (source-same p q k h))
+      (subst (λ z. BlockNumbers (blockNumbers q (sourceOf p k)) z (getD bs k emptyBlock)) (sym (h .above (sizes-at + sourceOf p k) (omega arith)))
+      (numbers-same p q (sourceOf p k) (λ z. BlockNumbers z (blockSize p (sourceOf p k)) (getD bs k emptyBlock)) s (h .same ∙ s) w (λ y g v. h .above y (omega arith)) (d .numbers k l)));
   fine = d .fine;
   few = d .few;
 }
@@ -68,7 +68,7 @@ placed-term k j c t h = simp (ne-eqb ((j * 5 + 1 + c) % 5) 0 (λ e. omega arith)
 module _ (p : List ℕ) (n : ℕ) (bs : List Block) (k m : ℕ) (d : Sources p n bs) (lt : k < length bs) (few : k ≤ most-rows) (h : TableauDone p k m bs) where
   -- the block of the copy, and how many atoms it has
   abbrev block : Block
-  block = getD bs k noBlock
+  block = getD bs k emptyBlock
 
   abbrev size : ℕ
   size = blockSize p (sourceOf p k)
@@ -83,7 +83,7 @@ module _ (p : List ℕ) (n : ℕ) (bs : List Block) (k m : ℕ) (d : Sources p n
   size-few = d .numbers k lt .few
 
   ahead : drop m (atomsFrom 0 bs) ≡ own ++ atomsFrom (suc k) (drop (suc k) bs)
-  ahead = h .left ∙ ap (atomsFrom k) (drop-cons bs k noBlock lt)
+  ahead = h .left ∙ ap (atomsFrom k) (drop-cons bs k emptyBlock lt)
 
   own-length : length own ≡ size
   own-length = length-map (block .atoms) _ ∙ sym sized
@@ -119,7 +119,7 @@ module _ (p : List ℕ) (n : ℕ) (bs : List Block) (k m : ℕ) (d : Sources p n
               ∙ d .numbers k lt .relation j l;
           terms = λ s c f.
               let u = termAt (atomAt (block .atoms) j .terms) c in
-              let e : getD q ((m + j) * 5 + 1 + c) 0 ≡ slotOf k (number u) =
+              let e : getD q ((m + j) * 5 + 1 + c) 0 ≡ slotOf k (termNumber u) =
               ap (λ y. getD q y 0) (let e : (m + j) * 5 + 1 + c ≡ m * 5 + (j * 5 + 1 + c) = omega arith in e)
               ∙ xs (j * 5 + 1 + c) (omega arith)
               ∙ placed-term k j c _ f

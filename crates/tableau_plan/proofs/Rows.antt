@@ -98,17 +98,17 @@ front-by l ls row e = simp e
 front-by l ls other e = simp e
 
 -- where a view's block is read, the rows at the front are its own
-record Walked (block last v : ℕ) (all : List ViewRow) (ahead now : List (List ℕ)) (later : List ViewRow) : Type 0 where
+record RowsRead (block last v : ℕ) (all : List ViewRow) (ahead now : List (List ℕ)) (later : List ViewRow) : Type 0 where
   outside : (block ≡ 3 → ⊥) → all ≡ later
   before : block ≡ 3 → last ≤ 4 → all ≡ map (λ r. record { view = v - 1; row = r }) ahead ++ later
   after : block ≡ 3 → 5 ≤ last → all ≡ map (λ r. record { view = v - 1; row = r }) now ++ later
 
 abbrev WalkedIn : Seen → ℕ → List Line → Type 0
-WalkedIn g v ls = Walked (g .block) (g .last) v (rowsFrom v ls) (front ls) (rows ls) (flatFrom v (blocks isView ls))
+WalkedIn g v ls = RowsRead (g .block) (g .last) v (rowsFrom v ls) (front ls) (rows ls) (flatFrom v (blocks isView ls))
 
 abbrev Step : Seen → ℕ → Line → List Line → Kind → Type 0
 Step g v l ls k =
-    Walked (g .block) (g .last) v (cond (isView k) (rowsFrom (suc v) ls) (cond (isRow k) (record { view = v - 1; row = map natural (rest l) } ∷ rowsFrom v ls) (rowsFrom v ls))) (frontBy l ls k)
+    RowsRead (g .block) (g .last) v (cond (isView k) (rowsFrom (suc v) ls) (cond (isRow k) (record { view = v - 1; row = map natural (rest l) } ∷ rowsFrom v ls) (rowsFrom v ls))) (frontBy l ls k)
     (cond (isRow k) (map natural (rest l) ∷ rows ls) []) (flatFrom v (cond (isView k) (viewOf l ls ∷ blocks isView ls) (blocks isView ls)))
 
 walked-by : (g : Seen) (v : ℕ) (l : Line) (ls : List Line) (k : Kind) (n : ℕ) → inPlace g k ≡ true → ((u : ℕ) → WalkedIn (nextBy g k n) u ls) → Step g v l ls k
@@ -137,7 +137,7 @@ unfolding rowsFrom rows blocks next front atoms
 walked [] g b n s v = record { outside = λ h. refl; before = λ h i. refl; after = λ h i. refl }
 walked (l ∷ ls) g b n s v =
     let (c, r) = scan-first l ls g b n s in
-    subst (λ f. Walked (g .block) (g .last) v (rowsFrom v (l ∷ ls)) f (rows (l ∷ ls)) (flatFrom v (blocks isView (l ∷ ls)))) (sym (front-by l ls (kind l) refl))
+    subst (λ f. RowsRead (g .block) (g .last) v (rowsFrom v (l ∷ ls)) f (rows (l ∷ ls)) (flatFrom v (blocks isView (l ∷ ls)))) (sym (front-by l ls (kind l) refl))
     (walked-by g v l ls (kind l) (length (rest l)) (c .placed) (λ u. walked ls (next g l) l (n + 1) r u))
 
 -- the rows by the lines are the rows by the views

@@ -12,7 +12,7 @@ use Rattle.tableau_layout.specs.Layout.{slot-end}
 use Rattle.sheet_format.specs.Line.{gather}
 use Rattle.sheet_format.proofs.Lists.{map-append}
 use Rattle.query_meaning.specs.Meaning.{Term, con, var, Fact, value, fact, factOf, Atom, Block}
-use Rattle.query_encoding.specs.Encoding.{number, termAt, FactNumbers}
+use Rattle.query_encoding.specs.Encoding.{termNumber, termAt, FactNumbers}
 use Rattle.case_verdicts.specs.Accepted.{width, FineTerm, Fine}
 use Rattle.case_verdicts.specs.Sheets.{top}
 use Rattle.case_verdicts.specs.Verdict.{Sheet}
@@ -22,7 +22,7 @@ use Rattle.tableau_plan.specs.Parts.{slotOf, PlacedAtom, unplaced, atoms
 
 -- ---- a term of a copy under a state
 
-pub slot-value : (s : State) (k : ℕ) (t : Term) → k ≤ most-rows → FineTerm top t → slotValue s (slotOf k (number t)) ≡ value (copy s k) t
+pub slot-value : (s : State) (k : ℕ) (t : Term) → k ≤ most-rows → FineTerm top t → slotValue s (slotOf k (termNumber t)) ≡ value (copy s k) t
 unfolding slotValue slotOf width
 slot-value s k (con c) h f =
     let e : c + names + (slot-end - names) - slot-end ≡ c = omega arith in
@@ -65,20 +65,20 @@ tableau-term p s a (suc n) (suc i) c h f =
     ap (λ y. getD (tableauFacts p s a (suc n)) y 0) e ∙ tableau-term p s (suc a) n i c (omega arith) f ∙ ap (λ y. slotValue s (getD p y 0)) (let e : (suc a + i) * 5 + 1 + c ≡ (a + suc i) * 5 + 1 + c = omega arith in e)
 
 -- an atom of a copy as a fact
-abbrev pub factIn : State → PlacedAtom → Fact
-factIn s a = factOf (copy s (a .number)) (a .atom)
+abbrev pub placedFact : State → PlacedAtom → Fact
+placedFact s a = factOf (copy s (a .number)) (a .atom)
 
-pub placed-facts : (p : List ℕ) (s : State) (l : List PlacedAtom) (a : ℕ) → ((i : ℕ) → i < length l → PlacedNumbers p (a + i) (getD l i unplaced)) → FactNumbers (tableauFacts p s a (length l)) (map (factIn s) l)
+pub placed-facts : (p : List ℕ) (s : State) (l : List PlacedAtom) (a : ℕ) → ((i : ℕ) → i < length l → PlacedNumbers p (a + i) (getD l i unplaced)) → FactNumbers (tableauFacts p s a (length l)) (map (placedFact s) l)
 placed-facts p s l a h =
-    let m = length-map l (factIn s) in
+    let m = length-map l (placedFact s) in
     record {
       count = tableau-length p s a (length l) ∙ ap (λ n. n * 5) (sym m);
-      relation = λ i k. tableau-relation p s a (length l) i (omega arith) ∙ h i (omega arith) .relation ∙ ap (λ (f : Fact). f .rel) (sym (List·getD-map (factIn s) l i unplaced));
+      relation = λ i k. tableau-relation p s a (length l) i (omega arith) ∙ h i (omega arith) .relation ∙ ap (λ (f : Fact). f .rel) (sym (List·getD-map (placedFact s) l i unplaced));
       values = λ i k c f.
           tableau-term p s a (length l) i c (omega arith) f
           ∙ h i (omega arith) .terms s c f
           ∙ sym (List·getD-map (value (copy s (getD l i unplaced .number))) (getD l i unplaced .atom .terms) c (con 0))
-          ∙ ap (λ (f : Fact). getD (f .row) c 0) (sym (List·getD-map (factIn s) l i unplaced));
+          ∙ ap (λ (f : Fact). getD (f .row) c 0) (sym (List·getD-map (placedFact s) l i unplaced));
     }
 
 -- ---- the facts of the copies
@@ -95,7 +95,7 @@ module _ {A B : Type 0} where
   gather-map f h [] = refl
   gather-map f h (x ∷ l) = ap (λ t. f (h x) ++ t) (gather-map f h l)
 
-placed-map : (s : State) (k : ℕ) (l : List Atom) → map (factIn s) (map (λ a. record { number = k; atom = a }) l) ≡ map (factOf (copy s k)) l
+placed-map : (s : State) (k : ℕ) (l : List Atom) → map (placedFact s) (map (λ a. record { number = k; atom = a }) l) ≡ map (factOf (copy s k)) l
 placed-map s k [] = refl
 placed-map s k (a ∷ l) = ap (λ t. factOf (copy s k) a ∷ t) (placed-map s k l)
 
@@ -106,7 +106,7 @@ from s m c = map (factOf (copy s (m + c .number))) (c .job .block .atoms)
 from-next : (s : State) (m : ℕ) (c : Copy) → from s m (later c) ≡ from s (suc m) c
 from-next s m c = ap (λ n. map (factOf (copy s n)) (c .job .block .atoms)) (let e : m + suc (c .number) ≡ suc m + c .number = omega arith in e)
 
-facts-from : (s : State) (m : ℕ) (js : List Job) → gather (from s m) (numbered js) ≡ map (factIn s) (atomsFrom m (blocksOf js))
+facts-from : (s : State) (m : ℕ) (js : List Job) → gather (from s m) (numbered js) ≡ map (placedFact s) (atomsFrom m (blocksOf js))
 unfolding blocksOf
 facts-from s m [] = refl
 facts-from s m (j ∷ js) =
@@ -114,15 +114,15 @@ facts-from s m (j ∷ js) =
     ap (λ n. map (factOf (copy s n)) (j .block .atoms) ++ gather (from s m) (map later (numbered js))) z
     ∙ ap (λ t. map (factOf (copy s m)) (j .block .atoms) ++ t)
     (gather-map (from s m) later (numbered js) ∙ gather-same (λ c. from s m (later c)) (from s (suc m)) (from-next s m) (numbered js) ∙ facts-from s (suc m) js)
-    ∙ ap (λ t. t ++ map (factIn s) (atomsFrom (suc m) (blocksOf js))) (sym (placed-map s m (j .block .atoms)))
-    ∙ sym (map-append (factIn s) (map (λ a. record { number = m; atom = a }) (j .block .atoms)) (atomsFrom (suc m) (blocksOf js)))
+    ∙ ap (λ t. t ++ map (placedFact s) (atomsFrom (suc m) (blocksOf js))) (sym (placed-map s m (j .block .atoms)))
+    ∙ sym (map-append (placedFact s) (map (λ a. record { number = m; atom = a }) (j .block .atoms)) (atomsFrom (suc m) (blocksOf js)))
 
 copies-from : (s : State) (c : Copy) → copyFacts s c ≡ from s 0 c
 copies-from s c = ap (λ n. map (factOf (copy s n)) (c .job .block .atoms)) (let e : c .number ≡ 0 + c .number = omega arith in e)
 
-pub facts-placed : (x : Sheet) (s : State) → facts x s ≡ map (factIn s) (atomsFrom 0 (map (λ (j : Job). j .block) (jobs x)))
+pub facts-placed : (x : Sheet) (s : State) → facts x s ≡ map (placedFact s) (atomsFrom 0 (map (λ (j : Job). j .block) (jobs x)))
 unfolding blocksOf
 facts-placed x s = gather-same (copyFacts s) (from s 0) (copies-from s) (numbered (jobs x)) ∙ facts-from s 0 (jobs x)
 
-pub bare-placed : (x : Sheet) (s : State) → facts (bare x) s ≡ map (factIn s) (atomsFrom 1 (map (λ (j : Job). j .block) (gather listed (x .views))))
+pub bare-placed : (x : Sheet) (s : State) → facts (bare x) s ≡ map (placedFact s) (atomsFrom 1 (map (λ (j : Job). j .block) (gather listed (x .views))))
 bare-placed x s = facts-placed (bare x) s

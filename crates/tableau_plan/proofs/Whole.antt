@@ -23,7 +23,7 @@ use Rattle.case_verdicts.proofs.Order.{block-question, list-count, block-list, 
 use Rattle.case_verdicts.proofs.Sizes.{accepted-size}
 use Rattle.case_verdicts.proofs.Accepted.{accepted-sheet}
 use Rattle.tableau_plan.specs.Plan.{rowAt, rowValues, blockNumbers, blockSize, tableauSize, askedSize, rowCount, viewCount, listCount, listAt, tableauFacts, RowOf, Plan}
-use Rattle.tableau_plan.specs.Parts.{KeptOutside, Blocks, ViewRow, unlisted, rowsFrom, RowNumbers, RowsDone, sourceOf, noBlock, PlacedAtom, unplaced, atomsFrom, Sources, PlacedNumbers, TableauDone, Closed}
+use Rattle.tableau_plan.specs.Parts.{KeptOutside, Blocks, ViewRow, unlisted, rowsFrom, RowNumbers, RowsDone, sourceOf, emptyBlock, PlacedAtom, unplaced, atomsFrom, Sources, PlacedNumbers, TableauDone, Closed}
 use Rattle.query_blocks.specs.Parts.{AcceptedLines}
 use Rattle.tableau_plan.proofs.Blocks.{accepted-views, numbers-same}
 use Rattle.tableau_plan.proofs.Rows.{flatFrom, rows-walked, jobOf, views-all, view-jobs, OfView, flat-of, flat-place}
@@ -71,12 +71,12 @@ rows-size (w ∷ ws) =
 -- ---- the parts
 
 -- numbers that are the same from the rows on to the counts
-record Agree (q p : List ℕ) (from : ℕ) : Type 0 where
+record SameFrom (q p : List ℕ) (from : ℕ) : Type 0 where
   long : length q ≡ plan-numbers
   long-too : length p ≡ plan-numbers
   same : (y : ℕ) → from ≤ y → y < tableau-size-at → getD p y 0 ≡ getD q y 0
 
-block-moved : (q p : List ℕ) (b : ℕ) (k : Block) → b < most-blocks → Agree q p blocks-at → BlockNumbers (blockNumbers q b) (blockSize q b) k → BlockNumbers (blockNumbers p b) (blockSize p b) k
+block-moved : (q p : List ℕ) (b : ℕ) (k : Block) → b < most-blocks → SameFrom q p blocks-at → BlockNumbers (blockNumbers q b) (blockSize q b) k → BlockNumbers (blockNumbers p b) (blockSize p b) k
 block-moved q p b k lt a h =
     subst (λ z. BlockNumbers (blockNumbers p b) z k) (sym (a .same (sizes-at + b) (omega arith) (omega arith)))
     (numbers-same q p b (λ z. BlockNumbers z (blockSize q b) k) (a .long) (a .long-too) lt (λ y g w. a .same y (omega arith) (omega arith)) h)
@@ -113,11 +113,11 @@ module _ (ls : List Line) (ok : AcceptedLines ls) where
   list-length : length blockList ≡ suc (length (rowsFrom 0 ls))
   list-length = length-map (jobs sheet) (λ (j : Job). j .block) ∙ ap suc rest-length
 
-  list-at : (i : ℕ) → i < length (rowsFrom 0 ls) → getD blockList (suc i) noBlock ≡ nth views (getD (rowsFrom 0 ls) i unlisted .view) .block
+  list-at : (i : ℕ) → i < length (rowsFrom 0 ls) → getD blockList (suc i) emptyBlock ≡ nth views (getD (rowsFrom 0 ls) i unlisted .view) .block
   list-at i h =
       let e = rest-length in
-      let d : Job = record { block = noBlock; is = [] } in
-      map-get (λ (j : Job). j .block) d noBlock rest i (omega arith) ∙ ap (λ (j : Job). j .block) (rest-at i h d)
+      let d : Job = record { block = emptyBlock; is = [] } in
+      map-get (λ (j : Job). j .block) d emptyBlock rest i (omega arith) ∙ ap (λ (j : Job). j .block) (rest-at i h d)
 
   few-atoms : length (atomsFrom 0 blockList) ≤ tableau-atoms
   few-atoms =
@@ -143,7 +143,7 @@ module _ (ls : List Line) (ok : AcceptedLines ls) where
         let e = rows i (omega arith) .view in
         omega arith
 
-    source-numbers : (k : ℕ) → k < length blockList → BlockNumbers (blockNumbers q (sourceOf q k)) (blockSize q (sourceOf q k)) (getD blockList k noBlock)
+    source-numbers : (k : ℕ) → k < length blockList → BlockNumbers (blockNumbers q (sourceOf q k)) (blockSize q (sourceOf q k)) (getD blockList k emptyBlock)
     source-numbers zero h = subst (BlockNumbers (blockNumbers q question-block) (blockSize q question-block)) (block-question ls ok) (each 0 (omega arith))
     source-numbers (suc i) h =
         let n = list-length in
@@ -155,7 +155,7 @@ module _ (ls : List Line) (ok : AcceptedLines ls) where
         (ap (blockAt ls) z ∙ block-view ls ok (rowAt q i 0) ∙ ap (λ v. nth views v .block) e ∙ sym (list-at i (omega arith)))
         b
 
-    source-fine : (k : ℕ) → k < length blockList → (a : Atom) → In a (getD blockList k noBlock .atoms) → Fine top (a .terms)
+    source-fine : (k : ℕ) → k < length blockList → (a : Atom) → In a (getD blockList k emptyBlock .atoms) → Fine top (a .terms)
     source-fine zero h a m = question-fine a m
     source-fine (suc i) h a m =
         let n = list-length in
@@ -181,17 +181,17 @@ module _ (ls : List Line) (ok : AcceptedLines ls) where
     blocks-count : nb ≡ view-block (length views)
     blocks-count = let c = list-count ls ok in bl .count ∙ block-count ls ok ∙ omega arith
 
-    agree2 : Agree q1 q2 blocks-at
+    agree2 : SameFrom q1 q2 blocks-at
     agree2 = record { long = s; long-too = k2 .same ∙ s; same = λ y g h. k2 .above y g }
 
-    agree : Agree q2 p rows-at
+    agree : SameFrom q2 p rows-at
     agree = record {
       long = k2 .same ∙ s;
       long-too = cl .same ∙ k3 .same ∙ k2 .same ∙ s;
       same = λ y g h. cl .kept y h ∙ k3 .above y g;
     }
 
-    agree-blocks : Agree q2 p blocks-at
+    agree-blocks : SameFrom q2 p blocks-at
     agree-blocks = record { long = agree .long; long-too = agree .long-too; same = λ y g h. agree .same y (omega arith) h }
 
     each2 : (b : ℕ) → b < view-block (length views) → BlockNumbers (blockNumbers q2 b) (blockSize q2 b) (blockAt ls (suc b))

@@ -77,8 +77,8 @@ abbrev pub sourceOf : List ℕ → ℕ → ℕ
 sourceOf p zero = 0
 sourceOf p (suc r) = view-block (rowAt p r 0)
 
-abbrev pub noBlock : Block
-noBlock = nowhere .block
+abbrev pub emptyBlock : Block
+emptyBlock = nowhere .block
 
 -- an atom with the number of its copy
 pub record PlacedAtom : Type 0 where
@@ -97,8 +97,8 @@ atomsFrom k (b ∷ bs) = map (λ a. record { number = k; atom = a }) (b .atoms) 
 pub record Sources (p : List ℕ) (n : ℕ) (bs : List Block) : Type 0 where
   pub count : length bs ≡ suc n
   pub low : (k : ℕ) → k < length bs → sourceOf p k < most-blocks
-  pub numbers : (k : ℕ) → k < length bs → BlockNumbers (blockNumbers p (sourceOf p k)) (blockSize p (sourceOf p k)) (getD bs k noBlock)
-  pub fine : (k : ℕ) → k < length bs → (a : Atom) → In a (getD bs k noBlock .atoms) → Fine top (a .terms)
+  pub numbers : (k : ℕ) → k < length bs → BlockNumbers (blockNumbers p (sourceOf p k)) (blockSize p (sourceOf p k)) (getD bs k emptyBlock)
+  pub fine : (k : ℕ) → k < length bs → (a : Atom) → In a (getD bs k emptyBlock .atoms) → Fine top (a .terms)
   pub few : length (atomsFrom 0 bs) ≤ tableau-atoms
 
 -- atom i of the tableau under every state

@@ -55,14 +55,14 @@ pub put-all : (l : List ℤ) (i n : ℕ) → length l ≡ n → i ≡ n → take
 put-all l i n e f t = sym (take-all i l (omega arith)) ∙ t ∙ ap (marks 0) f
 
 -- the words from a place on are the marks of their places
-pub record Marked (l : List ℤ) (i : ℕ) : Type 0 where
+pub record MarksFrom (l : List ℤ) (i : ℕ) : Type 0 where
   pub marked : drop i l ≡ marks i (length l - i)
 
 marks-cons : (i n : ℕ) → i < n → marks i (n - i) ≡ markOf i ∷ marks (suc i) (n - suc i)
 marks-cons i n h = let e : n - i ≡ suc (n - suc i) = omega arith in rw e
 
 -- the first of the words is marked
-pub first-marked : (l : List ℤ) (i : ℕ) (d : ℤ) → i < length l → Marked l i → getD l i d ≡ markOf i
+pub first-marked : (l : List ℤ) (i : ℕ) (d : ℤ) → i < length l → MarksFrom l i → getD l i d ≡ markOf i
 first-marked l i d h m =
     let a = drop-cons l i d h in
     let b = marks-cons i (length l) h in
@@ -70,18 +70,18 @@ first-marked l i d h m =
     cc
 
 -- and so are the others
-pub rest-marked : (l : List ℤ) (i : ℕ) (d : ℤ) → i < length l → Marked l i → Marked l (i + 1)
+pub rest-marked : (l : List ℤ) (i : ℕ) (d : ℤ) → i < length l → MarksFrom l i → MarksFrom l (i + 1)
 rest-marked l i d h m =
     let a = drop-cons l i d h in
     let b = marks-cons i (length l) h in
     let e = m .marked in
     record { marked = rw add-one (cc) }
 
-pub more-marked : (l : List ℤ) (i : ℕ) (d : ℤ) → i < length l → getD l i d ≡ markOf i → Marked l (i + 1) → Marked l i
+pub more-marked : (l : List ℤ) (i : ℕ) (d : ℤ) → i < length l → getD l i d ≡ markOf i → MarksFrom l (i + 1) → MarksFrom l i
 more-marked l i d h e m =
     let f = rw add-one at (m .marked) in
     record { marked = drop-cons l i d h ∙ (rw (e, f) (sym (marks-cons i (length l) h))) }
 
 -- past the end there is no word
-pub none-marked : (l : List ℤ) (i : ℕ) → length l ≤ i → Marked l i
+pub none-marked : (l : List ℤ) (i : ℕ) → length l ≤ i → MarksFrom l i
 none-marked l i h = let e : length l - i ≡ 0 = omega arith in record { marked = rw (drop-of-length-le l h, e) }

@@ -11,7 +11,7 @@ use lib.ListN.{length, getD, take}
 use lib.Seq.{take-suc, length-take-le}
 use borrow.Author.Tests.{lt-ltb, le-ltb, eq-eqb, ne-eqb, ltb-true}
 use Rattle.io.specs.Digits.{glyph, digits, Fewest}
-use Rattle.test_results.specs.Results.{lastDigits, decimal, sign, wordBytes, closing, wordsBytes, markByte}
+use Rattle.test_results.specs.Results.{lastDigits, decimalDigits, sign, wordDecimal, closing, wordsBytes, markByte}
 
 small-glyph : (d : ℕ) → d < 10 → glyph d ≡ 48 + d
 small-glyph d h = rw (lt-ltb d 10 h)
@@ -56,8 +56,8 @@ spelled-in (suc k) (suc r) n h f =
     let few : Fewest 10 1 (n / 10) (suc r) = (omega arith, omega arith, q) in
     rw (more-digits k n big, ← spelled-in k r (n / 10) (omega arith) few, last-glyph n)
 
-pub spelled : (r n : ℕ) → Fewest 10 1 n r → digits 10 r n ≡ decimal n
-unfolding decimal
+pub spelled : (r n : ℕ) → Fewest 10 1 n r → digits 10 r n ≡ decimalDigits n
+unfolding decimalDigits
 spelled zero n f = absurd (omega (arith, f .0))
 spelled (suc zero) n f = spelled-in n 0 n (omega arith) f
 spelled (suc (suc r)) n f =
@@ -100,16 +100,16 @@ unfolding closing
 closing-word unit i h e = rw (ne-eqb unit 0 h, ne-eqb (i % unit) 0 e)
 
 -- the words before one more
-words-snoc : (unit i : ℕ) (l : List ℤ) (w : ℤ) → wordsBytes unit i (l ++ (w ∷ [])) ≡ wordsBytes unit i l ++ (wordBytes w ++ (closing unit (i + length l + 1) ∷ []))
+words-snoc : (unit i : ℕ) (l : List ℤ) (w : ℤ) → wordsBytes unit i (l ++ (w ∷ [])) ≡ wordsBytes unit i l ++ (wordDecimal w ++ (closing unit (i + length l + 1) ∷ []))
 unfolding wordsBytes
 words-snoc unit i [] w = let e : i + 0 + 1 ≡ i + 1 = omega arith in rw (e, append-nil)
 words-snoc unit i (v ∷ l) w =
     let e : i + suc (length l) + 1 ≡ i + 1 + length l + 1 = omega arith in
-    let x : List ℕ = wordBytes v ++ (closing unit (i + 1) ∷ []) in
-    rw (e, words-snoc unit (i + 1) l w) (sym (append-assoc x (wordsBytes unit (i + 1) l) (wordBytes w ++ (closing unit (i + 1 + length l + 1) ∷ []))))
+    let x : List ℕ = wordDecimal v ++ (closing unit (i + 1) ∷ []) in
+    rw (e, words-snoc unit (i + 1) l w) (sym (append-assoc x (wordsBytes unit (i + 1) l) (wordDecimal w ++ (closing unit (i + 1 + length l + 1) ∷ []))))
 
 -- one word more
-pub words-more : (unit i : ℕ) (s : List ℤ) → i < length s → wordsBytes unit 0 (take (i + 1) s) ≡ wordsBytes unit 0 (take i s) ++ (wordBytes (getD s i (pos 0)) ++ (closing unit (i + 1) ∷ []))
+pub words-more : (unit i : ℕ) (s : List ℤ) → i < length s → wordsBytes unit 0 (take (i + 1) s) ≡ wordsBytes unit 0 (take i s) ++ (wordDecimal (getD s i (pos 0)) ++ (closing unit (i + 1) ∷ []))
 words-more unit i s h =
     let e : 0 + length (take i s) + 1 ≡ i + 1 = rw (length-take-le i s (omega arith)) (omega arith) in
     let w : ℤ = getD s i (pos 0) in

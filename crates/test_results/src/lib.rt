@@ -5,18 +5,18 @@ ghost use mathlib.Core.List.{[], _∷_, _++_};
 ghost use Prim.Native.Nat.{_+_, _<_};
 ghost use lib.IntN.{natAbs};
 ghost use Rattle.text_buffer.specs.Puts.{Put};
-ghost use Rattle.test_results.specs.Results.{decimal, sign, wordBytes, closing, wordsBytes, markByte};
+ghost use Rattle.test_results.specs.Results.{decimalDigits, sign, wordDecimal, closing, wordsBytes, markByte};
 
 // A number, and a byte after it.
 pub fn put_number(out: &mut [u8], at: usize, n: usize, after: u8) -> usize
-    ensures { λ r. ⌜ Put (now (out .entry)) (now (out .exit)) at (decimal n ++ (after ∷ [])) r ⌝ }
+    ensures { λ r. ⌜ Put (now (out .entry)) (now (out .exit)) at (decimalDigits n ++ (after ∷ [])) r ⌝ }
 {
     let end = put_decimal(out, at, n as u64);
     text_buffer::put_byte(out, end, after)
 }
 
 fn put_decimal(out: &mut [u8], at: usize, n: u64) -> usize
-    ensures { λ r. ⌜ Put (now (out .entry)) (now (out .exit)) at (decimal n) r ⌝ }
+    ensures { λ r. ⌜ Put (now (out .entry)) (now (out .exit)) at (decimalDigits n) r ⌝ }
 {
     let mut text = [0u8; 20];
     let k = io::decimal(n, &mut text);
@@ -48,7 +48,7 @@ pub fn put_words(out: &mut [u8], at: usize, s: &[i32], unit: usize) -> usize
 }
 
 fn put_word(out: &mut [u8], at: usize, w: i32) -> usize
-    ensures { λ r. ⌜ Put (now (out .entry)) (now (out .exit)) at (wordBytes w) r ⌝ }
+    ensures { λ r. ⌜ Put (now (out .entry)) (now (out .exit)) at (wordDecimal w) r ⌝ }
 {
     let n = put_sign(out, at, w);
     put_decimal(out, n, size(w))

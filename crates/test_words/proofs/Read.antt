@@ -11,7 +11,7 @@ use mir.Syntax.{w32}
 use mir.Val.{toZ, ofZ}
 use mir.ValLaws.{toZ-ofZ, toZ-pos}
 use Rattle.test_words.proofs.Laws.{minus-fits}
-use Rattle.test_words.specs.Words.{after, before, belowOf, aboveOf, closedBy, firstPut, Room, Stores, wholeOf, wordOf, wordsPut, wordsRead}
+use Rattle.test_words.specs.Words.{nextPlace, beforeEither, belowOf, aboveOf, closedBy, firstPut, Room, Stores, wholeOf, wordOf, wordsPut, wordsRead}
 use Rattle.test_numbers.specs.Numbers.{numberOf}
 
 -- ---- a word
@@ -82,34 +82,34 @@ unfolding closedBy
 closed-not unit b n e = rw (ne-eqb b 47 e)
 
 pub stores-within : (l : List ℤ) (at : ℕ) (w : ℤ) → at < length l → Stores l (set l at w) at w (at + 1)
-unfolding after
+unfolding nextPlace
 stores-within l at w h = record { words = refl; next = rw (lt-ltb at (length l) h) }
 
 pub stores-beyond : (l : List ℤ) (at : ℕ) (w : ℤ) → length l ≤ at → Stores l l at w at
-unfolding after
+unfolding nextPlace
 stores-beyond l at w h = record { words = sym (set-out l at w h); next = rw (le-ltb at (length l) h) }
 
 -- ---- one word after the other
 
 -- the words up to place i of a text are put, and what is left gives what the whole text gives
-pub record Going (unit : ℕ) (text : List ℕ) (old new : List ℤ) (n i : ℕ) : Type 0 where
+pub record WordsSoFar (unit : ℕ) (text : List ℕ) (old new : List ℤ) (n i : ℕ) : Type 0 where
   pub kept : length new ≡ length old
   pub fuel : ℕ
   pub enough : length text ≤ fuel + i
   pub same : wordsPut fuel unit (drop i text) (record { words = new; next = n }) ≡ wordsRead unit text old
 
-pub going-none : (unit : ℕ) (text : List ℕ) (out : List ℤ) → Going unit text out out 0 0
+pub going-none : (unit : ℕ) (text : List ℕ) (out : List ℤ) → WordsSoFar unit text out out 0 0
 unfolding wordsRead
 going-none unit text out = record { kept = refl; fuel = length text; enough = omega arith; same = refl }
 
-some-word : (k unit : ℕ) (s : List ℕ) (x : ℕ) (t : List ℕ) (r : Room) → s ≡ x ∷ t → wordsPut (suc k) unit s r ≡ wordsPut k unit (drop (before 32 47 s) t) (firstPut unit s (before 32 47 s) r)
+some-word : (k unit : ℕ) (s : List ℕ) (x : ℕ) (t : List ℕ) (r : Room) → s ≡ x ∷ t → wordsPut (suc k) unit s r ≡ wordsPut k unit (drop (beforeEither 32 47 s) t) (firstPut unit s (beforeEither 32 47 s) r)
 unfolding wordsPut
 some-word k unit s x t r e = rw e
 
 first-word : (k unit : ℕ) (text : List ℕ) (i : ℕ) (r : Room) → i < length text
-    → wordsPut (suc k) unit (drop i text) r ≡ wordsPut k unit (drop (i + before 32 47 (drop i text) + 1) text) (firstPut unit (drop i text) (before 32 47 (drop i text)) r)
+    → wordsPut (suc k) unit (drop i text) r ≡ wordsPut k unit (drop (i + beforeEither 32 47 (drop i text) + 1) text) (firstPut unit (drop i text) (beforeEither 32 47 (drop i text)) r)
 first-word k unit text i r h =
-    let x : ℕ = before 32 47 (drop i text) in
+    let x : ℕ = beforeEither 32 47 (drop i text) in
     let e : i + x + 1 ≡ suc i + x = omega arith in
     some-word k unit (drop i text) (getD text i 0) (drop (suc i) text) r (drop-cons text i 0 h) ∙ (rw (drop-drop x (suc i) text, e))
 
@@ -124,23 +124,23 @@ first-put unit text i x {b} {c} {n} {m} {p} we st pe =
 
 going-by : {unit : ℕ} {text : List ℕ} {a b c : List ℤ} {n m i p : ℕ} {w : ℤ} (k : ℕ) → i < length text → length b ≡ length a → length text ≤ k + i
     → wordsPut k unit (drop i text) (record { words = b; next = n }) ≡ wordsRead unit text a
-    → w ≡ wordOf (take (before 32 47 (drop i text)) (drop i text)) → Stores b c n w m → p ≡ closedBy unit (getD text (i + before 32 47 (drop i text)) 0) m
-    → Going unit text a c p (i + before 32 47 (drop i text) + 1)
+    → w ≡ wordOf (take (beforeEither 32 47 (drop i text)) (drop i text)) → Stores b c n w m → p ≡ closedBy unit (getD text (i + beforeEither 32 47 (drop i text)) 0) m
+    → WordsSoFar unit text a c p (i + beforeEither 32 47 (drop i text) + 1)
 going-by zero h l g s we st pe = absurd (omega arith)
 going-by {unit} {text} {a} {b} {c} {n} {m} {i} {p} {w} (suc k) h l g s we st pe =
     record {
       kept = ap length (st .words) ∙ length-set b n w ∙ l;
       fuel = k;
       enough = omega arith;
-      same = rw (← first-put unit text i (before 32 47 (drop i text)) we st pe) (sym (first-word k unit text i (record { words = b; next = n }) h) ∙ s);
+      same = rw (← first-put unit text i (beforeEither 32 47 (drop i text)) we st pe) (sym (first-word k unit text i (record { words = b; next = n }) h) ∙ s);
     }
 
 -- one word more is put
-pub going-more : {unit : ℕ} {text : List ℕ} {a b c : List ℤ} {n m i e p : ℕ} {w : ℤ} → i < length text → Going unit text a b n i
-    → e ≡ i + before 32 47 (drop i text) → w ≡ wordOf (take (e - i) (drop i text)) → Stores b c n w m → p ≡ closedBy unit (getD text e 0) m
-    → Going unit text a c p (e + 1)
+pub going-more : {unit : ℕ} {text : List ℕ} {a b c : List ℤ} {n m i e p : ℕ} {w : ℤ} → i < length text → WordsSoFar unit text a b n i
+    → e ≡ i + beforeEither 32 47 (drop i text) → w ≡ wordOf (take (e - i) (drop i text)) → Stores b c n w m → p ≡ closedBy unit (getD text e 0) m
+    → WordsSoFar unit text a c p (e + 1)
 going-more {unit} {text} {a} {b} {c} {n} {m} {i} {e} {p} {w} h g q we st pe =
-    let f : e - i ≡ before 32 47 (drop i text) = omega arith in
+    let f : e - i ≡ beforeEither 32 47 (drop i text) = omega arith in
     rw q (going-by (g .fuel) h (g .kept) (g .enough) (g .same) (rw f at we) st (rw q at pe))
 
 ended : (k unit : ℕ) (r : Room) → wordsPut k unit [] r ≡ r
@@ -149,7 +149,7 @@ ended zero unit r = refl
 ended (suc k) unit r = refl
 
 -- all words are put
-pub going-all : {unit : ℕ} {text : List ℕ} {a b : List ℤ} {n i : ℕ} → length text ≤ i → Going unit text a b n i → record { words = b; next = n } ≡ wordsRead unit text a
+pub going-all : {unit : ℕ} {text : List ℕ} {a b : List ℤ} {n i : ℕ} → length text ≤ i → WordsSoFar unit text a b n i → record { words = b; next = n } ≡ wordsRead unit text a
 going-all {unit} {text} {a} {b} {n} {i} h g =
     let d : drop i text ≡ [] = drop-of-length-le text h in
     let r : Room = record { words = b; next = n } in

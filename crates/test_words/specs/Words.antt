@@ -9,9 +9,9 @@ use lib.IntN.{ℤ, pos, negℤ}
 use Rattle.test_numbers.specs.Numbers.{numberOf}
 
 -- how many bytes stand before the first that is a or b
-unfoldable pub before : ℕ → ℕ → List ℕ → ℕ
-before a b [] = 0
-before a b (x ∷ s) = cond (eqb x a) 0 (cond (eqb x b) 0 (suc (before a b s)))
+unfoldable pub beforeEither : ℕ → ℕ → List ℕ → ℕ
+beforeEither a b [] = 0
+beforeEither a b (x ∷ s) = cond (eqb x a) 0 (cond (eqb x b) 0 (suc (beforeEither a b s)))
 
 -- the word of a number below 0, and 0 where it is too large for a word
 unfoldable pub belowOf : ℕ → ℤ
@@ -36,13 +36,13 @@ pub record Room : Type 0 where
   pub next : ℕ
 
 -- the place after a place of so many words
-unfoldable pub after : ℕ → ℕ → ℕ
-after many n = cond (ltb n many) (n + 1) n
+unfoldable pub nextPlace : ℕ → ℕ → ℕ
+nextPlace many n = cond (ltb n many) (n + 1) n
 
 -- a word stored at a place, and the place after it
 pub record Stores (old new : List ℤ) (at : ℕ) (w : ℤ) (r : ℕ) : Type 0 where
   pub words : new ≡ set old at w
-  pub next : r ≡ after (length old) at
+  pub next : r ≡ nextPlace (length old) at
 
 -- where byte b stands after it: "/" moves the place of the next to a multiple of the unit
 unfoldable pub closedBy : ℕ → ℕ → ℕ → ℕ
@@ -50,13 +50,13 @@ closedBy unit b n = cond (eqb b 47) (wholeOf unit n) n
 
 -- the first word of a text put, up to a place of the text
 unfoldable pub firstPut : ℕ → List ℕ → ℕ → Room → Room
-firstPut unit s e r = record { words = set (r .words) (r .next) (wordOf (take e s)); next = closedBy unit (getD s e 0) (after (length (r .words)) (r .next)) }
+firstPut unit s e r = record { words = set (r .words) (r .next) (wordOf (take e s)); next = closedBy unit (getD s e 0) (nextPlace (length (r .words)) (r .next)) }
 
 -- at most k words of a text put, each up to a blank or "/"
 unfoldable pub wordsPut : ℕ → ℕ → List ℕ → Room → Room
 wordsPut zero unit s r = r
 wordsPut (suc k) unit [] r = r
-wordsPut (suc k) unit (b ∷ s) r = wordsPut k unit (drop (before 32 47 (b ∷ s)) s) (firstPut unit (b ∷ s) (before 32 47 (b ∷ s)) r)
+wordsPut (suc k) unit (b ∷ s) r = wordsPut k unit (drop (beforeEither 32 47 (b ∷ s)) s) (firstPut unit (b ∷ s) (beforeEither 32 47 (b ∷ s)) r)
 
 -- all words of a text put, of which there are no more than bytes
 unfoldable pub wordsRead : ℕ → List ℕ → List ℤ → Room

@@ -2,12 +2,12 @@
 ghost use mathlib.Core.Path.{_≡_};
 ghost use Prim.Native.Nat.{_≤_, _+_, min};
 ghost use lib.ListN.{length, getD, drop};
-ghost use Rattle.test_words.specs.Words.{before, Stores, belowOf, closedBy, wholeOf, wordOf, wordsRead};
+ghost use Rattle.test_words.specs.Words.{beforeEither, Stores, belowOf, closedBy, wholeOf, wordOf, wordsRead};
 use test_numbers::number;
 
 // The place of the first byte b, or the length where there is none.
 pub fn place(s: &[u8], b: u8) -> usize
-    ensures { λ r. ⌜ (r ≤ length (now (s .entry))) × (r ≡ before b b (now (s .entry))) ⌝ }
+    ensures { λ r. ⌜ (r ≤ length (now (s .entry))) × (r ≡ beforeEither b b (now (s .entry))) ⌝ }
 {
     find(s, 0, b, b)
 }
@@ -15,7 +15,7 @@ pub fn place(s: &[u8], b: u8) -> usize
 // The place of the first byte from `from` on that is a or b, or the length where there is none.
 fn find(s: &[u8], from: usize, a: u8, b: u8) -> usize
     requires { ⌜ from ≤ length (now s) ⌝ }
-    ensures { λ r. ⌜ (from ≤ r) × (r ≤ length (now (s .entry))) × (r ≡ from + before a b (drop from (now (s .entry)))) ⌝ }
+    ensures { λ r. ⌜ (from ≤ r) × (r ≤ length (now (s .entry))) × (r ≡ from + beforeEither a b (drop from (now (s .entry)))) ⌝ }
 {
     let mut i = from;
     while i < s.len() {

@@ -8,7 +8,7 @@ use native.Mathlib.Omega.{arith}
 use lib.ListN.{length, take, replicate}
 use Rattle.sheet_format.specs.Limits.{most-bytes}
 use Rattle.text_begins.specs.Begins.{isText}
-use Rattle.text_writer.specs.Says.{Says}
+use Rattle.text_writer.specs.Says.{SaysWords}
 use Rattle.text_to_sheet.specs.Texts.{Written}
 use Rattle.text_to_sheet.specs.declared.Made.{Made}
 use Rattle.text_to_sheet.specs.declared.Made.the-variants.{Sheet, Expected, Refused}
@@ -28,8 +28,8 @@ module _ (given : List ℕ) (is : isText given ≡ true) (m : Made) (sheet : Lis
       let z : n - 0 ≡ n = omega arith in
       replied (subst (λ x. Replied x sheet old new r) (sym e) (subst (λ k. Verdict (take k sheet) old new r) z v))
 
-  pub expected : (l w k : ℕ) → m ≡ Expected l w k → Says (messageBytes m) old new r → Answered given old new r
-  expected l w k e d = replied (subst (λ x. Replied x sheet old new r) (sym e) (subst (λ x. Says (messageBytes x) old new r) e d))
+  pub expected : (l w k : ℕ) → m ≡ Expected l w k → SaysWords (messageBytes m) old new r → Answered given old new r
+  expected l w k e d = replied (subst (λ x. Replied x sheet old new r) (sym e) (subst (λ x. SaysWords (messageBytes x) old new r) e d))
 
-  pub refused : (c l t : ℕ) → m ≡ Refused c l t → Says (messageBytes m) old new r → Answered given old new r
-  refused c l t e d = replied (subst (λ x. Replied x sheet old new r) (sym e) (subst (λ x. Says (messageBytes x) old new r) e d))
+  pub refused : (c l t : ℕ) → m ≡ Refused c l t → SaysWords (messageBytes m) old new r → Answered given old new r
+  refused c l t e d = replied (subst (λ x. Replied x sheet old new r) (sym e) (subst (λ x. SaysWords (messageBytes x) old new r) e d))

@@ -7,7 +7,7 @@ use Prim.Native.Nat.{ℕ}
 use lib.ListN.{take, replicate}
 use Rattle.sheet_format.specs.Limits.{most-bytes}
 use Rattle.text_begins.specs.Begins.{isText}
-use Rattle.text_writer.specs.Says.{Says}
+use Rattle.text_writer.specs.Says.{SaysWords}
 use Rattle.text_to_sheet.specs.Texts.{Written}
 use Rattle.text_to_sheet.specs.declared.Made.{Made}
 use Rattle.text_to_sheet.specs.declared.Made.the-variants.{Sheet, Expected, Refused}
@@ -22,8 +22,8 @@ pub record OfSheet (given old new : List ℕ) (r : ℕ) : Type 0 where
 -- the verdict of the sheet that was made, which `sheet` begins with; else why there is none
 abbrev pub Replied : Made → List ℕ → List ℕ → List ℕ → ℕ → Type 0
 Replied (Sheet n) sheet old new r = Verdict (take n sheet) old new r
-Replied (Expected l w k) sheet old new r = Says (messageBytes (Expected l w k)) old new r
-Replied (Refused c l t) sheet old new r = Says (messageBytes (Refused c l t)) old new r
+Replied (Expected l w k) sheet old new r = SaysWords (messageBytes (Expected l w k)) old new r
+Replied (Refused c l t) sheet old new r = SaysWords (messageBytes (Refused c l t)) old new r
 
 -- a text that was given. Which sheet it has is free; it is one that reading accepts, made in so many bytes that are 0.
 pub record OfText (given old new : List ℕ) (r : ℕ) : Type 0 where

@@ -9,7 +9,7 @@ use native.Mathlib.Numerals.{add-one}
 use lib.ListN.{length, getD, drop, drop-of-length-le}
 use lib.Seq.{drop-cons}
 use borrow.Author.Tests.{le-leb, lt-leb, ne-eqb}
-use Rattle.text_begins.specs.Begins.{isBlank, beginsText, isText, blanks}
+use Rattle.text_begins.specs.Begins.{isBlank, beginsText, isText, leadingBlanks}
 
 -- ---- a byte
 
@@ -40,42 +40,42 @@ too-high {b} n p =
 
 -- ---- the blanks that come first
 
-pub one-blank : (s : List ℕ) (i : ℕ) → i < length s → isBlank (getD s i 0) ≡ true → blanks (drop i s) ≡ suc (blanks (drop (i + 1) s))
-unfolding blanks
+pub one-blank : (s : List ℕ) (i : ℕ) → i < length s → isBlank (getD s i 0) ≡ true → leadingBlanks (drop i s) ≡ suc (leadingBlanks (drop (i + 1) s))
+unfolding leadingBlanks
 one-blank s i h e = rw (add-one, drop-cons s i 0 h, e)
 
-pub last-blank : (s : List ℕ) (i : ℕ) → i < length s → isBlank (getD s i 0) ≡ false → blanks (drop i s) ≡ 0
-unfolding blanks
+pub last-blank : (s : List ℕ) (i : ℕ) → i < length s → isBlank (getD s i 0) ≡ false → leadingBlanks (drop i s) ≡ 0
+unfolding leadingBlanks
 last-blank s i h e = rw (drop-cons s i 0 h, e)
 
-pub no-more : (s : List ℕ) (i : ℕ) → length s ≤ i → blanks (drop i s) ≡ 0
-unfolding blanks
-no-more s i h = ap blanks (drop-of-length-le s h)
+pub no-more : (s : List ℕ) (i : ℕ) → length s ≤ i → leadingBlanks (drop i s) ≡ 0
+unfolding leadingBlanks
+no-more s i h = ap leadingBlanks (drop-of-length-le s h)
 
 -- the byte after them tells
-abbrev Told : List ℕ → Type 0
-Told s = blanks s < length s → beginsText (getD s (blanks s) 0) ≡ isText s
+abbrev ToldByByte : List ℕ → Type 0
+ToldByByte s = leadingBlanks s < length s → beginsText (getD s (leadingBlanks s) 0) ≡ isText s
 
-one-told : (b : ℕ) (s : List ℕ) (t : Bool) → isBlank b ≡ t → Told s → Told (b ∷ s)
-unfolding blanks isText
+one-told : (b : ℕ) (s : List ℕ) (t : Bool) → isBlank b ≡ t → ToldByByte s → ToldByByte (b ∷ s)
+unfolding leadingBlanks isText
 one-told b s true e p k = rw e (p (let k′ = rw e at k in omega arith))
 one-told b s false e p k = rw e
 
-pub told-by : (s : List ℕ) → blanks s < length s → beginsText (getD s (blanks s) 0) ≡ isText s
-unfolding blanks
+pub told-by : (s : List ℕ) → leadingBlanks s < length s → beginsText (getD s (leadingBlanks s) 0) ≡ isText s
+unfolding leadingBlanks
 told-by [] h = absurd (omega arith)
 told-by (b ∷ s) h = one-told b s (isBlank b) refl (told-by s) h
 
 -- where there is none, the bytes are no text
 abbrev None : List ℕ → Type 0
-None s = length s ≤ blanks s → false ≡ isText s
+None s = length s ≤ leadingBlanks s → false ≡ isText s
 
 one-none : (b : ℕ) (s : List ℕ) (t : Bool) → isBlank b ≡ t → None s → None (b ∷ s)
-unfolding blanks isText
+unfolding leadingBlanks isText
 one-none b s true e p k = rw e (p (let k′ = rw e at k in omega arith))
 one-none b s false e p k = absurd (let k′ = rw e at k in omega arith)
 
-pub told-none : (s : List ℕ) → length s ≤ blanks s → false ≡ isText s
+pub told-none : (s : List ℕ) → length s ≤ leadingBlanks s → false ≡ isText s
 unfolding isText
 told-none [] h = refl
 told-none (b ∷ s) h = one-none b s (isBlank b) refl (told-none s) h

@@ -26,6 +26,6 @@ isText [] = false
 isText (b ∷ s) = cond (isBlank b) (isText s) (beginsText b)
 
 -- how many blanks come first
-unfoldable pub blanks : List ℕ → ℕ
-blanks [] = 0
-blanks (b ∷ s) = cond (isBlank b) (suc (blanks s)) 0
+unfoldable pub leadingBlanks : List ℕ → ℕ
+leadingBlanks [] = 0
+leadingBlanks (b ∷ s) = cond (isBlank b) (suc (leadingBlanks s)) 0

@@ -2,7 +2,7 @@
 ghost use mathlib.Core.Path.{_≡_};
 ghost use Prim.Native.Nat.{_≤_};
 ghost use lib.ListN.{length};
-ghost use Rattle.text_begins.specs.Begins.{letterOf, isBlank, beginsText, isText, blanks};
+ghost use Rattle.text_begins.specs.Begins.{letterOf, isBlank, beginsText, isText, leadingBlanks};
 
 // A text has at most so many bytes.
 pub const MOST_TEXT: usize = 65536;
@@ -39,7 +39,7 @@ fn is_blank(b: u8) -> bool
 
 // How many blanks come first.
 pub fn blanks(s: &[u8]) -> usize
-    ensures { λ r. ⌜ (r ≤ length (now (s .entry))) × (r ≡ blanks (now (s .entry))) ⌝ }
+    ensures { λ r. ⌜ (r ≤ length (now (s .entry))) × (r ≡ leadingBlanks (now (s .entry))) ⌝ }
 {
     let mut i = 0;
     while i < s.len() {

@@ -13,16 +13,16 @@ use borrow.Author.Tests.{lt-ltb, le-ltb}
 use Rattle.sheet_format.proofs.Lists.{append-nil}
 use Rattle.text_buffer.specs.Puts.{Put}
 use Rattle.text_buffer.proofs.Laws.{nothing, followed, said, below}
-use Rattle.text_writer.specs.Texts.{groups, lineKind, blockAt, firstKind, lineBytes, linesFrom}
+use Rattle.text_writer.specs.Texts.{groups, lineKind, blockKind, firstKind, lineText, linesFrom}
 use Rattle.text_writer.proofs.Parts.{groups-length, groups-at}
 
 -- what is put so far, and what the lines that are left give, are the whole
-pub record Written (old new : List ℕ) (n block : ℕ) (left : List (List ℤ)) (whole : List ℕ) : Type 0 where
+pub record LinesWritten (old new : List ℕ) (n block : ℕ) (left : List (List ℤ)) (whole : List ℕ) : Type 0 where
   pub text : List ℕ
   pub put : Put old new 0 text n
   pub rest : text ++ linesFrom block left ≡ whole
 
-pub begun : (out : List ℕ) (ls : List (List ℤ)) → Written out out 0 0 ls (linesFrom 0 ls)
+pub begun : (out : List ℕ) (ls : List (List ℤ)) → LinesWritten out out 0 0 ls (linesFrom 0 ls)
 begun out ls = record { text = []; put = nothing out 0; rest = refl }
 
 -- the kind of the line at a place
@@ -42,10 +42,10 @@ pub more-lines : {a b c : List ℕ} {n m kind next block now : ℕ} (lines : ℕ
     → i < lines
     → kind ≡ cond (ltb i lines) (lineKind (take 7 (drop (i * 7) ws))) 0
     → next ≡ cond (ltb (i + 1) lines) (lineKind (take 7 (drop ((i + 1) * 7) ws))) 0
-    → now ≡ blockAt kind block
-    → Written a b n block (drop i (groups 7 lines ws)) whole
-    → Put b c n (lineBytes (take 7 (drop (i * 7) ws)) kind now next) m
-    → Written a c m now (drop (i + 1) (groups 7 lines ws)) whole
+    → now ≡ blockKind kind block
+    → LinesWritten a b n block (drop i (groups 7 lines ws)) whole
+    → Put b c n (lineText (take 7 (drop (i * 7) ws)) kind now next) m
+    → LinesWritten a c m now (drop (i + 1) (groups 7 lines ws)) whole
 unfolding linesFrom
 more-lines {a} {b} {c} {n} {m} {kind} {next} {block} {now} lines ws i whole h e f g w p =
     let ls : List (List ℤ) = groups 7 lines ws in
@@ -53,17 +53,17 @@ more-lines {a} {b} {c} {n} {m} {kind} {next} {block} {now} lines ws i whole h e 
     let k : kind ≡ lineKind l = rw (lt-ltb i lines h) at e in
     let x : next ≡ firstKind (drop (i + 1) ls) = f ∙ sym (first-kind lines ws (i + 1)) in
     let d : drop i ls ≡ l ∷ drop (i + 1) ls = drop-cons ls i [] (rw (groups-length 7 lines ws) h) ∙ rw (add-one, groups-at 7 lines ws i h) in
-    let t : linesFrom block (drop i ls) ≡ lineBytes l kind now next ++ linesFrom now (drop (i + 1) ls) = rw (d, g, k, x) in
+    let t : linesFrom block (drop i ls) ≡ lineText l kind now next ++ linesFrom now (drop (i + 1) ls) = rw (d, g, k, x) in
     record {
-      text = w .text ++ lineBytes l kind now next;
+      text = w .text ++ lineText l kind now next;
       put = followed (w .put) p;
-      rest = append-assoc (w .text) (lineBytes l kind now next) (linesFrom now (drop (i + 1) ls)) ∙ rw (← t) (w .rest);
+      rest = append-assoc (w .text) (lineText l kind now next) (linesFrom now (drop (i + 1) ls)) ∙ rw (← t) (w .rest);
     }
 
 -- no lines are left
 pub all-lines : {a b : List ℕ} {n block : ℕ} (lines : ℕ) (ws : List ℤ) (i : ℕ) (whole : List ℕ)
     → lines ≤ i
-    → Written a b n block (drop i (groups 7 lines ws)) whole
+    → LinesWritten a b n block (drop i (groups 7 lines ws)) whole
     → Put a b 0 whole n
 unfolding linesFrom
 all-lines {block = block} lines ws i whole h w =

@@ -17,7 +17,7 @@ ghost use lib.Dec.{ltb};
 ghost use lib.ListN.{length, take, drop};
 ghost use Rattle.sheet_format.specs.Limits.{most-fields, line-words};
 ghost use Rattle.text_buffer.specs.Puts.{Put};
-ghost use Rattle.text_writer.specs.Texts.{small, lineKind, blockAt, headBytes, atomBytes, valuesBytes, rowBytes, kindBytes, lineBytes, linesBytes};
+ghost use Rattle.text_writer.specs.Texts.{small, lineKind, blockKind, headBytes, atomBytes, valuesBytes, rowBytes, kindBytes, lineText, linesBytes};
 
 // A field count or a kind of the number form.
 fn small(w: i32) -> usize
@@ -54,7 +54,7 @@ fn kind_at(words: &[i32], i: usize) -> usize
 
 // The kind of the block that a line of a kind stands in, given that of the line before.
 fn block_at(kind: usize, block: usize) -> usize
-    ensures { λ r. ⌜ r ≡ blockAt kind block ⌝ }
+    ensures { λ r. ⌜ r ≡ blockKind kind block ⌝ }
 {
     if kind == ATOM_KIND {
         return block;
@@ -147,7 +147,7 @@ fn put_line(
     next: usize,
 ) -> usize
     requires { ⌜ length (now line) ≡ line-words ⌝ }
-    ensures { λ r. ⌜ Put (now (out .entry)) (now (out .exit)) at (lineBytes (now (line .entry)) kind block next) r ⌝ }
+    ensures { λ r. ⌜ Put (now (out .entry)) (now (out .exit)) at (lineText (now (line .entry)) kind block next) r ⌝ }
 {
     let n = put_kind(out, at, line, kind, block, next);
     if next < ATOM_KIND {

@@ -16,7 +16,7 @@ use text_begins::letter;
 ghost use mathlib.Core.Path.{_≡_};
 ghost use Prim.Native.Nat.{_+_, _≤_, _<_};
 ghost use lib.ListN.{length, drop};
-ghost use Rattle.text_begins.specs.Begins.{blanks};
+ghost use Rattle.text_begins.specs.Begins.{leadingBlanks};
 
 // The lines of the number form that are kept: one more than a sheet can have, so that a longer one is refused. Their words.
 const LINES: usize = MOST_LINES + 1;
@@ -170,7 +170,7 @@ fn token_end(text: &[u8], at: usize) -> usize
 // The first place from `at` on that has no blank.
 fn skip(text: &[u8], at: usize) -> usize
     requires { ⌜ at ≤ length (now text) ⌝ }
-    ensures { λ r. ⌜ (at ≤ r) × (r ≤ length (now (text .entry))) × (r ≡ at + blanks (drop at (now (text .entry)))) ⌝ }
+    ensures { λ r. ⌜ (at ≤ r) × (r ≤ length (now (text .entry))) × (r ≡ at + leadingBlanks (drop at (now (text .entry)))) ⌝ }
 {
     at + blanks(&text[at..])
 }

@@ -25,7 +25,7 @@ use Rattle.text_buffer.specs.Words.{bytes}
 use Rattle.text_buffer.proofs.Laws.{below, reached-all, placed-all}
 use Rattle.text_begins.specs.Begins.{most-text}
 use Rattle.text_writer.specs.Rooms.{text-room}
-use Rattle.text_writer.specs.Texts.{plain, following, separated, groups, wordBytes, numberBytes, termAs, termBytes, termsBytes, relationNames, relationBytes, factBytes, factsBytes, small, lineTerms, headBytes, atomBytes, valuesBytes, rowBytes, kindBytes, lineBytes, blockAt, lineKind, firstKind, linesFrom, linesBytes, causes, causeBytes, placeBytes, refusalBytes, counts, countBytes, columnsBytes, expectations, lengthBytes, whatBytes, expectedBytes}
+use Rattle.text_writer.specs.Texts.{withoutBlanks, following, separated, groups, wordBytes, numberBytes, termAs, termBytes, termsBytes, relationNames, relationBytes, factBytes, factsBytes, small, lineTerms, headBytes, atomBytes, valuesBytes, rowBytes, kindBytes, lineText, blockKind, lineKind, firstKind, linesFrom, linesBytes, causes, causeBytes, placeBytes, refusalBytes, counts, countBytes, columnsBytes, expectations, lengthBytes, whatBytes, expectedBytes}
 use Rattle.text_writer.specs.Says.{Silent, Spoken}
 use Rattle.text_writer.proofs.Parts.{groups-length}
 
@@ -76,10 +76,10 @@ either-few false a b k h l = l
 
 -- ---- numbers and terms
 
-plain-few : (s : List ℕ) → length (plain s) ≤ length s
-unfolding plain
+plain-few : (s : List ℕ) → length (withoutBlanks s) ≤ length s
+unfolding withoutBlanks
 plain-few [] = omega arith
-plain-few (b ∷ s) = let h = plain-few s in either-few (eqb b 32) (plain s) (b ∷ plain s) (suc (length s)) (omega arith) (omega arith)
+plain-few (b ∷ s) = let h = plain-few s in either-few (eqb b 32) (withoutBlanks s) (b ∷ withoutBlanks s) (suc (length s)) (omega arith) (omega arith)
 
 word-few : (w : ℤ) → length (wordBytes w) ≤ field-bytes
 unfolding wordBytes
@@ -200,8 +200,8 @@ row-few l next =
     let k = either-few (eqb next 5) (bytes ";") [] 1 (omega arith) (omega arith) in
     simp length-append (omega arith)
 
-line-few : (l : List ℤ) (kind block next : ℕ) → length (lineBytes l kind block next) ≤ line-bytes
-unfolding lineBytes
+line-few : (l : List ℤ) (kind block next : ℕ) → length (lineText l kind block next) ≤ line-bytes
+unfolding lineText
 line-few l kind block next =
     let h = either-few (eqb kind 4) (atomBytes l block next) (cond (eqb kind 5) (rowBytes l next) (headBytes l kind)) (line-bytes - 1) (atom-few l block next) (either-few (eqb kind 5) (rowBytes l next) (headBytes l kind) (line-bytes - 1) (row-few l next) (head-few l kind)) in
     let k = either-few (ltb next 4) (bytes "\n") [] 1 (omega arith) (omega arith) in
@@ -211,7 +211,7 @@ lines-few : (block : ℕ) (ls : List (List ℤ)) → length (linesFrom block ls)
 unfolding linesFrom
 lines-few block [] = omega arith
 lines-few block (l ∷ ls) =
-    let b = blockAt (lineKind l) block in
+    let b = blockKind (lineKind l) block in
     let h = line-few l (lineKind l) b (firstKind ls) in
     let k = lines-few b ls in
     simp length-append (omega arith)

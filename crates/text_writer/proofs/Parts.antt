@@ -25,7 +25,7 @@ use Rattle.sheet_format.proofs.Lists.{append-nil, map-append}
 use Rattle.text_buffer.specs.Puts.{Put}
 use Rattle.text_buffer.specs.Words.{bytes}
 use Rattle.text_buffer.proofs.Laws.{followed}
-use Rattle.text_writer.specs.Texts.{plain, following, separated, groups, numbered, wordBytes, numberBytes, variableLetter, termAs, termBytes, termsBytes, relationNames, relationBytes, factBytes, small, lineKind, lineTerms, countBytes, columnsBytes}
+use Rattle.text_writer.specs.Texts.{withoutBlanks, following, separated, groups, nthText, wordBytes, numberBytes, variableLetter, termAs, termBytes, termsBytes, relationNames, relationBytes, factBytes, small, lineKind, lineTerms, countBytes, columnsBytes}
 
 -- ---- without blanks
 
@@ -33,13 +33,13 @@ plain-step : (t : Bool) (b : ℕ) (s r : List ℕ) → cond t (s ++ r) (b ∷ (s
 plain-step true b s r = refl
 plain-step false b s r = refl
 
-plain-append : (s r : List ℕ) → plain (s ++ r) ≡ plain s ++ plain r
-unfolding plain
+plain-append : (s r : List ℕ) → withoutBlanks (s ++ r) ≡ withoutBlanks s ++ withoutBlanks r
+unfolding withoutBlanks
 plain-append [] r = refl
-plain-append (b ∷ s) r = rw (plain-append s r) (plain-step (eqb b 32) b (plain s) (plain r))
+plain-append (b ∷ s) r = rw (plain-append s r) (plain-step (eqb b 32) b (withoutBlanks s) (withoutBlanks r))
 
 -- one byte more, where it is no blank
-pub more-plain : {a b c : List ℕ} {at n m : ℕ} (s : List ℕ) (i : ℕ) → i < length s → Put a b at (plain (take i s)) n → Put b c n (plain (getD s i 0 ∷ [])) m → Put a c at (plain (take (i + 1) s)) m
+pub more-plain : {a b c : List ℕ} {at n m : ℕ} (s : List ℕ) (i : ℕ) → i < length s → Put a b at (withoutBlanks (take i s)) n → Put b c n (withoutBlanks (getD s i 0 ∷ [])) m → Put a c at (withoutBlanks (take (i + 1) s)) m
 more-plain s i h p q = rw (add-one, take-suc s i 0 h, plain-append) (followed p q)
 
 -- ---- separated parts
@@ -94,11 +94,11 @@ take-least (suc k) (x ∷ l) = let e : min (suc k) (suc (length l)) ≡ suc (min
 -- ---- relations
 
 -- all names, each filled up with blanks to five bytes
-abbrev pub names : List ℕ
-names = bytes "RowerStrapWorn Sig  Beat NoisePulseCoachSeat Pause"
+abbrev pub paddedNames : List ℕ
+paddedNames = bytes "RowerStrapWorn Sig  Beat NoisePulseCoachSeat Pause"
 
-pub name-of : (n : ℕ) → n < 10 → plain (take 5 (drop (n * 5) names)) ≡ relationBytes (suc n)
-unfolding plain relationBytes
+pub name-of : (n : ℕ) → n < 10 → withoutBlanks (take 5 (drop (n * 5) paddedNames)) ≡ relationBytes (suc n)
+unfolding withoutBlanks relationBytes
 name-of zero h = refl
 name-of (suc zero) h = refl
 name-of (suc (suc zero)) h = refl
@@ -113,12 +113,12 @@ name-of (suc (suc (suc (suc (suc (suc (suc (suc (suc (suc n)))))))))) h = absurd
 
 -- ---- a byte
 
-pub blank-gone : {b : ℕ} → b ≡ 32 → [] ≡ plain (b ∷ [])
-unfolding plain
+pub blank-gone : {b : ℕ} → b ≡ 32 → [] ≡ withoutBlanks (b ∷ [])
+unfolding withoutBlanks
 blank-gone e = rw e
 
-pub byte-kept : {b : ℕ} → (b ≡ 32 → ⊥) → b ∷ [] ≡ plain (b ∷ [])
-unfolding plain
+pub byte-kept : {b : ℕ} → (b ≡ 32 → ⊥) → b ∷ [] ≡ withoutBlanks (b ∷ [])
+unfolding withoutBlanks
 byte-kept {b} n = rw (ne-eqb b 32 n)
 
 -- ---- cases
@@ -142,7 +142,7 @@ pub known : {n k : ℕ} (f : ℕ → List ℕ) → n ≡ k → f k ≡ f n
 known f e = sym (ap f e)
 
 -- the text of a number that has none in the list
-pub numbered-else : (texts : List (List ℕ)) (other : List ℕ) (n : ℕ) → ((n ≡ 0 → ⊥) → length texts < n) → other ≡ numbered texts other n
+pub numbered-else : (texts : List (List ℕ)) (other : List ℕ) (n : ℕ) → ((n ≡ 0 → ⊥) → length texts < n) → other ≡ nthText texts other n
 numbered-else texts other zero h = refl
 numbered-else texts other (suc n) h = let l = h (λ e. omega arith) in sym (List·getD-eq-default texts other (omega arith))
 
@@ -189,7 +189,7 @@ unfolding relationBytes
 no-relation {n = zero} h = refl
 no-relation {n = suc m} h = absurd (omega arith)
 
-pub name-at : (r : ℕ) → 1 ≤ r → r ≤ 10 → plain (take ((r - 1) * 5 + 5 - (r - 1) * 5) (drop ((r - 1) * 5) names)) ≡ relationBytes r
+pub name-at : (r : ℕ) → 1 ≤ r → r ≤ 10 → withoutBlanks (take ((r - 1) * 5 + 5 - (r - 1) * 5) (drop ((r - 1) * 5) paddedNames)) ≡ relationBytes r
 name-at zero l h = absurd (omega arith)
 name-at (suc n) l h =
     let e : suc n - 1 ≡ n = omega arith in

@@ -20,5 +20,5 @@ pub record Spoken (words old new : List ℕ) (r : ℕ) : Type 0 where
   pub count : r ≡ length words
 
 -- the words where there is room for any, else nothing
-abbrev pub Says : List ℕ → List ℕ → List ℕ → ℕ → Type 0
-Says words old new r = Silent old new r ⊎ Spoken words old new r
+abbrev pub SaysWords : List ℕ → List ℕ → List ℕ → ℕ → Type 0
+SaysWords words old new r = Silent old new r ⊎ Spoken words old new r

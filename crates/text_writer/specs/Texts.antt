@@ -19,9 +19,9 @@ use Rattle.text_begins.specs.Begins.{most-text}
 -- ---- parts
 
 -- bytes without their blanks
-unfoldable pub plain : List ℕ → List ℕ
-plain [] = []
-plain (b ∷ s) = cond (eqb b 32) (plain s) (b ∷ plain s)
+unfoldable pub withoutBlanks : List ℕ → List ℕ
+withoutBlanks [] = []
+withoutBlanks (b ∷ s) = cond (eqb b 32) (withoutBlanks s) (b ∷ withoutBlanks s)
 
 -- s where a test holds, else nothing
 abbrev pub if : Bool → List ℕ → List ℕ
@@ -50,7 +50,7 @@ groups k (suc n) ws = take k ws ∷ groups k n (drop k ws)
 
 -- a word as a number: its field of eight bytes without the blanks
 unfoldable pub wordBytes : ℤ → List ℕ
-wordBytes w = plain (fieldBytes w)
+wordBytes w = withoutBlanks (fieldBytes w)
 
 -- a number of at most eight digits; nothing for a longer one
 abbrev pub numberBytes : ℕ → List ℕ
@@ -139,12 +139,12 @@ abbrev pub kindBytes : List ℤ → ℕ → ℕ → ℕ → List ℕ
 kindBytes l kind block next = cond (eqb kind 4) (atomBytes l block next) (cond (eqb kind 5) (rowBytes l next) (headBytes l kind))
 
 -- a line, and the end of the text's line where a head or nothing follows
-unfoldable pub lineBytes : List ℤ → ℕ → ℕ → ℕ → List ℕ
-lineBytes l kind block next = kindBytes l kind block next ++ if (ltb next 4) (bytes "\n")
+unfoldable pub lineText : List ℤ → ℕ → ℕ → ℕ → List ℕ
+lineText l kind block next = kindBytes l kind block next ++ if (ltb next 4) (bytes "\n")
 
 -- the kind of the block that a line of a kind stands in, given that of the line before
-abbrev pub blockAt : ℕ → ℕ → ℕ
-blockAt kind block = cond (eqb kind 4) block (cond (eqb kind 5) block kind)
+abbrev pub blockKind : ℕ → ℕ → ℕ
+blockKind kind block = cond (eqb kind 4) block (cond (eqb kind 5) block kind)
 
 -- the kind of the first of some lines; 0 where there is none
 abbrev pub firstKind : List (List ℤ) → ℕ
@@ -154,7 +154,7 @@ firstKind (l ∷ ls) = lineKind l
 -- lines that follow one of a block
 unfoldable pub linesFrom : ℕ → List (List ℤ) → List ℕ
 linesFrom block [] = []
-linesFrom block (l ∷ ls) = lineBytes l (lineKind l) (blockAt (lineKind l) block) (firstKind ls) ++ linesFrom (blockAt (lineKind l) block) ls
+linesFrom block (l ∷ ls) = lineText l (lineKind l) (blockKind (lineKind l) block) (firstKind ls) ++ linesFrom (blockKind (lineKind l) block) ls
 
 -- the text of a number form
 unfoldable pub linesBytes : List ℤ → List ℕ
@@ -177,13 +177,13 @@ causes =
     ∷ []
 
 -- the text of a number that the list has, counted from 1; for any other number another text
-abbrev pub numbered : List (List ℕ) → List ℕ → ℕ → List ℕ
-numbered texts other zero = other
-numbered texts other (suc n) = getD texts n other
+abbrev pub nthText : List (List ℕ) → List ℕ → ℕ → List ℕ
+nthText texts other zero = other
+nthText texts other (suc n) = getD texts n other
 
 -- what a cause says
 abbrev pub causeBytes : ℕ → List ℕ
-causeBytes number = numbered causes (bytes "there is not room enough") number
+causeBytes number = nthText causes (bytes "there is not room enough") number
 
 -- a refusal's cause by its number, its line, and the line of the text, if any
 unfoldable pub placeBytes : ℕ → ℕ → ℕ → List ℕ
@@ -205,7 +205,7 @@ counts = bytes "one column in " ∷ bytes "two columns in " ∷ bytes "three col
 
 -- how many columns a relation has
 abbrev pub countBytes : ℕ → List ℕ
-countBytes columns = numbered counts (bytes "four columns in ") columns
+countBytes columns = nthText counts (bytes "four columns in ") columns
 
 -- the columns of a relation, and its name; nothing where there is no such relation
 unfoldable pub columnsBytes : ℕ → List ℕ
@@ -239,7 +239,7 @@ lengthBytes = bytes "at most " ++ numberBytes most-text ++ bytes " bytes"
 
 -- what was expected
 abbrev pub whatBytes : ℕ → ℕ → List ℕ
-whatBytes what relation = numbered (expectations relation) lengthBytes what
+whatBytes what relation = nthText (expectations relation) lengthBytes what
 
 -- what was expected in a line
 unfoldable pub expectedBytes : ℕ → ℕ → ℕ → List ℕ

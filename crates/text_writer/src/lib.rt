@@ -13,14 +13,14 @@ ghost use lib.Dec.{eqb};
 ghost use Rattle.sheet_format.specs.Line.{natural};
 ghost use Rattle.text_buffer.specs.Puts.{Put};
 ghost use Rattle.text_buffer.specs.Words.{bytes};
-ghost use Rattle.text_writer.specs.Texts.{plain, wordBytes, numberBytes, variableLetter, termBytes, termsBytes, relationBytes};
+ghost use Rattle.text_writer.specs.Texts.{withoutBlanks, wordBytes, numberBytes, variableLetter, termBytes, termsBytes, relationBytes};
 
 // The room that the text of a sheet, and all that is said in words, want: as many bytes as a sheet may have.
 pub const TEXT_ROOM: usize = MOST_SHEET_BYTES;
 
 // A byte that is no blank.
 fn put_unless_blank(out: &mut [u8], at: usize, b: u8) -> usize
-    ensures { λ r. ⌜ Put (now (out .entry)) (now (out .exit)) at (plain (b ∷ [])) r ⌝ }
+    ensures { λ r. ⌜ Put (now (out .entry)) (now (out .exit)) at (withoutBlanks (b ∷ [])) r ⌝ }
 {
     if b == b' ' {
         return at;
@@ -30,7 +30,7 @@ fn put_unless_blank(out: &mut [u8], at: usize, b: u8) -> usize
 
 // Bytes without their blanks.
 fn put_plain(out: &mut [u8], at: usize, s: &[u8]) -> usize
-    ensures { λ r. ⌜ Put (now (out .entry)) (now (out .exit)) at (plain (now (s .entry))) r ⌝ }
+    ensures { λ r. ⌜ Put (now (out .entry)) (now (out .exit)) at (withoutBlanks (now (s .entry))) r ⌝ }
 {
     let mut n = at;
     let mut i = 0;

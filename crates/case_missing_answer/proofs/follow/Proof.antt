@@ -1,6 +1,6 @@
 -- `missing::follow` meets its contract: what is found is above the row before, or there is none. Assumes nothing.
 use Rattle.sheet_format.specs.Limits.{most-atoms}
-use Rattle.tableau_parts.proofs.Laws.{Words, room-falls, room-ends, follow-none}
+use Rattle.tableau_parts.proofs.Laws.{MachineWords, room-falls, room-ends, follow-none}
 use Rattle.tableau_parts.specs.Walks.{BelowBy}
 use Rattle.query_join.specs.Joins.{NextBy}
 use Prim.Native.Nat.{min}
@@ -34,8 +34,8 @@ returns-2 : tie.Need-returns-2
 returns-2 c =
     let s = c .before .before .before .before .before .before .before in
     let n = c .before .before .before .before .before in
-    let old : Words (s .args .after .values) = λ q. search needs in
-    let new : Words (n .next .result .values) = λ q. search needs in
+    let old : MachineWords (s .args .after .values) = λ q. search needs in
+    let new : MachineWords (n .next .result .values) = λ q. search needs in
     let up = subst (λ b. BelowBy b (s .args .after .values) (n .next .result .values)) (not-false (c .before .below .result) (c .if2 .left)) (c .before .below .ensures) in (
       n .next .ensures .0,
       λ e. rw e (room-falls (n .next .result .some) (s .args .after .values) (n .next .result .values) old new (search needs) up),

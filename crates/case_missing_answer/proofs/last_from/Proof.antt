@@ -5,12 +5,12 @@ use mathlib.Core.Path.{_≡_, refl, sym, _∙_}
 use Prim.Native.Nat.{_≤_, _-_}
 use native.Mathlib.Omega.{arith}
 use borrow.Author.Needs.{needs}
-use Rattle.list_laws.specs.Order.{Agree}
+use Rattle.list_laws.specs.Order.{SameBefore}
 use Rattle.case_missing_answer.proofs.last_from.Statement.{statement}
 use Rattle.case_missing_answer.proofs.last_from.Tie as tie
 
 abbrev Inv-loop : tie.InvT-loop
-Inv-loop k far₀ c₀ far c = (length far ≡ 4) × (k ≤ c) × Agree k far₀ far
+Inv-loop k far₀ c₀ far c = (length far ≡ 4) × (k ≤ c) × SameBefore k far₀ far
 
 abbrev μ-loop : tie.MeasureT-loop
 μ-loop k far₀ c₀ far c = 4 - c

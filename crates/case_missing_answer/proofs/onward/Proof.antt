@@ -1,5 +1,5 @@
 -- `missing::onward` meets its contract: it goes on from the row, or from the last that begins as it does where list i is given them all. Assumes nothing.
-use Rattle.tableau_parts.proofs.Laws.{Words, onward-same, onward-far, room-same}
+use Rattle.tableau_parts.proofs.Laws.{MachineWords, onward-same, onward-far, room-same}
 use Rattle.tableau_parts.specs.Walks.{BelowBy}
 use mathlib.Core.Path.{_≡_, subst}
 use lib.ListN.{length}
@@ -32,8 +32,8 @@ returns-2 c =
     let good = s .good in
     let size : length (a .row) ≡ 4 = s .good .1 .1 .1 .0 .1 .0 .1 in
     let up = subst (λ x. BelowBy x (a .row) (f .last-from .result)) (c .if2 .taken) (b .below .ensures) in
-    let old : Words (a .row) = λ q. search needs in
-    let new : Words (f .last-from .result) = λ q. search needs in (
+    let old : MachineWords (a .row) = λ q. search needs in
+    let new : MachineWords (f .last-from .result) = λ q. search needs in (
       λ ready lt g.
           onward-far (a .p .now) (a .facts .now) (a .row) (f .last-from .result) (a .i) (k .covered-from .result) (k .covered-from .ensures .0) (search needs) size (f .last-from .ensures) up lt g
           (k .covered-from .ensures .1 ready),

@@ -4,7 +4,7 @@ use borrow.Author.Needs.{needs}
 use Rattle.list_laws.proofs.Words.{back}
 use Rattle.sheet_format.specs.Line.{natural}
 use Rattle.query_meaning.specs.Blocks.{asTerm}
-use Rattle.query_encoding.specs.Encoding.{number}
+use Rattle.query_encoding.specs.Encoding.{termNumber}
 use Rattle.query_blocks.proofs.Parts.{entry-relation, entry-term, entry-head}
 use Rattle.query_blocks.proofs.entry.Statement.{statement}
 use Rattle.query_blocks.proofs.entry.Tie as tie
@@ -44,7 +44,7 @@ term-number-requires c κs = search needs
 returns-2 : tie.Need-returns-2
 returns-2 c =
     let s = c .before .before .before .before in
-    (rw (back {z = c .before .word-at2 .result} (record { sfits = c .before .word-at2 .ok })) at (c .term-number .ensures)) ∙ ap (λ z. number (asTerm z)) (c .before .word-at2 .ensures) ∙ entry-term (s .args .ws .now) (s .args .h) (s .args .x) (c .before .before .before .if1 .taken) (c .before .before .if2 .left)
+    (rw (back {z = c .before .word-at2 .result} (record { sfits = c .before .word-at2 .ok })) at (c .term-number .ensures)) ∙ ap (λ z. termNumber (asTerm z)) (c .before .word-at2 .ensures) ∙ entry-term (s .args .ws .now) (s .args .h) (s .args .x) (c .before .before .before .if1 .taken) (c .before .before .if2 .left)
 
 mul-word-at : tie.Need-mul-word-at
 mul-word-at c = search needs
@@ -64,7 +64,7 @@ term-number-requires-2 c κs = search needs
 returns-3 : tie.Need-returns-3
 returns-3 c =
     let s = c .before .before .before in
-    (rw (back {z = c .before .word-at3 .result} (record { sfits = c .before .word-at3 .ok })) at (c .term-number2 .ensures)) ∙ ap (λ z. number (asTerm z)) (c .before .word-at3 .ensures) ∙ entry-head (s .args .ws .now) (s .args .h) (s .args .x) (c .before .before .if1 .left)
+    (rw (back {z = c .before .word-at3 .result} (record { sfits = c .before .word-at3 .ok })) at (c .term-number2 .ensures)) ∙ ap (λ z. termNumber (asTerm z)) (c .before .word-at3 .ensures) ∙ entry-head (s .args .ws .now) (s .args .h) (s .args .x) (c .before .before .if1 .left)
 
 pub entry-spec : {M : Type 1} → statement M
 entry-spec =

@@ -9,7 +9,7 @@ use mir.Val.{SFits}
 use mir.ValLaws.{toZ-ofZ, toZ-pos}
 use Rattle.list_laws.proofs.Words.{negative, positive, back}
 use Rattle.query_meaning.specs.Blocks.{asTerm}
-use Rattle.query_encoding.specs.Encoding.{number}
+use Rattle.query_encoding.specs.Encoding.{termNumber}
 use Rattle.query_blocks.proofs.term_number.Statement.{statement}
 use Rattle.query_blocks.proofs.term_number.Tie as tie
 
@@ -43,7 +43,7 @@ returns c =
     let h = c .before .fits .word in
     let (n, e, g) = below c in
     let k = rw e at (h .sfits) in
-    rw (back h, toZ-ofZ w64 (c .before .args .word) (wide h), g, toZ-pos w64 (suc n) (omega arith)) (sym (ap (λ z. number (asTerm z)) e))
+    rw (back h, toZ-ofZ w64 (c .before .args .word) (wide h), g, toZ-pos w64 (suc n) (omega arith)) (sym (ap (λ z. termNumber (asTerm z)) e))
 
 cast-result-3 : tie.Need-cast-result-3
 cast-result-3 c =

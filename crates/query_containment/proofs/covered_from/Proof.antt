@@ -1,7 +1,7 @@
 -- `frozen::covered_from` meets its contract. The loop's invariant: where k is a column, the columns before it are enough. The measure is k. Assumes nothing.
 use Rattle.tableau_layout.specs.Layout.{tableau-numbers}
 use Rattle.sheet_format.specs.Limits.{most-atoms}
-use Rattle.query_containment.specs.Containment.{Plain, Contained}
+use Rattle.query_containment.specs.Containment.{NoneFrozen, Contained}
 use Prim.Native.Nat.{min, _≤_, _<_}
 use borrow.Author.Tests.{not-false}
 use native.Mathlib.Omega.{arith}
@@ -11,7 +11,7 @@ use Rattle.query_containment.proofs.covered_from.Statement.{statement}
 use Rattle.query_containment.proofs.covered_from.Tie as tie
 
 abbrev Inv-loop : tie.InvT-loop
-Inv-loop q qn l ln facts row k₀ k = (k ≤ 4) × (length facts ≤ tableau-numbers) × Plain q l facts row × (k < 4 → Contained q (min qn most-atoms) l (min ln most-atoms) facts row k)
+Inv-loop q qn l ln facts row k₀ k = (k ≤ 4) × (length facts ≤ tableau-numbers) × NoneFrozen q l facts row × (k < 4 → Contained q (min qn most-atoms) l (min ln most-atoms) facts row k)
 
 abbrev μ-loop : tie.MeasureT-loop
 μ-loop q qn l ln facts row k₀ k = k

@@ -7,13 +7,13 @@ use borrow.Author.Needs.{needs}
 use borrow.Author.Tests.{not-true, not-false}
 use lib.ListN.{length, drop}
 use Rattle.query_meaning.specs.Facts.{factByFact, factsIn}
-use Rattle.query_facts.specs.Parts.{before}
+use Rattle.query_facts.specs.Parts.{factBefore}
 use Rattle.query_facts.proofs.Laws.{facts-length, fact-wrong, fact-low, fact-goes, facts-end}
 use Rattle.query_facts.proofs.by_facts.Statement.{statement}
 use Rattle.query_facts.proofs.by_facts.Tie as tie
 
 abbrev Inv-loop : tie.InvT-loop
-Inv-loop fs n i₀ i = factByFact (before (factsIn fs) i) (drop i (factsIn fs)) ≡ factByFact [] (factsIn fs)
+Inv-loop fs n i₀ i = factByFact (factBefore (factsIn fs) i) (drop i (factsIn fs)) ≡ factByFact [] (factsIn fs)
 
 abbrev μ-loop : tie.MeasureT-loop
 μ-loop fs n i₀ i = n - i

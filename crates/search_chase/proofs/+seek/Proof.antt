@@ -30,7 +30,7 @@ use Rattle.search_chase.proofs.+seek.Tie.{close}
 use Rattle.case_verdicts.specs.Verdict.{Sheet}
 use Rattle.tableau_plan.specs.Plan.{rowValues, rowCount}
 use Rattle.search_learning.specs.Rows.{Learned}
-use Rattle.search_chase.specs.Parts.{ReadyPlan, Started, Levelled, Nogoods, Going, sheetBy, turned}
+use Rattle.search_chase.specs.Parts.{ReadyPlan, Started, Levelled, Nogoods, Going, sheetBy, roundFrom}
 use Rattle.search_chase.proofs.Levels.{done-by, open-by, take-at, going-first, going-passed, going-found, going-jumped, going-taken, going-all, jumps-yes, jumps-no}
 use Rattle.search_chase.proofs.Tries.{going-refuted, going-kept}
 use Rattle.search_nogoods.specs.Sizes.{nogood-numbers, nogood-marks}
@@ -51,7 +51,7 @@ abbrev seek-Inv-loop : seek-lts.InvT-loop
 seek-Inv-loop p st₀ lv₀ goal next left marks₀ sl₀ sm₀ u f b view deeper rows first below₀ last₀ i₀ st lv marks sl sm below last i =
     (length st ≡ slot-end) × (length lv ≡ slot-end) × (i ≤ rows) × (length (f .values) ≡ 4) × (length sl ≡ nogood-numbers) × (length sm ≡ nogood-marks)
     × ((x : Sheet) → ReadyPlan p x → Started x (sheetBy goal x) st₀ left → Levelled st₀ lv₀ next → Nogoods (sheetBy goal x) st₀ lv₀ sl₀ sm₀
-    → Going p x (sheetBy goal x) st₀ lv₀ st lv marks (f .view) (f .values) (turned first rows) i below last sl sm)
+    → Going p x (sheetBy goal x) st₀ lv₀ st lv marks (f .view) (f .values) (roundFrom first rows) i below last sl sm)
 
 abbrev seek-μ-loop : seek-lts.MeasureT-loop
 seek-μ-loop p st₀ lv₀ goal next left marks₀ sl₀ sm₀ u f b view deeper rows first below₀ last₀ i₀ st lv marks sl sm below last i = rows - i
@@ -105,7 +105,7 @@ seek-loop-holds t c = let s = c .before .before .before .before .before .before 
       search needs,
       s .pre .1 .4,
       s .pre .1 .5,
-      λ x r b g h. going-first p x (sheetBy (s .args .goal) x) ws lv (j .last .1 .1 .1 .1 .0) view u (turned (c .below-or-0 .result) (c .before .row-count .result))
+      λ x r b g h. going-first p x (sheetBy (s .args .goal) x) ws lv (j .last .1 .1 .1 .1 .0) view u (roundFrom (c .below-or-0 .result) (c .before .row-count .result))
           (open-by p x (sheetBy (s .args .goal) x) ws lv (j .last .1 .1 .1 .1 .0) view u (j .result .done) (j .result .good) (c .before .before .before .before .before .before .if2 .left) (j .ensures x r (b .proper)))
           _ most-rows (r .plan .rows-few) (s .args .sl .now) (s .args .sm .now) h,
     )
@@ -139,7 +139,7 @@ seek-loop-again t c = let s = c .before .before .before .before .before .before 
     let v = c .before .before .before .before .before .before .before .before .before .before .before .before .before .before .before .before .choice .result in
     let d = c .before .before .before .before .before .before .before .before .before .before .before .before .before .before .before .following in
     let k = c .before .before .before .before .before .before .before .before .before .before .turn in
-    let at : ℕ → ℕ = turned one rows in
+    let at : ℕ → ℕ = roundFrom one rows in
     let w = c .before .is-refuted in
     let more = w .last .1 .1 .1 .1 .1 .1 .1 .1 .1 .1 .0 in (
       l .inv .0,
@@ -172,7 +172,7 @@ seek-loop-again-2 t c = let s = c .before .before .before .before .before .befor
     let v = c .before .before .before .before .before .before .before .before .before .before .before .before .before .before .before .before .before .before .before .before .before .before .choice .result in
     let d = c .before .before .before .before .before .before .before .before .before .before .before .before .before .before .before .before .before .before .before .before .before .following in
     let k = c .before .before .before .before .before .before .before .before .before .before .before .before .before .before .before .before .turn in
-    let at : ℕ → ℕ = turned one rows in
+    let at : ℕ → ℕ = roundFrom one rows in
     let w = c .before .before .before .before .before .before .before .is-refuted in
     let more = w .last .1 .1 .1 .1 .1 .1 .1 .1 .1 .1 .0 in
     let t = c .before .take in
@@ -221,7 +221,7 @@ seek-returns-3 t c = let s = c .before .before .before .before .before .before .
     let v = c .before .before .before .before .before .before .before .before .before .before .before .before .before .before .before .before .before .before .before .before .before .before .before .before .before .before .before .before .before .before .before .choice .result in
     let d = c .before .before .before .before .before .before .before .before .before .before .before .before .before .before .before .before .before .before .before .before .before .before .before .before .before .before .before .before .before .before .following in
     let k = c .before .before .before .before .before .before .before .before .before .before .before .before .before .before .before .before .before .before .before .before .before .before .before .before .before .turn in
-    let at : ℕ → ℕ = turned one rows in
+    let at : ℕ → ℕ = roundFrom one rows in
     let w = c .before .before .before .before .before .before .before .before .before .before .before .before .before .before .before .before .is-refuted in
     let more = w .last .1 .1 .1 .1 .1 .1 .1 .1 .1 .1 .0 in
     let t = c .before .before .before .before .before .before .before .before .before .before .take in
@@ -258,7 +258,7 @@ seek-returns-4 t c = let s = c .before .before .before .before .before .before .
     let v = c .before .before .before .before .before .before .before .before .before .before .before .before .before .before .before .before .before .before .before .before .before .before .before .before .before .before .before .before .before .before .before .before .before .before .before .before .before .before .before .before .before .before .choice .result in
     let d = c .before .before .before .before .before .before .before .before .before .before .before .before .before .before .before .before .before .before .before .before .before .before .before .before .before .before .before .before .before .before .before .before .before .before .before .before .before .before .before .before .before .following in
     let k = c .before .before .before .before .before .before .before .before .before .before .before .before .before .before .before .before .before .before .before .before .before .before .before .before .before .before .before .before .before .before .before .before .before .before .before .before .turn in
-    let at : ℕ → ℕ = turned one rows in
+    let at : ℕ → ℕ = roundFrom one rows in
     let w = c .before .before .before .before .before .before .before .before .before .before .before .before .before .before .before .before .before .before .before .before .before .before .before .before .before .before .before .is-refuted in
     let more = w .last .1 .1 .1 .1 .1 .1 .1 .1 .1 .1 .0 in
     let t = c .before .before .before .before .before .before .before .before .before .before .before .before .before .before .before .before .before .before .before .before .before .take in
@@ -300,7 +300,7 @@ seek-loop-again-3 t c = let s = c .before .before .before .before .before .befor
     let v = c .before .before .before .before .before .before .before .before .before .before .before .before .before .before .before .before .before .before .before .before .before .before .before .before .before .before .before .before .before .before .before .before .before .before .before .before .before .before .before .before .before .before .before .before .before .before .before .before .before .before .choice .result in
     let d = c .before .before .before .before .before .before .before .before .before .before .before .before .before .before .before .before .before .before .before .before .before .before .before .before .before .before .before .before .before .before .before .before .before .before .before .before .before .before .before .before .before .before .before .before .before .before .before .before .before .following in
     let k = c .before .before .before .before .before .before .before .before .before .before .before .before .before .before .before .before .before .before .before .before .before .before .before .before .before .before .before .before .before .before .before .before .before .before .before .before .before .before .before .before .before .before .before .before .turn in
-    let at : ℕ → ℕ = turned one rows in
+    let at : ℕ → ℕ = roundFrom one rows in
     let w = c .before .before .before .before .before .before .before .before .before .before .before .before .before .before .before .before .before .before .before .before .before .before .before .before .before .before .before .before .before .before .before .before .before .before .before .is-refuted in
     let more = w .last .1 .1 .1 .1 .1 .1 .1 .1 .1 .1 .0 in
     let t = c .before .before .before .before .before .before .before .before .before .before .before .before .before .before .before .before .before .before .before .before .before .before .before .before .before .before .before .before .before .take in

@@ -4,12 +4,12 @@ use native.Mathlib.Omega.{arith}
 use borrow.Author.Needs.{needs}
 use mathlib.Core.Bool.{false}
 use lib.ListN.{length, length-set}
-use Rattle.search_choices.proofs.Writes.{Filled, filled-none, filled-more, filled-all}
+use Rattle.search_choices.proofs.Writes.{MarksFilled, filled-none, filled-more, filled-all}
 use Rattle.search_choices.proofs.clear.Statement.{statement}
 use Rattle.search_choices.proofs.clear.Tie as tie
 
 abbrev Inv-loop : tie.InvT-loop
-Inv-loop marks₀ n k₀ marks k = (k ≤ n) × (n ≡ length marks₀) × (length marks ≡ length marks₀) × Filled (λ j. false) marks k
+Inv-loop marks₀ n k₀ marks k = (k ≤ n) × (n ≡ length marks₀) × (length marks ≡ length marks₀) × MarksFilled (λ j. false) marks k
 
 abbrev μ-loop : tie.MeasureT-loop
 μ-loop marks₀ n k₀ marks k = n - k

@@ -8,12 +8,12 @@ use borrow.Author.Needs.{needs}
 use lib.ListN.{drop, length, getD}
 use Rattle.search_state.specs.Parts.{JoinedBy, Own}
 use Rattle.search_state.specs.State.{Fresh, Constants}
-use Rattle.search_state.proofs.Laws.{Progress, progress-start, progress-more, progress-clash, progress-end}
+use Rattle.search_state.proofs.Laws.{RowsUnified, progress-start, progress-more, progress-clash, progress-end}
 use Rattle.search_state.proofs.join_all.Statement.{statement}
 use Rattle.search_state.proofs.join_all.Tie as tie
 
 abbrev Inv-loop : tie.InvT-loop
-Inv-loop st₀ u r c₀ st c = (c ≤ 4) × (length st ≡ length st₀) × (length u ≡ 4 → length r ≡ 4 → Own st₀ → Fresh st₀ u → Constants r → Progress st₀ st (drop c u) (drop c r))
+Inv-loop st₀ u r c₀ st c = (c ≤ 4) × (length st ≡ length st₀) × (length u ≡ 4 → length r ≡ 4 → Own st₀ → Fresh st₀ u → Constants r → RowsUnified st₀ st (drop c u) (drop c r))
 
 abbrev μ-loop : tie.MeasureT-loop
 μ-loop st₀ u r c₀ st c = c

@@ -8,12 +8,12 @@ use lib.ListN.{length-set, length, getD}
 use lib.Seq.{getD-set-same, getD-set-other}
 use Rattle.case_verdicts.specs.Sheets.{top}
 use Rattle.case_verdicts.specs.Words.{stateOf}
-use Rattle.search_state.specs.Parts.{numberAt}
+use Rattle.search_state.specs.Parts.{numberUnder}
 use Rattle.search_state.proofs.numbers.Statement.{statement}
 use Rattle.search_state.proofs.numbers.Tie as tie
 
 abbrev Inv-loop : tie.InvT-loop
-Inv-loop p st from count out₀ x₀ out x = (length out ≡ length out₀) × (x ≤ count) × ((y : ℕ) → y < x → getD out y 0 ≡ numberAt p (stateOf top st) (from + y))
+Inv-loop p st from count out₀ x₀ out x = (length out ≡ length out₀) × (x ≤ count) × ((y : ℕ) → y < x → getD out y 0 ≡ numberUnder p (stateOf top st) (from + y))
 
 abbrev μ-loop : tie.MeasureT-loop
 μ-loop p st from count out₀ x₀ out x = count - x

@@ -3,13 +3,13 @@ use Prim.Native.Nat.{_-_, _+_}
 use native.Mathlib.Omega.{arith}
 use borrow.Author.Needs.{needs}
 use lib.ListN.{length, drop}
-use Rattle.sheet_line_ends.specs.Before.{before}
+use Rattle.sheet_line_ends.specs.Before.{beforeEnd}
 use Rattle.sheet_line_ends.proofs.Laws.{before-here, before-later, before-end}
 use Rattle.sheet_line_ends.proofs.line_end.Statement.{statement}
 use Rattle.sheet_line_ends.proofs.line_end.Tie as tie
 
 abbrev Inv-loop : tie.InvT-loop
-Inv-loop s at e₀ e = e + before (drop e s) ≡ at + before (drop at s)
+Inv-loop s at e₀ e = e + beforeEnd (drop e s) ≡ at + beforeEnd (drop at s)
 
 abbrev μ-loop : tie.MeasureT-loop
 μ-loop s at e₀ e = length s - e

@@ -2,7 +2,7 @@ use mathlib.Core.Path.{sym, ap, _∙_, subst}
 use Prim.Native.Nat.{_-_, _+_, _*_}
 use native.Mathlib.Omega.{arith}
 use lib.ListN.{length, getD, drop}
-use Rattle.sheet_line_ends.specs.Before.{before}
+use Rattle.sheet_line_ends.specs.Before.{beforeEnd}
 use Rattle.list_laws.specs.Wrote.{Wrote}
 use Rattle.sheet_reader.proofs.ParseLaws.{Parsing, parsing-none, parsing-more, parsed-long, parsed-all, parsed-open, parsed-broken, no-count}
 use Rattle.sheet_line_ends.proofs.Laws.{end-inside}

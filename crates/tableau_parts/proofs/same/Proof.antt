@@ -1,6 +1,6 @@
 -- `views::same` meets its contract: the loop's invariant: the rows agree in the columns before k. The measure is what is left of the columns. Assumes nothing.
 use Rattle.list_laws.proofs.Order.{agree-more, agree-none, agree-all}
-use Rattle.list_laws.specs.Order.{Agree}
+use Rattle.list_laws.specs.Order.{SameBefore}
 use mathlib.Core.Path.{_≡_, ap}
 use Prim.Native.Nat.{_≤_, _-_}
 use native.Mathlib.Omega.{arith}
@@ -10,7 +10,7 @@ use Rattle.tableau_parts.proofs.same.Statement.{statement}
 use Rattle.tableau_parts.proofs.same.Tie as tie
 
 abbrev Inv-loop : tie.InvT-loop
-Inv-loop t u k₀ k = (k ≤ 4) × Agree k t u × (length t ≡ 4) × (length u ≡ 4)
+Inv-loop t u k₀ k = (k ≤ 4) × SameBefore k t u × (length t ≡ 4) × (length u ≡ 4)
 
 abbrev μ-loop : tie.MeasureT-loop
 μ-loop t u k₀ k = 4 - k

@@ -7,13 +7,13 @@ use lib.ListN.{length}
 use Rattle.tableau_layout.specs.Layout.{most-blocks, plan-numbers}
 use Rattle.sheet_format.specs.Line.{wordLines}
 use Rattle.query_blocks.specs.Parts.{AcceptedLines}
-use Rattle.tableau_plan.proofs.Blocks.{Begun, begun-none, begun-more, begun-end, begun-all}
+use Rattle.tableau_plan.proofs.Blocks.{BlocksSoFar, begun-none, begun-more, begun-end, begun-all}
 use borrow.Author.Tests.{not-true, not-false}
 use Rattle.tableau_plan.proofs.put_blocks.Statement.{statement}
 use Rattle.tableau_plan.proofs.put_blocks.Tie as tie
 
 abbrev Inv-loop : tie.InvT-loop
-Inv-loop ws p₀ b₀ p b = (b ≤ most-blocks) × (length p ≡ plan-numbers) × (AcceptedLines (wordLines ws) → Begun p (wordLines ws) b)
+Inv-loop ws p₀ b₀ p b = (b ≤ most-blocks) × (length p ≡ plan-numbers) × (AcceptedLines (wordLines ws) → BlocksSoFar p (wordLines ws) b)
 
 abbrev μ-loop : tie.MeasureT-loop
 μ-loop ws p₀ b₀ p b = most-blocks - b

@@ -8,12 +8,12 @@ use mir.Syntax.{w32}
 use mir.Val.{ofZ}
 use lib.ListN.{length, getD}
 use Rattle.test_lent.specs.Marks.{markOf}
-use Rattle.test_lent.proofs.Places.{Marked, mark-of-bits, first-marked, rest-marked, more-marked, none-marked}
+use Rattle.test_lent.proofs.Places.{MarksFrom, mark-of-bits, first-marked, rest-marked, more-marked, none-marked}
 use Rattle.test_lent.proofs.are_marked.Statement.{statement}
 use Rattle.test_lent.proofs.are_marked.Tie as tie
 
 abbrev Inv-loop : tie.InvT-loop
-Inv-loop lent from i₀ i = (Marked lent i → Marked lent from) × (Marked lent from → Marked lent i)
+Inv-loop lent from i₀ i = (MarksFrom lent i → MarksFrom lent from) × (MarksFrom lent from → MarksFrom lent i)
 
 abbrev μ-loop : tie.MeasureT-loop
 μ-loop lent from i₀ i = length lent - i

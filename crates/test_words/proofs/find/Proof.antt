@@ -4,13 +4,13 @@ use Prim.Native.Nat.{_≤_, _-_, _+_}
 use borrow.Author.Needs.{needs}
 use native.Mathlib.Omega.{arith}
 use lib.ListN.{length, drop}
-use Rattle.test_words.specs.Words.{before}
+use Rattle.test_words.specs.Words.{beforeEither}
 use Rattle.test_words.proofs.Found.{found-first, found-second, found-later, found-none}
 use Rattle.test_words.proofs.find.Statement.{statement}
 use Rattle.test_words.proofs.find.Tie as tie
 
 abbrev Inv-loop : tie.InvT-loop
-Inv-loop s from a b i₀ i = (from ≤ i) × (i ≤ length s) × (i + before a b (drop i s) ≡ from + before a b (drop from s))
+Inv-loop s from a b i₀ i = (from ≤ i) × (i ≤ length s) × (i + beforeEither a b (drop i s) ≡ from + beforeEither a b (drop from s))
 
 abbrev μ-loop : tie.MeasureT-loop
 μ-loop s from a b i₀ i = length s - i

@@ -6,12 +6,12 @@ use lib.ListN.{length}
 use borrow.Author.Needs.{needs}
 use mir.Syntax.{w32}
 use mir.ValLaws.{toZ-ofZ}
-use Rattle.test_words.proofs.Read.{Going, going-none, going-more, going-all}
+use Rattle.test_words.proofs.Read.{WordsSoFar, going-none, going-more, going-all}
 use Rattle.test_words.proofs.words.Statement.{statement}
 use Rattle.test_words.proofs.words.Tie as tie
 
 abbrev Inv-loop : tie.InvT-loop
-Inv-loop text unit out₀ n₀ i₀ out n i = Going unit text out₀ out n i
+Inv-loop text unit out₀ n₀ i₀ out n i = WordsSoFar unit text out₀ out n i
 
 abbrev μ-loop : tie.MeasureT-loop
 μ-loop text unit out₀ n₀ i₀ out n i = length text - i

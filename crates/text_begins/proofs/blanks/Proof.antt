@@ -5,13 +5,13 @@ use native.Mathlib.Omega.{arith}
 use borrow.Author.Tests.{not-true, not-false}
 use borrow.Author.Needs.{needs}
 use lib.ListN.{length, drop}
-use Rattle.text_begins.specs.Begins.{blanks}
+use Rattle.text_begins.specs.Begins.{leadingBlanks}
 use Rattle.text_begins.proofs.Laws.{one-blank, last-blank, no-more}
 use Rattle.text_begins.proofs.blanks.Statement.{statement}
 use Rattle.text_begins.proofs.blanks.Tie as tie
 
 abbrev Inv-loop : tie.InvT-loop
-Inv-loop s i₀ i = (i ≤ length s) × (i + blanks (drop i s) ≡ blanks s)
+Inv-loop s i₀ i = (i ≤ length s) × (i + leadingBlanks (drop i s) ≡ leadingBlanks s)
 
 abbrev μ-loop : tie.MeasureT-loop
 μ-loop s i₀ i = length s - i

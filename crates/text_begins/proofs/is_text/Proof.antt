@@ -2,7 +2,7 @@
 use mathlib.Core.Path.{_≡_, _∙_}
 use native.Mathlib.Omega.{arith}
 use borrow.Author.Needs.{needs}
-use Rattle.text_begins.specs.Begins.{blanks}
+use Rattle.text_begins.specs.Begins.{leadingBlanks}
 use Rattle.text_begins.proofs.Laws.{told-by, told-none}
 use Rattle.text_begins.proofs.is_text.Statement.{statement}
 use Rattle.text_begins.proofs.is_text.Tie as tie
@@ -19,7 +19,7 @@ begins-requires c κs = search needs
 returns : tie.Need-returns
 returns c =
     let s = c .before .before .before .before .before .args .given .now in
-    let e : c .before .before .before .blanks .result ≡ blanks s = c .before .before .before .blanks .ensures .1 in
+    let e : c .before .before .before .blanks .result ≡ leadingBlanks s = c .before .before .before .blanks .ensures .1 in
     c .begins .ensures ∙ rw e (told-by s (omega arith))
 
 returns-2 : tie.Need-returns-2

@@ -5,15 +5,15 @@ use borrow.Author.Needs.{needs}
 use lib.ListN.{length, drop}
 use mathlib.Core.List.{List}
 use Rattle.text_buffer.proofs.Laws.{kept, said}
-use Rattle.text_writer.specs.Texts.{groups, linesFrom, linesBytes, lineBytes}
-use Rattle.text_lines.proofs.Written.{Written, begun, more-lines, all-lines}
+use Rattle.text_writer.specs.Texts.{groups, linesFrom, linesBytes, lineText}
+use Rattle.text_lines.proofs.Written.{LinesWritten, begun, more-lines, all-lines}
 use Rattle.text_writer.proofs.Parts.{part-of}
 use lib.IntN.{ℤ}
 use Rattle.text_lines.proofs.put_lines.Statement.{statement}
 use Rattle.text_lines.proofs.put_lines.Tie as tie
 
 abbrev Inv-loop : tie.InvT-loop
-Inv-loop out₀ words lines n₀ block₀ i₀ out n block i = (i ≤ lines) × (length out ≡ length out₀) × Written out₀ out n block (drop i (groups 7 lines words)) (linesFrom 0 (groups 7 lines words))
+Inv-loop out₀ words lines n₀ block₀ i₀ out n block i = (i ≤ lines) × (length out ≡ length out₀) × LinesWritten out₀ out n block (drop i (groups 7 lines words)) (linesFrom 0 (groups 7 lines words))
 
 abbrev μ-loop : tie.MeasureT-loop
 μ-loop out₀ words lines n₀ block₀ i₀ out n block i = lines - i
@@ -69,7 +69,7 @@ loop-again c =
     let lines = length ws / 7 in
     let kind = c .before .before .before .before .before .before .before .kind-at .result in
     let block = c .before .before .before .before .before .before .block-at .result in
-    let line : List ℤ → List ℕ = λ x. lineBytes x kind block (c .before .before .before .kind-at2 .result) in
+    let line : List ℤ → List ℕ = λ x. lineText x kind block (c .before .before .before .kind-at2 .result) in
     let p = said (ap line (part-of (l .i * 7) 7 ws)) (c .before .before .put-line .ensures) in (
       search needs,
       kept p ∙ l .inv .1,

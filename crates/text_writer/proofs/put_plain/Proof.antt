@@ -6,20 +6,20 @@ use borrow.Author.Needs.{needs}
 use lib.ListN.{length, take}
 use Rattle.text_buffer.specs.Puts.{Put}
 use Rattle.text_buffer.proofs.Laws.{nothing, kept, said}
-use Rattle.text_writer.specs.Texts.{plain}
+use Rattle.text_writer.specs.Texts.{withoutBlanks}
 use Rattle.text_writer.proofs.Parts.{more-plain}
 use lib.Seq.{take-all}
 use Rattle.text_writer.proofs.put_plain.Statement.{statement}
 use Rattle.text_writer.proofs.put_plain.Tie as tie
 
 abbrev Inv-loop : tie.InvT-loop
-Inv-loop out₀ at s n₀ i₀ out n i = (i ≤ length s) × (length out ≡ length out₀) × Put out₀ out at (plain (take i s)) n
+Inv-loop out₀ at s n₀ i₀ out n i = (i ≤ length s) × (length out ≡ length out₀) × Put out₀ out at (withoutBlanks (take i s)) n
 
 abbrev μ-loop : tie.MeasureT-loop
 μ-loop out₀ at s n₀ i₀ out n i = length s - i
 
 loop-holds : tie.Need-loop-holds Inv-loop μ-loop
-unfolding plain
+unfolding withoutBlanks
 loop-holds c = (search needs, search needs, nothing (c .before .before .args .out .now) (c .before .before .args .at))
 
 shared-slice-read-put-unless-blank : tie.Need-shared-slice-read-put-unless-blank Inv-loop μ-loop
@@ -44,7 +44,7 @@ same-length : tie.Need-same-length Inv-loop μ-loop
 same-length c = search needs
 
 returns : tie.Need-returns Inv-loop μ-loop
-returns c = said (ap plain (take-all (c .before .loop .i) (c .before .before .before .before .args .s .now) (omega arith))) (c .before .loop .inv .2)
+returns c = said (ap withoutBlanks (take-all (c .before .loop .i) (c .before .before .before .before .args .s .now) (omega arith))) (c .before .loop .inv .2)
 
 pub put-plain-spec : {M : Type 1} → statement M
 put-plain-spec =

@@ -2,7 +2,7 @@
 use mathlib.Core.Path.{ap, _∙_}
 use borrow.Author.Needs.{needs}
 use Rattle.text_buffer.proofs.Laws.{said}
-use Rattle.text_writer.specs.Texts.{wordBytes, plain}
+use Rattle.text_writer.specs.Texts.{wordBytes, withoutBlanks}
 use Rattle.text_writer.proofs.Laws.{back}
 use Rattle.sheet_format.specs.Field.{fieldBytes}
 use Rattle.text_writer.proofs.put_word.Statement.{statement}
@@ -22,7 +22,7 @@ same-length c = search needs
 
 returns : tie.Need-returns
 unfolding wordBytes
-returns c = said (ap plain (c .before .before .before .before .before .field-bytes .ensures ∙ ap fieldBytes (back (c .before .before .before .before .before .before .before .fits .w)))) (c .before .before .put-plain .ensures)
+returns c = said (ap withoutBlanks (c .before .before .before .before .before .field-bytes .ensures ∙ ap fieldBytes (back (c .before .before .before .before .before .before .before .fits .w)))) (c .before .before .put-plain .ensures)
 
 pub put-word-spec : {M : Type 1} → statement M
 put-word-spec =
