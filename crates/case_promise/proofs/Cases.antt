@@ -25,7 +25,8 @@ use Rattle.tableau_plan.specs.Plan.{rowAt, rowValues, listAt, viewCount, blockN
 use Rattle.tableau_parts.specs.Views.{GivenAt, NoStray, AllGiven, Agree, Missing, LeastMissing}
 use Rattle.case_minimization.specs.Minimization.{IsCase}
 use Rattle.search_chase.specs.Parts.{ReadyPlan}
-use Rattle.search_chase.proofs.Node.{in-nth, none-stray, nth-in}
+use Rattle.search_chase.proofs.Node.{in-nth, none-stray}
+use Rattle.tableau_plan.proofs.Whole.{nth-in}
 use Rattle.search_chase.proofs.ReadyLaws.{ready-task}
 use Rattle.search_chase.proofs.NodeLaws.{list-in, list-index, list-shaped}
 use Rattle.search_chase.specs.declared.Goal.the-variants.{Counterexample}

@@ -17,7 +17,7 @@ use Rattle.sheet_format.specs.declared.Refusal.{Refusal}
 use Rattle.sheet_format.specs.declared.Seen.{Seen}
 use Rattle.sheet_format.specs.declared.Term.{Term}
 use Rattle.sheet_format.specs.declared.Term.the-variants.{Constant, Variable, OutOfRange}
-use Rattle.sheet_format.proofs.Lists.{no-way}
+use Rattle.sheet_format.proofs.Lists.{no-way, passed}
 use Rattle.sheet_format.proofs.ScanLaws.{accepted-scan}
 use Rattle.query_meaning.specs.Meaning.{var, Block, In}
 use Rattle.query_meaning.specs.Blocks.{View, asTerm, atomOf, blockOf, isRow, rows, viewOf, blocks, nowhere, nth}
@@ -108,20 +108,16 @@ scan-step l ls g b n h = go (eqb (cause g b l) 0) refl h
     go false e f = absurd (eqb-false (cause g b l) 0 e f)
 
 -- a test on the way to 0 was not met
-unmet : (t : Bool) (m x : ℕ) → eqb m 0 ≡ false → eqb (cond t m x) 0 ≡ true → (t ≡ false) × (eqb x 0 ≡ true)
-unmet true m x f e = no-way (sym f ∙ e)
-unmet false m x f e = (refl, e)
-
 -- without a cause, neither 5 nor 7 holds
 no-cause : (g : Seen) (b l : Line) → eqb (cause g b l) 0 ≡ true → (outOfRange (kind l) l ≡ false) × (wrongLength g (kind l) l ≡ false)
 unfolding cause
 no-cause g b l e =
-    let p2 = unmet (null l) 2 _ refl e in
-    let p3 = unmet (misplaced g l) 3 _ refl (p2 .1) in
-    let p4 = unmet (wrongColumns (kind l) l) 4 _ refl (p3 .1) in
-    let p5 = unmet (outOfRange (kind l) l) 5 _ refl (p4 .1) in
-    let p6 = unmet (tooMany g (kind l)) 6 _ refl (p5 .1) in
-    (p5 .0, unmet (wrongLength g (kind l) l) 7 _ refl (p6 .1) .0)
+    let p2 = passed (null l) 2 _ refl e in
+    let p3 = passed (misplaced g l) 3 _ refl (p2 .1) in
+    let p4 = passed (wrongColumns (kind l) l) 4 _ refl (p3 .1) in
+    let p5 = passed (outOfRange (kind l) l) 5 _ refl (p4 .1) in
+    let p6 = passed (tooMany g (kind l)) 6 _ refl (p5 .1) in
+    (p5 .0, passed (wrongLength g (kind l) l) 7 _ refl (p6 .1) .0)
 
 -- as long as the view's head, and of constants
 pub record RowFine (columns : ℕ) (r : List ℕ) : Type 0 where

@@ -5,9 +5,10 @@ use mathlib.Core.List.{List, [], _∷_, map}
 use mathlib.Core.Logic.{_⊎_, inl, inr, ⊎-elim}
 use Prim.Native.Nat.{ℕ, _<_, _≤_}
 use native.Mathlib.Omega.{arith}
-use lib.Dec.{eqb, ltb}
+use lib.Dec.{eqb}
 use lib.ListN.{length, take}
-use borrow.Author.Tests.{eqb-true, eqb-false, ltb-true, ltb-false}
+use borrow.Author.Tests.{eqb-true, eqb-false}
+pub use Rattle.list_laws.proofs.Order.{less?}
 use Rattle.sheet_format.specs.Line.{gather}
 use Rattle.query_meaning.specs.Meaning.{Term, con, var, Fact, Log, Atom, Apart, Block, In, value, row, fact, factOf, Holds, Differ, Answer}
 use Rattle.query_meaning.specs.Evaluate.{_≺_}
@@ -24,13 +25,6 @@ same? m n = go (eqb m n) refl
     go : (b : Bool) → eqb m n ≡ b → Dec (m ≡ n)
     go true e = yes (eqb-true m n e)
     go false e = no (eqb-false m n e)
-
-abbrev pub less? : (m n : ℕ) → (m < n) ⊎ (n ≤ m)
-less? m n = go (ltb m n) refl
-  where
-    go : (b : Bool) → ltb m n ≡ b → (m < n) ⊎ (n ≤ m)
-    go true e = inl (ltb-true m n e)
-    go false e = inr (ltb-false m n e)
 
 pub cons-eq : {m n : ℕ} {l r : List ℕ} → m ≡ n → l ≡ r → m ∷ l ≡ n ∷ r
 cons-eq p q = λ i. p i ∷ q i

@@ -1,5 +1,6 @@
--- The order of plain numbers, and a loop that compares them.
+-- The order of plain numbers and of their lists, and a loop that compares them.
 use mathlib.Core.Path.{_≡_, refl, sym, _∙_, subst}
+use mathlib.Core.Bool.{Bool, true, false}
 use mathlib.Core.List.{List, [], _∷_}
 use mathlib.Core.Logic.{_⊎_, inl, inr, ⊎-elim}
 use Prim.Native.Nat.{ℕ, zero, suc, _+_, _<_, _≤_}
@@ -8,7 +9,17 @@ use native.Mathlib.Decide.{decLt}
 use borrow.Author.Count.{below-more}
 use lib.ListN.{length, getD}
 use lib.Seq.{ext-getD}
+use lib.Dec.{ltb}
+use borrow.Author.Tests.{ltb-true, ltb-false}
 use Rattle.list_laws.specs.Order.{_⊏_, SameBefore}
+
+-- one number is below another, or not
+abbrev pub less? : (m n : ℕ) → (m < n) ⊎ (n ≤ m)
+less? m n = go (ltb m n) refl
+  where
+    go : (b : Bool) → ltb m n ≡ b → (m < n) ⊎ (n ≤ m)
+    go true e = inl (ltb-true m n e)
+    go false e = inr (ltb-false m n e)
 
 pub less-irrefl : (t : List ℕ) → t ⊏ t → ⊥
 less-irrefl [] h = h

@@ -2,7 +2,7 @@
 use mathlib.Core.Path.{_≡_, refl, sym, ap, _∙_}
 use mathlib.Core.Bool.{true, false, true≢false}
 use mathlib.Core.List.{List}
-use Prim.Native.Nat.{ℕ, suc, _<_}
+use Prim.Native.Nat.{ℕ, zero, suc, _<_}
 use native.Mathlib.Nat.{zero-add}
 use native.Mathlib.Omega.{arith}
 use lib.IntN.{ℤ, pos, negsuc, _-ℤ_}
@@ -11,7 +11,7 @@ use lib.Signed.{ltZ, mag}
 use mir.Syntax.{Width, w32}
 use mir.Val.{SFits, toZ, ofZ}
 use mir.ValLaws.{toZ-ofZ, toZ-pos}
-use borrow.Author.Tests.{ltb-true}
+use borrow.Author.Tests.{ltb-true, lt-ltb}
 
 module _ {w : Width} where
   -- the word read back from its bits is the word
@@ -49,3 +49,13 @@ positive (negsuc n) e = absurd (true≢false e)
 pub natural : (z : ℤ) → SFits w32 z → ltZ z (pos 0) ≡ false → (n : ℕ) × (n < 2147483648) × (z ≡ pos n)
 natural (pos n) h e = (n, h .sfits, refl)
 natural (negsuc n) h e = absurd (true≢false e)
+
+-- ---- a minus before a small number
+
+below-fits : (n : ℕ) → n < 2147483648 → SFits w32 (pos 0 -ℤ pos n)
+below-fits zero h = record { sfits = omega arith }
+below-fits (suc n) h = rw (lt-ltb 0 (suc n) (omega arith)) (record { sfits = omega arith })
+
+-- the number with a minus before it is a word
+pub minus-fits : (n : ℕ) → n < 2147483648 → SFits w32 (pos 0 -ℤ toZ w32 n)
+minus-fits n h = rw (toZ-pos w32 n h) (below-fits n h)

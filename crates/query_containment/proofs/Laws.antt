@@ -15,7 +15,7 @@ use Rattle.query_layout.specs.Layout.{block-head, names}
 use Rattle.list_laws.specs.Order.{SameBefore}
 use Rattle.query_join.specs.Joins.{valueOf, Becomes, AtomMet, headRow, Given}
 use Rattle.query_answers.specs.Answers.{column}
-use Rattle.query_answers.proofs.Laws.{value-variable, value-constant}
+use Rattle.query_join.proofs.Laws.{value-variable, value-constant}
 use Rattle.query_answers.proofs.Rows.{given-column, head-at}
 use Rattle.sheet_format.specs.Limits.{constant-end}
 use Rattle.query_meaning.specs.Facts.{value-end}

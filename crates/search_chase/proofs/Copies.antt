@@ -33,7 +33,8 @@ use Rattle.search_state.specs.Parts.{Own}
 use Rattle.search_state.proofs.Laws.{own-free}
 use Rattle.search_chase.specs.Parts.{ReadyPlan, sheetBy, fromBy, Proper, Settled, Stood, Fitting, Heads, HeadsBy, Started, FoundOrLost, StateFound, FoundBy}
 use Rattle.search_chase.proofs.Fresh.{proper-value, copy-small}
-use Rattle.search_chase.proofs.Node.{Task, nth-in, head-refuted, kept-row, fine-row}
+use Rattle.search_chase.proofs.Node.{Task, head-refuted, kept-row, fine-row}
+use Rattle.tableau_plan.proofs.Whole.{nth-in}
 use Rattle.search_chase.proofs.ReadyLaws.{ready-task, ready-facts}
 use Rattle.search_conflict.proofs.Jumps.{rests-more}
 use Rattle.search_chase.proofs.Levels.{relaxed-all, own-proper, proper-own, zero-small, stood-after, row-constants, job-plain, copy-kept}

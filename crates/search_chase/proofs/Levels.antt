@@ -33,7 +33,8 @@ use Rattle.search_conflict.proofs.Jumps.{below-by, relaxed-plain, relaxed-const
 use Rattle.search_nogoods.specs.Nogoods.{Forgot}
 use Rattle.search_learning.specs.Rows.{Unmarked, Learned}
 use Rattle.search_chase.specs.Parts.{ReadyPlan, sheetBy, Proper, Settled, NodeBy, Stood, Fitting, StateFound, Levelled, SameLevels, Lost, OpenNode, Taken, RowPassed, TakenBy, AssignedIfTaken, JumpsBy, roundFrom, TriedRows, Failed, Going, Started, FoundOrLost, Nogoods, RefutedAs}
-use Rattle.search_chase.proofs.Node.{Task, nth-in, in-nth, meets-kept}
+use Rattle.search_chase.proofs.Node.{Task, in-nth, meets-kept}
+use Rattle.tableau_plan.proofs.Whole.{nth-in}
 use Rattle.search_chase.proofs.ReadyLaws.{ready-task}
 use Rattle.search_chase.proofs.Nogoods.{strikes-under, strikes-back, strikes-learned}
 use Rattle.search_chase.specs.declared.Goal.{Goal}

@@ -2,13 +2,13 @@
 use mathlib.Core.Path.{_≡_, refl, sym, ap, _∙_, subst}
 use mathlib.Core.List.{List, [], _∷_, _++_, map}
 use mathlib.Core.Logic.{_⊎_, inl, inr, ⊎-elim}
-use Prim.Native.Nat.{ℕ, zero, suc, _+_, _-_, _<_, _≤_, min}
+use Prim.Native.Nat.{ℕ, zero, suc, _+_, _-_, _<_, _≤_}
+use native.Mathlib.Nat.{min-eq-left}
 use native.Mathlib.Omega.{arith}
 use lib.IntN.{pos}
 use lib.ListN.{length, getD, length-map}
 use Rattle.case_verdicts.proofs.Plain.{no-keys}
 use Rattle.tableau_layout.specs.Layout.{list-block, view-block}
-use Rattle.sheet_format.specs.Limits.{most-atoms}
 use Rattle.sheet_format.specs.Relations.{relations, columnsAt, columnsOf}
 use Rattle.sheet_format.specs.Line.{gather}
 use Rattle.sheet_format.proofs.Lists.{append-nil}
@@ -30,6 +30,7 @@ use Rattle.case_verdicts.proofs.Tableau.{log-formed}
 use Rattle.case_verdicts.proofs.Reduce.{row-con}
 use Rattle.case_verdicts.proofs.Refute.{list-gives, view-gives, copy-gives, step, none-left}
 use Rattle.tableau_plan.specs.Plan.{rowAt, rowValues, rowCount, viewCount, blockNumbers, blockSize, Plan}
+use Rattle.tableau_plan.proofs.Whole.{nth-in}
 use Rattle.tableau_parts.specs.Views.{GivenAt, ListedRow, StrayAt, NoStray}
 use Rattle.search_chase.proofs.Padded.{refuted-padded}
 
@@ -44,17 +45,9 @@ pub record Task (p : List ℕ) (x y : Sheet) : Type 0 where
   pub copies : (i : ℕ) → i < rowCount p → (r : List ℕ) → rowValues p i ≡ padded r → In r (nth (x .views) (rowAt p i 0) .rows)
       → In (record { number = suc i; job = record { block = nth (x .views) (rowAt p i 0) .block; is = map con r } }) (numbered (jobs y))
 
-pub nth-in : (ws : List View) (v : ℕ) → v < length ws → In (nth ws v) ws
-nth-in [] v lt = absurd (omega arith)
-nth-in (w ∷ ws) zero lt = inl refl
-nth-in (w ∷ ws) (suc v) lt = inr (nth-in ws v (omega arith))
-
 pub in-nth : (ws : List View) (w : View) → In w ws → (v : ℕ) × (v < length ws) × (w ≡ nth ws v)
 in-nth (u ∷ ws) w (inl e) = (0, omega arith, e)
 in-nth (u ∷ ws) w (inr m) = let (v, lt, e) = in-nth ws w m in (suc v, omega arith, e)
-
-six : (n : ℕ) → n ≤ most-atoms → min n most-atoms ≡ n
-six n le = omega arith
 
 -- any log in numbers
 module _ (p : List ℕ) (x y : Sheet) (plan : Plan p x) (task : Task p x y) (log : Log) (ns : List ℕ) (fn : FactNumbers ns log) where
@@ -62,7 +55,7 @@ module _ (p : List ℕ) (x y : Sheet) (plan : Plan p x) (task : Task p x y) (log
   view-given : (v : ℕ) → v < viewCount p → (r : List ℕ) → Answer log (nth (x .views) v .block) r → GivenAt p (view-block v) ns (padded r)
   view-given v lt r a =
       let bn = plan .view v lt in
-      subst (λ n. Given (blockNumbers p (view-block v)) n ns (padded r)) (sym (six (blockSize p (view-block v)) (bn .few))) (answer-given bn (task .shaped v lt) fn a)
+      subst (λ n. Given (blockNumbers p (view-block v)) n ns (padded r)) (sym (min-eq-left (bn .few))) (answer-given bn (task .shaped v lt) fn a)
 
   -- a row that is listed in the plan is listed in the sheet
   listed-row : (v : ℕ) → v < viewCount p → (r : List ℕ) → length r ≡ length (nth (x .views) v .block .head) → ListedRow p v (padded r) → In r (nth (x .views) v .rows)
@@ -99,7 +92,7 @@ module _ (p : List ℕ) (x y : Sheet) (plan : Plan p x) (task : Task p x y) (s :
       let bn = plan .view v lt in
       let sh = task .shaped v lt in
       let w = nth (x .views) v in
-      let g = subst (λ n. Given (blockNumbers p (view-block v)) n ns u) (six (blockSize p (view-block v)) (bn .few)) (st .given) in
+      let g = subst (λ n. Given (blockNumbers p (view-block v)) n ns u) (min-eq-left (bn .few)) (st .given) in
       let holds = holds-by bn sh fn shaped-log (g .val) (g .met) in
       let e : u ≡ padded (row (g .val) (w .block .head)) = sym (g .gives) ∙ head-row bn sh (g .val) in
       let m = subst (λ ws. In w ws) (sym (task .same)) (nth-in (x .views) v (omega arith)) in
@@ -114,14 +107,14 @@ module _ (p : List ℕ) (x y : Sheet) (plan : Plan p x) (task : Task p x y) (s :
   -- a list gives the question's head: nothing below is good
   pub list-refuted : (i : ℕ) (l : Block) → In l (y .lists) → Shaped l → BlockNumbers (blockNumbers p (list-block i)) (blockSize p (list-block i)) l → GivenAt p (list-block i) ns (padded (headOf y s)) → length (l .head) ≡ length (headOf y s) → Refuted top y s
   list-refuted i l m sh bn g len =
-      let h = subst (λ n. Given (blockNumbers p (list-block i)) n ns (padded (headOf y s))) (six (blockSize p (list-block i)) (bn .few)) g in
+      let h = subst (λ n. Given (blockNumbers p (list-block i)) n ns (padded (headOf y s))) (min-eq-left (bn .few)) g in
       let holds = holds-by bn sh fn shaped-log (h .val) (h .met) in
       let e : row (h .val) (l .head) ≡ headOf y s = pad-same (row (h .val) (l .head)) (headOf y s) (length-map (l .head) _ ∙ len) (sym (head-row bn sh (h .val)) ∙ h .gives) in
       none-left (subst (λ a. Alternatives top y s a) (ap (map _) (sh .plain)) (list-gives y (task .accepted) s l m (h .val) holds e))
 
   -- a list lacks it
   pub list-lacks : (i : ℕ) (l : Block) → Shaped l → BlockNumbers (blockNumbers p (list-block i)) (blockSize p (list-block i)) l → (GivenAt p (list-block i) ns (padded (headOf y s)) → ⊥) → Answer (tableauLog y s) l (headOf y s) → ⊥
-  list-lacks i l sh bn none a = none (subst (λ n. Given (blockNumbers p (list-block i)) n ns (padded (headOf y s))) (sym (six (blockSize p (list-block i)) (bn .few))) (answer-given bn sh fn a))
+  list-lacks i l sh bn none a = none (subst (λ n. Given (blockNumbers p (list-block i)) n ns (padded (headOf y s))) (sym (min-eq-left (bn .few))) (answer-given bn sh fn a))
 
   -- the head of row i's copy, with what it must be
   pub head-refuted : (i : ℕ) → i < rowCount p → (u : List ℕ) → u ≡ padded (row (copy s (suc i)) (nth (x .views) (rowAt p i 0) .block .head)) → RefutedBy top y s (equations u (rowValues p i)) → Refuted top y s

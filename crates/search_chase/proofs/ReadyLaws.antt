@@ -29,7 +29,8 @@ use Rattle.search_state.specs.State.{Fresh}
 use Rattle.search_choices.specs.Choices.{Subset}
 use Rattle.search_conflict.specs.Conflict.{relaxed, Rests}
 use Rattle.search_chase.specs.Parts.{ReadyPlan, sheetBy, fromBy, Proper, OpenNode}
-use Rattle.search_chase.proofs.Node.{Task, shaped-log, nth-in}
+use Rattle.search_chase.proofs.Node.{Task, shaped-log}
+use Rattle.tableau_plan.proofs.Whole.{nth-in}
 use Rattle.search_chase.proofs.Fresh.{fresh-answer}
 use Rattle.search_chase.specs.declared.Goal.{Goal}
 use Rattle.search_chase.specs.declared.Goal.the-variants.{Counterexample, Agreement}

@@ -34,7 +34,8 @@ use Rattle.search_chase.specs.Parts.{ReadyPlan, sheetBy, Proper}
 use Rattle.search_chase.proofs.Columns.{same-at, pad-at, map-at, map-length, met-at, at-met, at-in, row-at}
 use Rattle.search_chase.proofs.Heads.{block-at}
 use Rattle.search_chase.proofs.Fresh.{copy-small}
-use Rattle.search_chase.proofs.Node.{nth-in, in-nth}
+use Rattle.search_chase.proofs.Node.{in-nth}
+use Rattle.tableau_plan.proofs.Whole.{nth-in}
 use Rattle.search_chase.proofs.NodeLaws.{list-index, list-shaped}
 use Rattle.search_chase.proofs.Levels.{row-constants}
 use Rattle.search_chase.proofs.Nogoods.{own-slot}

@@ -15,7 +15,7 @@ use mir.Syntax.{w32}
 use mir.Val.{SFits}
 use borrow.Author.Tests.{ltb-true, ltb-false, lt-ltb, le-ltb, le-leb, lt-leb}
 use Rattle.sheet_format.specs.Limits.{field-end}
-use Rattle.sheet_format.proofs.FieldLaws.{blanks, lead-blank}
+use Rattle.sheet_format.proofs.FieldLaws.{blanks, lead-blank, ten-pos}
 use Rattle.sheet_format.proofs.Lists.{no-way}
 use Rattle.sheet_format.specs.Field.{digit, byte, run, minus, fieldOf, fieldAt, lead, decimal, fieldBytes}
 use Rattle.sheet_format.specs.declared.Digits.{Digits}
@@ -61,9 +61,6 @@ below-byte k Blank b lt h = below-if (k * 10) (eqb b 32) Blank _ tt (below-if (k
 below-byte k Minus b lt h = below-if (k * 10) (eqb b 48) Broken _ tt (below-digit k true 0 b lt)
 below-byte k (Run neg v) b lt h = below-if (k * 10) (eqb v 0) Broken _ tt (below-digit k neg v b h)
 below-byte k Broken b lt h = tt
-
-ten-pos : (i : ℕ) → 1 ≤ 10 ^ i
-ten-pos i = pow-le-pow-right {n = 10} (omega arith) {i = 0} (omega arith)
 
 pub below-next : (i : ℕ) (d : Digits) (b : ℕ) → DigitsBelow (10 ^ i) d → DigitsBelow (10 ^ (i + 1)) (byte d b)
 below-next i d b h = subst (λ k. DigitsBelow k (byte d b)) (sym (ap (λ n. 10 ^ n) (add-one i) ∙ pow-suc 10 i)) (below-byte (10 ^ i) d b (ten-pos i) h)

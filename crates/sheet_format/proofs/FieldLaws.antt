@@ -70,7 +70,7 @@ unfolding Room
 room-more (suc k) false v d lt h = omega (arith, pow-suc 10 (suc k))
 room-more (suc k) true v d lt h = omega (arith, pow-suc 10 k)
 
-ten-pos : (i : ℕ) → 1 ≤ 10 ^ i
+pub ten-pos : (i : ℕ) → 1 ≤ 10 ^ i
 ten-pos i = pow-le-pow-right {n = 10} (omega arith) {i = 0} (omega arith)
 
 -- ---- writing

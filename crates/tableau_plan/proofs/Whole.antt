@@ -38,7 +38,7 @@ map-get f d e [] i h = absurd (omega arith)
 map-get f d e (x ∷ l) zero h = refl
 map-get f d e (x ∷ l) (suc i) h = map-get f d e l i (omega arith)
 
-nth-in : (ws : List View) (j : ℕ) → j < length ws → In (nth ws j) ws
+pub nth-in : (ws : List View) (j : ℕ) → j < length ws → In (nth ws j) ws
 nth-in [] j h = absurd (omega arith)
 nth-in (w ∷ ws) zero h = inl refl
 nth-in (w ∷ ws) (suc j) h = inr (nth-in ws j (omega arith))

@@ -10,7 +10,7 @@ use borrow.Author.Tests.{lt-ltb, le-ltb, eq-eqb, ne-eqb}
 use mir.Syntax.{w32}
 use mir.Val.{toZ, ofZ}
 use mir.ValLaws.{toZ-ofZ, toZ-pos}
-use Rattle.test_words.proofs.Laws.{minus-fits}
+use Rattle.list_laws.proofs.Words.{minus-fits}
 use Rattle.test_words.specs.Words.{nextPlace, beforeEither, belowOf, aboveOf, closedBy, firstPut, Room, Stores, wholeOf, wordOf, wordsPut, wordsRead}
 use Rattle.test_numbers.specs.Numbers.{numberOf}
 

@@ -1,15 +1,13 @@
 -- Laws of bytes that are put at a place.
 use mathlib.Core.Path.{_≡_, refl, sym, ap, _∙_}
-use mathlib.Core.Bool.{Bool, true, false}
 use mathlib.Core.List.{List, [], _∷_, _++_}
-use mathlib.Core.Logic.{_⊎_, inl, inr, ⊎-elim}
+use mathlib.Core.Logic.{⊎-elim}
 use Prim.Native.Nat.{ℕ, suc, _+_, _-_, min, _≤_, _<_}
 use native.Mathlib.Omega.{arith}
 use native.Mathlib.Numerals.{add-one}
-use lib.Dec.{ltb}
-use borrow.Author.Tests.{ltb-true, ltb-false}
 use lib.ListN.{length, take, drop, getD, set, length-set, length-append, take-append-drop}
 use lib.Seq.{sets, length-sets, sets-eq, set-out, take-suc, take-all, take-suc-set, drop-set-lt, append-snoc}
+use Rattle.list_laws.proofs.Order.{less?}
 use Rattle.text_buffer.specs.Puts.{reached, placed, Put}
 
 append-nil : (l : List ℕ) → l ++ [] ≡ l
@@ -40,20 +38,13 @@ in-placed out at b s h =
     let f : at + suc k ≡ suc at + k = omega arith in
     rw (length-set out at b, e, f, take-suc-set out at b h, append-snoc, drop-set-lt (suc at + k) out at b (omega arith))
 
-pub below : (a b : ℕ) → (a < b) ⊎ (b ≤ a)
-below a b = by (ltb a b) refl
-  where
-    by : (t : Bool) → ltb a b ≡ t → (a < b) ⊎ (b ≤ a)
-    by true e = inl (ltb-true a b e)
-    by false e = inr (ltb-false a b e)
-
 -- bytes are put one after the other
 placed-cons : (out : List ℕ) (at b : ℕ) (s : List ℕ) → placed out at (b ∷ s) ≡ placed (set out at b) (suc at) s
 placed-cons out at b s =
     ⊎-elim
     (λ h. in-placed out at b s h)
     (λ h. out-placed out at (b ∷ s) h ∙ sym (rw (set-out out at b h) (out-placed out (suc at) s (omega arith))))
-    (below at (length out))
+    (less? at (length out))
 
 pub placed-sets : (out : List ℕ) (at : ℕ) (s : List ℕ) → placed out at s ≡ sets out at s
 placed-sets out at [] = none-placed out at
@@ -119,7 +110,7 @@ placed-append out at s t =
     ∙ placed-beyond (placed out at s) (at + length s) t (omega arith)
     ∙ sym (placed-beyond (placed out at s) (at + min (length s) (n - at)) t (omega arith)))
     (λ h. let e : at + min (length s) (n - at) ≡ at + length s = omega arith in rw e one)
-    (below (n - at) (length s))
+    (less? (n - at) (length s))
 
 -- ---- what the calls ensure
 

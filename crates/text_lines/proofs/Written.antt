@@ -12,7 +12,8 @@ use mathlib.Core.Logic.{⊎-elim}
 use borrow.Author.Tests.{lt-ltb, le-ltb}
 use Rattle.sheet_format.proofs.Lists.{append-nil}
 use Rattle.text_buffer.specs.Puts.{Put}
-use Rattle.text_buffer.proofs.Laws.{nothing, followed, said, below}
+use Rattle.text_buffer.proofs.Laws.{nothing, followed, said}
+use Rattle.list_laws.proofs.Order.{less?}
 use Rattle.text_writer.specs.Texts.{groups, lineKind, blockKind, firstKind, lineText, linesFrom}
 use Rattle.text_writer.proofs.Parts.{groups-length, groups-at}
 
@@ -35,7 +36,7 @@ first-kind n ws j =
     (λ h.
     let k : length (groups 7 n ws) ≤ j = rw (groups-length 7 n ws) h in
     rw (le-ltb j n h, drop-of-length-le (groups 7 n ws) k))
-    (below j n)
+    (less? j n)
 
 -- one line more
 pub more-lines : {a b c : List ℕ} {n m kind next block now : ℕ} (lines : ℕ) (ws : List ℤ) (i : ℕ) (whole : List ℕ)

@@ -22,7 +22,7 @@ use Rattle.sheet_format.proofs.FieldLaws.{field-length}
 use Rattle.sheet_format.proofs.Lists.{and-left, and-right, and-both}
 use Rattle.text_buffer.specs.Puts.{Put}
 use Rattle.text_buffer.specs.Words.{bytes}
-use Rattle.text_buffer.proofs.Laws.{below, reached-all, placed-all}
+use Rattle.text_buffer.proofs.Laws.{reached-all, placed-all}
 use Rattle.text_begins.specs.Begins.{most-text}
 use Rattle.text_writer.specs.Rooms.{text-room}
 use Rattle.text_writer.specs.Texts.{withoutBlanks, following, separated, groups, wordBytes, numberBytes, termAs, termBytes, termsBytes, relationNames, relationBytes, factBytes, factsBytes, small, lineTerms, headBytes, atomBytes, valuesBytes, rowBytes, kindBytes, lineText, blockKind, lineKind, firstKind, linesFrom, linesBytes, causes, causeBytes, placeBytes, refusalBytes, counts, countBytes, columnsBytes, expectations, lengthBytes, whatBytes, expectedBytes}

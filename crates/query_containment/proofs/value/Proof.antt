@@ -1,5 +1,5 @@
 -- `frozen::value` meets its contract: a variable has the value listed, and a constant its own. Assumes nothing.
-use Rattle.query_answers.proofs.Laws.{value-variable, value-constant}
+use Rattle.query_join.proofs.Laws.{value-variable, value-constant}
 use Rattle.query_containment.specs.Containment.{under}
 use mathlib.Core.Path.{sym}
 use borrow.Author.Needs.{needs}

@@ -1,5 +1,5 @@
 -- `shown::value_of` meets its contract: a variable has its value, and a constant is 13 above it. Assumes nothing.
-use Rattle.query_answers.proofs.Laws.{value-variable, value-constant}
+use Rattle.query_join.proofs.Laws.{value-variable, value-constant}
 use Rattle.tableau_parts.specs.Walks.{valued}
 use mathlib.Core.Path.{sym}
 use native.Mathlib.Omega.{arith}

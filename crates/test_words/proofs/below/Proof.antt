@@ -2,7 +2,7 @@
 use Prim.Native.Nat.{_<_}
 use native.Mathlib.Omega.{arith}
 use borrow.Author.Needs.{needs}
-use Rattle.test_words.proofs.Laws.{minus-fits}
+use Rattle.list_laws.proofs.Words.{minus-fits}
 use Rattle.test_words.proofs.Read.{below-least, below-large, below-small}
 use Rattle.test_words.proofs.below.Statement.{statement}
 use Rattle.test_words.proofs.below.Tie as tie

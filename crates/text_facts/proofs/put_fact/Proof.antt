@@ -3,7 +3,7 @@ use mathlib.Core.Path.{ap, _∙_}
 use borrow.Author.Needs.{needs}
 use Rattle.text_writer.proofs.Parts.{fact-parts}
 use Rattle.text_buffer.proofs.Laws.{said, followed}
-use Rattle.text_writer.proofs.Laws.{word-back}
+use Rattle.list_laws.proofs.Words.{word-back}
 use Rattle.sheet_format.specs.Line.{natural}
 use Rattle.sheet_format.specs.Relations.{columnsOf}
 use Rattle.text_facts.proofs.put_fact.Statement.{statement}

@@ -3,7 +3,7 @@ use mathlib.Core.Path.{ap, _∙_}
 use Prim.Native.Nat.{_+_, _*_}
 use borrow.Author.Needs.{needs}
 use Rattle.text_writer.proofs.Parts.{kind-here, kind-none}
-use Rattle.text_writer.proofs.Laws.{word-back}
+use Rattle.list_laws.proofs.Words.{word-back}
 use Rattle.text_writer.specs.Texts.{small}
 use Rattle.text_lines.proofs.kind_at.Statement.{statement}
 use Rattle.text_lines.proofs.kind_at.Tie as tie

@@ -3,7 +3,7 @@ use mathlib.Core.Path.{ap, _∙_}
 use borrow.Author.Needs.{needs}
 use Rattle.text_writer.proofs.Parts.{line-terms}
 use Rattle.text_buffer.proofs.Laws.{said, followed}
-use Rattle.text_writer.proofs.Laws.{word-back}
+use Rattle.list_laws.proofs.Words.{word-back}
 use Rattle.text_writer.specs.Texts.{small, termsBytes}
 use mathlib.Core.List.{[], _∷_}
 use Rattle.text_lines.proofs.put_head.Statement.{statement}

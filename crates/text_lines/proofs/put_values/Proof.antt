@@ -4,7 +4,7 @@ use borrow.Author.Needs.{needs}
 use lib.ListN.{getD}
 use Rattle.text_writer.proofs.Parts.{line-terms, where-is, unless-is}
 use Rattle.text_buffer.proofs.Laws.{said}
-use Rattle.text_writer.proofs.Laws.{word-back}
+use Rattle.list_laws.proofs.Words.{word-back}
 use Rattle.text_writer.specs.Texts.{small, termBytes, termsBytes, lineTerms}
 use lib.IntN.{pos}
 use Rattle.text_lines.proofs.put_values.Statement.{statement}

@@ -2,7 +2,7 @@
 use mathlib.Core.Path.{ap, _∙_}
 use borrow.Author.Needs.{needs}
 use Rattle.text_writer.proofs.Parts.{small-none, small-some}
-use Rattle.text_writer.proofs.Laws.{back}
+use Rattle.list_laws.proofs.Words.{back}
 use Rattle.sheet_format.specs.Line.{natural}
 use Rattle.text_lines.proofs.small.Statement.{statement}
 use Rattle.text_lines.proofs.small.Tie as tie

@@ -1,7 +1,7 @@
 -- A small number fits with a minus before it.
 use native.Mathlib.Omega.{arith}
 use borrow.Author.Needs.{needs}
-use Rattle.text_reader.proofs.Laws.{minus-fits}
+use Rattle.list_laws.proofs.Words.{minus-fits}
 use Rattle.text_reader.proofs.minus.Statement.{statement}
 use Rattle.text_reader.proofs.minus.Tie as tie
 

@@ -3,7 +3,7 @@ use mathlib.Core.Path.{ap, _∙_}
 use borrow.Author.Needs.{needs}
 use Rattle.text_buffer.proofs.Laws.{said}
 use Rattle.text_writer.specs.Texts.{termsBytes}
-use Rattle.text_writer.proofs.Laws.{back}
+use Rattle.list_laws.proofs.Words.{back}
 use Rattle.text_verdict.proofs.Calls.{some-values}
 use Rattle.text_verdict.proofs.put_missing.Statement.{statement}
 use Rattle.text_verdict.proofs.put_missing.Tie as tie

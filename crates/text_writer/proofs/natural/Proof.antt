@@ -1,6 +1,7 @@
 -- A word that is not below 0 is a number.
 use native.Mathlib.Omega.{arith}
-use Rattle.text_writer.proofs.Laws.{back, natural, no-natural}
+use Rattle.text_writer.proofs.Laws.{no-natural}
+use Rattle.list_laws.proofs.Words.{back, natural}
 use Rattle.text_writer.proofs.natural.Statement.{statement}
 use Rattle.text_writer.proofs.natural.Tie as tie
 

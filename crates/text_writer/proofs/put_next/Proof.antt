@@ -3,7 +3,7 @@ use mathlib.Core.Path.{ap, _∙_}
 use borrow.Author.Needs.{needs}
 use Rattle.text_writer.proofs.Parts.{where-is, unless-is}
 use Rattle.text_buffer.proofs.Laws.{said, followed}
-use Rattle.text_writer.proofs.Laws.{back}
+use Rattle.list_laws.proofs.Words.{back}
 use Rattle.text_writer.specs.Texts.{termBytes}
 use Rattle.text_buffer.specs.Words.{bytes}
 use mathlib.Core.List.{_++_}

@@ -14,7 +14,7 @@ use lib.Seq.{take-all}
 use lib.IntN.{pos, ℤ}
 use mathlib.Core.Bool.{cond}
 use lib.Dec.{eqb}
-use Rattle.text_writer.proofs.Laws.{word-back}
+use Rattle.list_laws.proofs.Words.{word-back}
 use Rattle.text_writer.proofs.put_terms.Statement.{statement}
 use Rattle.text_writer.proofs.put_terms.Tie as tie
 

@@ -3,7 +3,7 @@ use mathlib.Core.Path.{ap, _∙_}
 use borrow.Author.Needs.{needs}
 use Rattle.text_buffer.proofs.Laws.{said}
 use Rattle.text_writer.specs.Texts.{wordBytes, withoutBlanks}
-use Rattle.text_writer.proofs.Laws.{back}
+use Rattle.list_laws.proofs.Words.{back}
 use Rattle.sheet_format.specs.Field.{fieldBytes}
 use Rattle.text_writer.proofs.put_word.Statement.{statement}
 use Rattle.text_writer.proofs.put_word.Tie as tie
