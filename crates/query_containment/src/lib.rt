@@ -9,7 +9,6 @@ use query_layout::FACT_NUMBERS;
 use query_layout::HEAD_AT;
 use query_layout::NAMES;
 use query_meaning::VALUE_END;
-use sheet_format::MOST_ATOMS;
 use tableau_layout::TABLEAU_NUMBERS;
 ghost use mathlib.Core.Path.{_≡_};
 ghost use mathlib.Core.Bool.{true};
@@ -168,16 +167,6 @@ fn put_atoms(
     }
 }
 
-// A number of atoms, and not more than six.
-fn at_most_six(n: usize) -> usize
-    ensures { λ r. ⌜ r ≡ min n most-atoms ⌝ }
-{
-    if MOST_ATOMS < n {
-        return MOST_ATOMS;
-    }
-    n
-}
-
 // Whether the list is given all rows that the question is given and that have the row's values in the columns before k.
 fn is_covered(
     q: &[usize; BLOCK_NUMBERS],
@@ -192,7 +181,7 @@ fn is_covered(
     requires { ⌜ NoneFrozen (now q) (now l) (now facts) row ⌝ }
     ensures { λ r. ⌜ (r ≡ true → Contained (now (q .entry)) (min qn most-atoms) (now (l .entry)) (min ln most-atoms) (now (facts .entry)) row k) ⌝ }
 {
-    let n = at_most_six(qn);
+    let n = query_join::few_atoms(qn);
     let m = facts.len() / FACT_NUMBERS;
     let vals = own_values(q, row, k);
     let mut room = [0usize; ROOM];

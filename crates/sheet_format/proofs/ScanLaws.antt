@@ -7,7 +7,7 @@ use native.Mathlib.Omega.{arith}
 use lib.Dec.{eqb, ltb, leb}
 use lib.ListN.{length}
 use borrow.Author.Tests.{eqb-true, eqb-false, leb-true, leb-false, ltb-true, ltb-false, not-false}
-use Rattle.sheet_format.specs.Limits.{most-lines}
+use Rattle.sheet_format.specs.Limits.{most-rows, most-lines}
 use Rattle.sheet_format.specs.Line.{Line, all, null}
 use Rattle.sheet_format.specs.Cause.{Kind, question, saved, view, atom, row, other, kind, inPlace, possible, misplaced, wrongColumns, outOfRange, tooMany, atomsOf, cause, start, nextBy, next, refusal, missing, scan, heads, unsafe, atoms, refusalOf}
 use Rattle.sheet_format.specs.declared.Refusal.{Refusal}
@@ -113,7 +113,7 @@ record LinesWithin (g : Seen) (k : ℕ) : Type 0 where
   no-atoms : g .atoms ≤ 6 * g .block
   some-atoms : g .atoms ≤ 6 - 3 * (g .block - 2)
   some-views : g .views ≤ 8
-  some-rows : g .rows ≤ 40
+  some-rows : g .rows ≤ most-rows
 
 within-start : LinesWithin start 0
 within-start = omega arith
@@ -130,7 +130,7 @@ within-next g question n k w p r = let e = eqb-true (g .block) 0 p in omega arit
 within-next g saved n k w p r = let e = eqb-true (g .block) 1 p in omega arith
 within-next g view n k w p r = let e = leb-true 2 (g .block) p in let f = leb-false 8 (g .views) r in omega arith
 within-next g atom n k w p r = let e = leb-true 1 (g .last) (both _ _ p .0) in let f = atoms-left g (w .blocks) r in omega arith
-within-next g row n k w p r = let e = eqb-true (g .block) 3 (both _ _ p .0) in let f = leb-false 40 (g .rows) r in omega arith
+within-next g row n k w p r = let e = eqb-true (g .block) 3 (both _ _ p .0) in let f = leb-false most-rows (g .rows) r in omega arith
 within-next g other n k w p r = true-false (sym p)
 
 scan-long-from : (p : List Line) (g : Seen) (b : Line) (n k : ℕ) → 1 ≤ n → LinesWithin g k → 86 < k + length p → 0 < scan g b n p .line

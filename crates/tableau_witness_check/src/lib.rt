@@ -141,10 +141,7 @@ pub fn shows(
 ) -> bool
     ensures { λ r. ⌜ (r ≡ true → WitnessAt (now (blk .entry)) (min n most-atoms) (now (facts .entry)) row at) ⌝ }
 {
-    let mut most = n;
-    if MOST_ATOMS < n {
-        most = MOST_ATOMS;
-    }
+    let most = query_join::few_atoms(n);
     let vals = values_by(blk, most, facts, at);
     if !head_is(blk, &vals, row) {
         return false;

@@ -12,8 +12,8 @@ use borrow.Author.Needs.{needs}
 use Rattle.query_containment.proofs.is_covered.Statement.{statement}
 use Rattle.query_containment.proofs.is_covered.Tie as tie
 
-at-most-six-requires : tie.Need-at-most-six-requires
-at-most-six-requires c κs = search needs
+few-atoms-requires : tie.Need-few-atoms-requires
+few-atoms-requires c κs = search needs
 
 own-values-requires : tie.Need-own-values-requires
 own-values-requires c κs = search needs
@@ -57,7 +57,7 @@ returns c =
     let p = h .before .before .before in
     let f = p .before .before .before .before in
     let v = f .before .before in
-    let n = v .before .at-most-six in
+    let n = v .before .few-atoms in
     let s = v .before .before .before in
     let a = s .args in
     let m = length (a .facts .now) / 5 in
@@ -72,7 +72,7 @@ pub is-covered-spec : {M : Type 1} → statement M
 is-covered-spec =
     tie.close
     (tie.spec
-    at-most-six-requires
+    few-atoms-requires
     own-values-requires
     mul-copy
     slice-aggregate-copy
