@@ -31,7 +31,7 @@ returns-2 c =
     let h = c .before .before .before .head-is in
     let most = c .before .before .before .before .before .before .few-atoms in
     rw (sym (most .ensures))
-    (λ e. shown (a .blk .now) (most .result) (a .facts .now) v (a .row) (a .at) (h .ensures (not-false (h .result) (c .before .before .if2 .left))) (c .all-become .ensures e))
+    (λ e. shown (a .blk .now) (most .result) (a .facts .now) v (a .row) (a .at) (h .ensures (not-false (h .result) (c .before .before .if1 .left))) (c .all-become .ensures e))
 
 pub shows-spec : {M : Type 1} → statement M
 shows-spec =
