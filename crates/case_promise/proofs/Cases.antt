@@ -24,12 +24,12 @@ use Rattle.case_verdicts.specs.Verdict.{Sheet, Agreeing, Case}
 use Rattle.tableau_plan.specs.Plan.{rowAt, rowValues, listAt, viewCount, blockNumbers, blockSize}
 use Rattle.tableau_parts.specs.Views.{GivenAt, NoStray, AllGiven, Agree, Missing, LeastMissing}
 use Rattle.case_minimization.specs.Minimization.{IsCase}
-use Rattle.search_chase.specs.Parts.{ReadyPlan}
-use Rattle.search_chase.proofs.Node.{in-nth, none-stray}
+use Rattle.search_task.specs.Task.{ReadyPlan}
+use Rattle.search_task.proofs.Node.{in-nth, none-stray}
 use Rattle.tableau_plan.proofs.Whole.{nth-in}
-use Rattle.search_chase.proofs.ReadyLaws.{ready-task}
-use Rattle.search_chase.proofs.NodeLaws.{list-in, list-index, list-shaped}
-use Rattle.search_chase.specs.declared.Goal.the-variants.{Counterexample}
+use Rattle.search_task.proofs.ReadyLaws.{ready-task}
+use Rattle.search_task.proofs.NodeLaws.{list-in, list-index, list-shaped}
+use Rattle.search_task.specs.declared.Goal.the-variants.{Counterexample}
 
 -- each relation is one of the ten
 abbrev pub KnownLog : Log → Type 0

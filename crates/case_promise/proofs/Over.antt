@@ -28,7 +28,7 @@ use Rattle.case_verdicts.proofs.Check.{MadeUp}
 use Rattle.tableau_parts.specs.Views.{LeastMissing}
 use Rattle.case_order.specs.Order.{fiveAt, Rising, Among, Ordered}
 use Rattle.case_minimization.specs.Minimization.{IsCase, SubFacts, Shrunk}
-use Rattle.search_chase.specs.Parts.{ReadyPlan}
+use Rattle.search_task.specs.Task.{ReadyPlan}
 use Rattle.case_promise.proofs.Words.{FineFact, dropped-numbers, fine-fact, fine-same, rising-far, same-fact, same-five, words-accepted, words-count, words-distinct, words-numbers}
 use Rattle.case_promise.proofs.Cases.{KnownLog, case-numbers, least-case}
 

@@ -34,14 +34,15 @@ use Rattle.tableau_parts.specs.Views.{MissingBy}
 use Rattle.tableau_parts.specs.Walks as walks
 use Rattle.case_order.specs.Order.{fiveAt, Ordered}
 use Rattle.case_minimization.specs.Minimization.{IsCase, Shrunk}
-use Rattle.search_chase.specs.Parts.{ReadyPlan, StateFound}
-use Rattle.search_chase.proofs.Node as node
-use Rattle.search_chase.proofs.ReadyLaws.{ready-task}
-use Rattle.search_chase.proofs.NodeLaws.{facts-by, ready-views}
+use Rattle.search_task.specs.Task.{ReadyPlan}
+use Rattle.search_chase.specs.Parts.{StateFound}
+use Rattle.search_task.proofs.Node as node
+use Rattle.search_task.proofs.ReadyLaws.{ready-task}
+use Rattle.search_task.proofs.NodeLaws.{facts-by, ready-views}
 use Rattle.case_promise.proofs.Cases.{KnownLog}
 use Rattle.case_promise.proofs.Over.{HandedNumbers, taken-fact, part-few, ordered-case, handed-numbers}
 use Rattle.case_writer.specs.Over.{SpareFreeIn, HandsOver}
-use Rattle.search_chase.specs.declared.Goal.the-variants.{Counterexample}
+use Rattle.search_task.specs.declared.Goal.the-variants.{Counterexample}
 
 -- ordered facts are those of the front of the words
 ordered-front : (ns : List ℕ) (n : ℕ) (ms : List ℕ) (m : ℕ) → Ordered ns n ms m → Ordered (take (n * 5) ns) n ms m

@@ -1,5 +1,5 @@
 // Whether a saved list covers its question, judged from the rows of the views alone.
-use search_chase::Goal;
+use search_task::Goal;
 use sheet_format::Ending;
 use sheet_format::LINE_WORDS;
 use sheet_format::MOST_WORDS;
@@ -14,7 +14,7 @@ ghost use Rattle.sheet_format.specs.Line.{wordLines};
 ghost use Rattle.sheet_format.specs.Cause.{refusalOf};
 ghost use Rattle.case_verdicts.specs.Verdict.{Sheet};
 ghost use Rattle.case_verdicts.specs.Sheets.{sheetOf};
-ghost use Rattle.search_chase.specs.Parts.{ReadyPlan};
+ghost use Rattle.search_task.specs.Task.{ReadyPlan};
 ghost use Rattle.judge.specs.Judged.{judgement, Decided, Judged, least-room};
 
 // The verdict, and with a refusal its number and line. Not covered: how many facts the case in the lent words has, and the missing answer.

@@ -25,13 +25,15 @@ use Rattle.search_choices.specs.Choices.{Subset}
 use Rattle.search_conflict.specs.Conflict.{relaxed, Held, AtomHeld, Marked, HeadMarked}
 use Rattle.search_conflict.proofs.Laws.{held-more}
 use Rattle.search_conflict.proofs.Relaxed.{relaxed-held, given-held}
-use Rattle.search_chase.specs.Parts.{ReadyPlan, sheetBy, fromBy, numbersOf, Proper, GivenBy, askedRow, Shut, ByStrays, NodeBy, asks}
-use Rattle.search_chase.proofs.Heads.{block-at}
-use Rattle.search_chase.proofs.Node.{stray-refuted}
-use Rattle.search_chase.proofs.ReadyLaws.{ready-task, ready-facts, opened}
-use Rattle.search_chase.proofs.NodeLaws.{shut, closed, asking}
-use Rattle.search_chase.specs.declared.Goal.{Goal}
-use Rattle.search_chase.specs.declared.Goal.the-variants.{Counterexample}
+use Rattle.search_task.specs.Task.{ReadyPlan, sheetBy, fromBy, numbersOf, askedRow, asks}
+use Rattle.search_chase.specs.Parts.{Proper, GivenBy, Shut, ByStrays, NodeBy}
+use Rattle.search_task.proofs.Heads.{block-at}
+use Rattle.search_task.proofs.Node.{stray-refuted}
+use Rattle.search_task.proofs.ReadyLaws.{ready-task, ready-facts}
+use Rattle.search_chase.proofs.ReadyLaws.{opened}
+use Rattle.search_task.proofs.NodeLaws.{shut, closed, asking}
+use Rattle.search_task.specs.declared.Goal.{Goal}
+use Rattle.search_task.specs.declared.Goal.the-variants.{Counterexample}
 
 module _ (p : List ℕ) (x : Sheet) (r : ReadyPlan p x) (goal : Goal) (ws lv : List ℕ) (pr : Proper ws) where
   -- more marks hold no less
@@ -86,7 +88,7 @@ module _ (p : List ℕ) (x : Sheet) (r : ReadyPlan p x) (ws lv : List ℕ) (pr :
 
 module _ (p : List ℕ) (x : Sheet) (r : ReadyPlan p x) (goal : Goal) (ws lv : List ℕ) (marks : List Bool) (pr : Proper ws) where
   -- so stray rows decide, where no list is given the head
-  pub found : (from : ℕ) (ns : List ℕ) → from ≡ fromBy goal p → ns ≡ numbersOf goal p (stateOf top ws) → (asks goal ≡ true → GivenToList p ns (askedRow p ws) → ⊥)
+  pub found : (from : ℕ) (ns : List ℕ) → from ≡ fromBy goal p → ns ≡ numbersOf goal p (stateOf top ws) → (asks goal ≡ true → GivenToList p ns (askedRow p (stateOf top ws)) → ⊥)
       → (done good : Bool) (v : ℕ) (u : List ℕ) → ByStrays done good p ns ws lv from marks v u → NodeBy done good p x (sheetBy goal x) ws lv marks v u
   found from ns e f lacks true true v u clean = λ st. closed p x r goal (stateOf top ws) ns (subst (λ l. FactNumbers l (tableauLog (sheetBy goal x) (stateOf top ws))) (sym f) (ready-facts p x r goal (stateOf top ws))) lacks clean st
   found from ns e f lacks true false v u b = absurd b
@@ -105,4 +107,4 @@ module _ (p : List ℕ) (x : Sheet) (r : ReadyPlan p x) (goal : Goal) (ws lv : L
       (subst (λ d. NodeBy true d p x (sheetBy goal x) ws lv marks v u) (sym b)
       (subst (λ k. Refuted top (sheetBy k x) (relaxed ws lv marks)) (sym (asking goal e))
       (shut-still p x r ws lv pr (h .list) (h .inside) (h .given .at) (h .given .old) (h .mid) marks
-      (subst (λ l. WitnessAt (blockNumbers p (list-block (h .list))) (min (blockSize p (list-block (h .list))) most-atoms) l (askedRow p ws) (h .given .at)) (f ∙ ap (λ k. numbersOf k p (stateOf top ws)) (asking goal e)) (h .given .witness)) (h .given .marked) (h .head))))
+      (subst (λ l. WitnessAt (blockNumbers p (list-block (h .list))) (min (blockSize p (list-block (h .list))) most-atoms) l (askedRow p (stateOf top ws)) (h .given .at)) (f ∙ ap (λ k. numbersOf k p (stateOf top ws)) (asking goal e)) (h .given .witness)) (h .given .marked) (h .head))))

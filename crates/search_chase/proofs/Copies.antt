@@ -1,92 +1,53 @@
 -- The heads of the copies are made what they must be, one row after the other, from the first state on.
 use mathlib.Core.Path.{_≡_, refl, sym, ap, _∙_, subst}
 use mathlib.Core.Bool.{Bool, true, false, cond, true≢false}
-use mathlib.Core.List.{List, [], _∷_, _++_, map}
+use mathlib.Core.List.{List, [], _∷_, _++_}
 use mathlib.Core.Logic.{_⊎_, inl, inr, ⊎-elim}
 use Prim.Native.Nat.{ℕ, zero, suc, _+_, _-_, _*_, _<_, _≤_}
 use native.Mathlib.Omega.{arith}
 use lib.Dec.{ltb}
-use lib.ListN.{length, getD, replicate, length-map}
+use lib.ListN.{length, getD, replicate}
 use Rattle.query_layout.specs.Layout.{names}
-use Rattle.tableau_layout.specs.Layout.{slot-end, view-block}
+use Rattle.tableau_layout.specs.Layout.{slot-end}
 use Rattle.list_laws.proofs.Lists.{inside}
 use Rattle.query_meaning.specs.Meaning.{Term, con, var, Block, In, value, row}
 use Rattle.query_meaning.specs.Blocks.{View, nth}
-use Rattle.query_join.specs.Joins.{headRow}
 use Rattle.query_encoding.specs.Encoding.{padded}
-use Rattle.query_encoding.proofs.Bridge.{head-row}
 use Rattle.query_encoding.proofs.Lists.{map-in}
 use Rattle.case_verdicts.specs.Verdict.{Sheet}
 use Rattle.case_verdicts.specs.Handed.{Stands, in-row}
 use Rattle.case_verdicts.specs.Sheets.{top}
 use Rattle.case_verdicts.specs.Accepted.{width, FineTerm, Fine}
-use Rattle.case_verdicts.specs.Tableau.{Job, Copy, State, jobs, numbered, later, copy, Meets, bare}
-use Rattle.case_verdicts.specs.Search.{free, Equation, _≈_, equations, Met, after, Refuted, RefutedBy}
+use Rattle.case_verdicts.specs.Tableau.{Copy, State, jobs, numbered, copy, Meets}
+use Rattle.case_verdicts.specs.Search.{free, Equation, equations, Met, after, Refuted, RefutedBy}
 use Rattle.case_verdicts.specs.Words.{stateOf}
 use Rattle.case_verdicts.proofs.Decide.{less?}
-use Rattle.case_verdicts.proofs.Tableau.{numbered-job}
-use Rattle.case_verdicts.proofs.Reduce.{row-con}
 use Rattle.case_verdicts.proofs.Refute.{unified, clashed}
-use Rattle.tableau_plan.specs.Plan.{rowAt, rowValues, rowCount, viewCount, blockNumbers, tableauFacts, tableauSize}
+use Rattle.tableau_plan.specs.Plan.{rowAt, rowValues, rowCount, viewCount, tableauFacts, tableauSize}
 use Rattle.search_state.specs.State.{made-up-slots, Fresh, Constants, Equated, EquatedBy}
 use Rattle.search_state.specs.Parts.{Own}
 use Rattle.search_state.proofs.Laws.{own-free}
-use Rattle.search_chase.specs.Parts.{ReadyPlan, sheetBy, fromBy, Proper, Settled, Stood, Fitting, Heads, HeadsBy, Started, FoundOrLost, StateFound, FoundBy}
-use Rattle.search_chase.proofs.Fresh.{proper-value, copy-small}
-use Rattle.search_chase.proofs.Node.{Task, head-refuted, kept-row, fine-row}
-use Rattle.tableau_plan.proofs.Whole.{nth-in}
-use Rattle.search_chase.proofs.ReadyLaws.{ready-task, ready-facts}
+use Rattle.search_task.specs.Task.{ReadyPlan, sheetBy, fromBy, Settled}
+use Rattle.search_chase.specs.Parts.{Proper, Stood, Fitting, Heads, HeadsBy, Started, FoundOrLost, StateFound, FoundBy}
+use Rattle.search_task.proofs.Copies.{copy-small, copy-kept, first-met, view-in, head-long, row-met}
+use Rattle.search_chase.proofs.Fresh.{proper-value}
+use Rattle.search_task.proofs.Node.{Task, head-refuted, kept-row, fine-row}
+use Rattle.search_task.proofs.ReadyLaws.{ready-task, ready-facts, zero-small, row-constants, jobs-count}
 use Rattle.search_conflict.proofs.Jumps.{rests-more}
-use Rattle.search_chase.proofs.Levels.{relaxed-all, own-proper, proper-own, zero-small, stood-after, row-constants, job-plain, copy-kept}
-use Rattle.search_chase.specs.declared.Goal.{Goal}
-use Rattle.search_chase.specs.declared.Goal.the-variants.{Counterexample, Agreement}
-
--- ---- copies by their numbers
-
-pub numbered-is : (js : List Job) (c : Copy) (d : Job) → In c (numbered js) → c .job ≡ getD js (c .number) d
-numbered-is (j ∷ js) c d (inl e) = ap (λ (q : Copy). q .job) e ∙ ap (λ n. getD (j ∷ js) n d) (sym (ap (λ (q : Copy). q .number) e))
-numbered-is (j ∷ js) c d (inr m) =
-    let (q, i, e) = map-in later c (numbered js) m in
-    ap (λ (z : Copy). z .job) e ∙ numbered-is js q d i ∙ ap (λ n. getD (j ∷ js) n d) (sym (ap (λ (z : Copy). z .number) e))
-
--- equations met, with the unused columns: the rows are made the same
-same-met : (h : ℕ → ℕ) (ms ns k l : List ℕ) → length ms ≡ length ns → Met h (equations (ms ++ k) (ns ++ l)) → map h ms ≡ map h ns
-same-met h [] [] k l e w = refl
-same-met h [] (n ∷ ns) k l e w = absurd (omega arith)
-same-met h (m ∷ ms) [] k l e w = absurd (omega arith)
-same-met h (m ∷ ms) (n ∷ ns) k l e w = ap (λ q. q ∷ map h ms) (w (m ≈ n) (inl refl)) ∙ ap (λ q. h n ∷ q) (same-met h ms ns k l (omega arith) (λ f i. w f (inr i)))
+use Rattle.search_task.proofs.Padded.{same-met}
+use Rattle.search_chase.proofs.Levels.{relaxed-all, own-proper, proper-own, stood-after}
+use Rattle.search_task.specs.declared.Goal.{Goal}
 
 module _ (p : List ℕ) (x : Sheet) (r : ReadyPlan p x) where
-  -- copy i + 1 is that of row i
-  pub copy-job : (goal : Goal) (c : Copy) → In c (numbered (jobs (sheetBy goal x))) → (i : ℕ) → c .number ≡ suc i → (lt : i < rowCount p)
-      → c .job ≡ record { block = nth (x .views) (rowAt p i 0) .block; is = map con (r .plan .rows i lt .row) }
-  copy-job Counterexample c m i e lt = numbered-is (jobs x) c (record { block = x .question; is = [] }) m ∙ ap (λ n. getD (jobs x) n (record { block = x .question; is = [] })) e ∙ r .plan .rows i lt .copy
-  copy-job Agreement c m i e lt = numbered-is (jobs (bare x)) c (record { block = x .question; is = [] }) m ∙ ap (λ n. getD (jobs (bare x)) n (record { block = x .question; is = [] })) e ∙ r .plan .rows i lt .copy
-
-  -- the question's copy has its own head
-  pub first-job : (goal : Goal) (c : Copy) → In c (numbered (jobs (sheetBy goal x))) → c .number ≡ 0 → c .job .block .head ≡ c .job .is
-  first-job Counterexample c m e =
-      let q = numbered-is (jobs x) c (record { block = x .question; is = [] }) m ∙ ap (λ n. getD (jobs x) n (record { block = x .question; is = [] })) e in
-      subst (λ (j : Job). j .block .head ≡ j .is) (sym q) refl
-  first-job Agreement c m e =
-      let q = numbered-is (jobs (bare x)) c (record { block = x .question; is = [] }) m ∙ ap (λ n. getD (jobs (bare x)) n (record { block = x .question; is = [] })) e in
-      subst (λ (j : Job). j .block .head ≡ j .is) (sym q) refl
-
   -- ---- before the first row
 
   pub heads-free : (goal : Goal) (ws : List ℕ) → length ws ≡ slot-end → stateOf top ws ≡ free top → Heads x (sheetBy goal x) ws 0
   heads-free goal ws size e = record {
     proper = proper-own ws size (own-free ws e);
     stood = record { each = λ n lt. inr (inside ws n 0 (top + n) (omega arith) ∙ (λ i. e i n)) };
-    heads = λ c m le. record {
-      gives = ap (row (copy (stateOf top ws) (c .number))) (first-job goal c m (omega arith));
-      differ = λ d i. absurd (subst (λ l. In d l) (job-plain p x r goal (c .job) (job-in goal c m)) i);
-    };
+    heads = λ c m le. first-met p x r goal (stateOf top ws) c m (omega arith);
     back = λ none. subst (Refuted top (sheetBy goal x)) e none;
   }
-    where
-      job-in : (goal : Goal) (c : Copy) → In c (numbered (jobs (sheetBy goal x))) → In (c .job) (jobs (sheetBy goal x))
-      job-in goal c m = numbered-job (jobs (sheetBy goal x)) c m
 
   -- ---- one row
 
@@ -94,23 +55,11 @@ module _ (p : List ℕ) (x : Sheet) (r : ReadyPlan p x) where
     abbrev view : View
     view = nth (x .views) (rowAt p i 0)
 
-    view-in : In view (x .views)
-    view-in = let c = r .plan .views in let v = r .plan .rows i lt .view in nth-in (x .views) (rowAt p i 0) (omega arith)
-
     abbrev head : List ℕ
     head = row (copy (stateOf top ws) (suc i)) (view .block .head)
 
     lengths : length head ≡ length (r .plan .rows i lt .row)
-    lengths = length-map (view .block .head) _ ∙ sym (r .accepted .lengths view view-in (r .plan .rows i lt .row) (r .plan .rows i lt .listed))
-
-    -- the head in numbers
-    pub head-numbers : (k b : ℕ) → k ≡ suc i → b ≡ view-block (rowAt p i 0) → headRow (λ z. stateOf top ws (k * names + z)) (blockNumbers p b) ≡ padded head
-    unfolding width
-    head-numbers k b e f =
-        let v = r .plan .rows i lt .view in
-        ap (λ n. headRow (λ z. stateOf top ws (n * names + z)) (blockNumbers p b)) e
-        ∙ ap (λ n. headRow (λ z. stateOf top ws (suc i * names + z)) (blockNumbers p n)) f
-        ∙ head-row (r .plan .view (rowAt p i 0) v) (r .views (rowAt p i 0) v) (λ z. stateOf top ws (suc i * names + z))
+    lengths = head-long p x r i lt (stateOf top ws)
 
     fitting : Fitting x (padded head) (rowValues p i)
     fitting = record {
@@ -119,7 +68,7 @@ module _ (p : List ℕ) (x : Sheet) (r : ReadyPlan p x) where
       left-is = refl;
       right-is = r .plan .rows i lt .values;
       same = lengths;
-      stands = λ n m. in-row view view-in (r .plan .rows i lt .row) (r .plan .rows i lt .listed) m;
+      stands = λ n m. in-row view (view-in p x r i lt) (r .plan .rows i lt .row) (r .plan .rows i lt .listed) m;
     }
 
     -- its values are constants, or own made-up values
@@ -129,7 +78,7 @@ module _ (p : List ℕ) (x : Sheet) (r : ReadyPlan p x) where
     head-value (var z) fine n e = let f = r .plan .rows-few in proper-value ws (h .proper) (suc i * names + z) (omega arith) n e
 
     fresh-head : Fresh ws (padded head)
-    fresh-head n m = go head (λ v j. let (t, k, e) = map-in (value (copy (stateOf top ws) (suc i))) v (view .block .head) j in head-value t (r .accepted .views view view-in .head t k) v e) m
+    fresh-head n m = go head (λ v j. let (t, k, e) = map-in (value (copy (stateOf top ws) (suc i))) v (view .block .head) j in head-value t (r .accepted .views view (view-in p x r i lt) .head t k) v e) m
       where
         go : (l : List ℕ) → ((v : ℕ) → In v l → (v < top) ⊎ ((top ≤ v) × (v < top + length ws) × (getD ws (v - top) 0 ≡ v))) → In n (l ++ replicate (4 - length head) 0)
             → (n < top) ⊎ ((top ≤ n) × (n < top + length ws) × (getD ws (n - top) 0 ≡ n))
@@ -144,22 +93,15 @@ module _ (p : List ℕ) (x : Sheet) (r : ReadyPlan p x) where
 
     -- after the step the head is the row
     head-met : (out : List ℕ) → Equated ws out (padded head) (rowValues p i) → (c : Copy) → In c (numbered (jobs (sheetBy goal x))) → c .number ≡ suc i → Meets (copy (stateOf top out) (c .number)) (c .job)
-    head-met out q c m e =
+    head-met out q =
         let t = r .plan .rows i lt .row in
-        let j = copy-job goal c m i e lt in
-        let small = r .accepted .rows view view-in t (r .plan .rows i lt .listed) in
+        let small = r .accepted .rows view (view-in p x r i lt) t (r .plan .rows i lt .listed) in
         let rows-met = subst (λ l. Met (q .by) (equations (padded head) l)) (r .plan .rows i lt .values) (q .unifier .met) in
-        let gives : row (copy (stateOf top out) (suc i)) (view .block .head) ≡ row (copy (stateOf top out) (suc i)) (map con t) =
-        ap (λ (s : State). row (copy s (suc i)) (view .block .head)) (q .state)
-        ∙ fine-row (q .by) (copy (stateOf top ws) (suc i)) (view .block .head) (q .unifier .keeps) (r .accepted .views view view-in .head)
+        row-met p x r i lt goal (stateOf top out)
+        (ap (λ (s : State). row (copy s (suc i)) (view .block .head)) (q .state)
+        ∙ fine-row (q .by) (copy (stateOf top ws) (suc i)) (view .block .head) (q .unifier .keeps) (r .accepted .views view (view-in p x r i lt) .head)
         ∙ same-met (q .by) head t (replicate (4 - length head) 0) (replicate (4 - length t) 0) lengths rows-met
-        ∙ kept-row (q .by) t (q .unifier .keeps) small
-        ∙ sym (row-con (copy (stateOf top out) (suc i)) t) in
-        subst (λ n. Meets (copy (stateOf top out) n) (c .job)) (sym e)
-        (subst (λ (k : Job). Meets (copy (stateOf top out) (suc i)) k) (sym j) (record {
-          gives = gives;
-          differ = λ d k. absurd (subst (λ l. In d l) (ap (λ (q : Job). q .block .apart) (sym j) ∙ job-plain p x r goal (c .job) (numbered-job (jobs (sheetBy goal x)) c m)) k);
-        }))
+        ∙ kept-row (q .by) t (q .unifier .keeps) small)
 
     settled-row : (out : List ℕ) → Equated ws out (padded head) (rowValues p i) → Own out → Heads x (sheetBy goal x) out (i + 1)
     settled-row out q own = record {
@@ -193,15 +135,11 @@ module _ (p : List ℕ) (x : Sheet) (r : ReadyPlan p x) where
       go true le = omega arith
       go false le = omega arith
 
-  jobs-count : (goal : Goal) → length (jobs (sheetBy goal x)) ≡ suc (rowCount p)
-  jobs-count Counterexample = r .plan .copies
-  jobs-count Agreement = r .plan .copies
-
   pub heads-begin : (goal : Goal) (ws : List ℕ) (i : ℕ) → rowCount p ≤ i → Heads x (sheetBy goal x) ws i → Started x (sheetBy goal x) ws (slot-end + 1)
   heads-begin goal ws i le h = record {
     proper = h .proper;
     stood = h .stood;
-    settled = λ c m. h .heads c m (let a = copy-small (jobs (sheetBy goal x)) c m in let b = jobs-count goal in omega arith);
+    settled = λ c m. h .heads c m (let a = copy-small (jobs (sheetBy goal x)) c m in let b = jobs-count p x r goal in omega arith);
     room = let a = made-up-few ws in let b = h .proper .size in omega arith;
   }
 

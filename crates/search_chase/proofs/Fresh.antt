@@ -2,7 +2,7 @@
 use mathlib.Core.Path.{_≡_, refl, sym, ap, _∙_, subst}
 use mathlib.Core.List.{List, [], _∷_, _++_, map}
 use mathlib.Core.Logic.{_⊎_, inl, inr, ⊎-elim}
-use Prim.Native.Nat.{ℕ, zero, suc, _+_, _-_, _*_, _<_, _≤_}
+use Prim.Native.Nat.{ℕ, _+_, _-_, _*_, _<_, _≤_}
 use native.Mathlib.Omega.{arith}
 use lib.ListN.{length, getD, replicate, List·getD-eq-default}
 use Rattle.query_layout.specs.Layout.{names}
@@ -14,11 +14,13 @@ use Rattle.query_encoding.proofs.Lists.{in-map, map-in}
 use Rattle.case_verdicts.specs.Verdict.{Sheet}
 use Rattle.case_verdicts.specs.Sheets.{top}
 use Rattle.case_verdicts.specs.Accepted.{width, Fine, FineTerm, FineBlock, FineSheet}
-use Rattle.case_verdicts.specs.Tableau.{Job, Copy, State, jobs, numbered, copy, tableauLog}
+use Rattle.case_verdicts.specs.Tableau.{State, jobs, copy, tableauLog}
 use Rattle.case_verdicts.specs.Search.{Unifier, equations, _≈_, Keeps}
 use Rattle.case_verdicts.specs.Words.{stateOf}
 use Rattle.case_verdicts.proofs.Tableau.{source, copy-block}
 use Rattle.search_state.specs.State.{Fresh, Constants, Equated}
+use Rattle.search_task.proofs.ReadyLaws.{zero-small}
+use Rattle.search_task.proofs.Copies.{copy-small}
 use Rattle.search_chase.specs.Parts.{Proper}
 
 -- a word of the state
@@ -27,12 +29,6 @@ proper-value ws p n lt v e =
     let l = p .size in
     let q : v ≡ getD ws n 0 = e ∙ inside ws n (top + n) 0 (omega arith) in
     ⊎-elim (λ h. inl (omega arith)) (λ h. inr (omega arith, omega arith, ap (λ i. getD ws i 0) (let z : v - top ≡ n = omega arith in z) ∙ sym q)) (p .each n lt)
-
--- a copy's number is below the number of jobs
-pub copy-small : (js : List Job) (c : Copy) → In c (numbered js) → c .number < length js
-copy-small [] c m = absurd m
-copy-small (j ∷ js) c (inl e) = let z : c .number ≡ 0 = ap (λ (q : Copy). q .number) e in omega arith
-copy-small (j ∷ js) c (inr m) = let (d, i, e) = map-in _ c (numbered js) m in let k = copy-small js d i in let z : c .number ≡ suc (d .number) = ap (λ (q : Copy). q .number) e in omega arith
 
 module _ (y : Sheet) (ok : FineSheet top y) (few : length (jobs y) ≤ most-copies) (ws : List ℕ) (p : Proper ws) where
   -- a value of a fact of the state's log
@@ -58,15 +54,10 @@ module _ (y : Sheet) (ok : FineSheet top y) (few : length (jobs y) ≤ most-copi
           let (q, j, k) = sh .safe x i in
           subst (λ z. (z < top) ⊎ ((top ≤ z) × (z < top + length ws) × (getD ws (z - top) 0 ≡ z))) (sym e) (fact-value (factOf (a .val) q) (a .holds q j) (a .val x) (in-map (value (a .val)) (var x) (q .terms) k))
 
-  zero-value : (k n : ℕ) → In n (replicate k 0) → n < top
-  zero-value zero n m = absurd m
-  zero-value (suc k) n (inl e) = omega arith
-  zero-value (suc k) n (inr m) = zero-value k n m
-
   pub fresh-answer : (b : Block) → FineBlock top (y .table) b → Shaped b → (t : List ℕ) → Answer (tableauLog y (stateOf top ws)) b t → Fresh ws (padded t)
   fresh-answer b fine sh t a v m = go t (λ n i. answer-value b fine sh t a n i) m
     where
       go : (l : List ℕ) → ((n : ℕ) → In n l → (n < top) ⊎ ((top ≤ n) × (n < top + length ws) × (getD ws (n - top) 0 ≡ n))) → In v (l ++ replicate (4 - length t) 0) → (v < top) ⊎ ((top ≤ v) × (v < top + length ws) × (getD ws (v - top) 0 ≡ v))
-      go [] h i = inl (zero-value (4 - length t) v i)
+      go [] h i = inl (zero-small (4 - length t) v i)
       go (x ∷ l) h (inl e) = h v (inl e)
       go (x ∷ l) h (inr i) = go l (λ n j. h n (inr j)) i

@@ -11,17 +11,14 @@ use lib.ListN.{length, getD, replicate, List·getD-eq-default}
 use Rattle.tableau_layout.specs.Layout.{slot-end}
 use Rattle.list_laws.proofs.Lists.{inside}
 use Rattle.query_meaning.specs.Meaning.{Block, In}
-use Rattle.query_meaning.specs.Blocks.{View, nth}
 use Rattle.query_encoding.specs.Encoding.{padded}
 use Rattle.case_verdicts.specs.Verdict.{Sheet}
 use Rattle.case_verdicts.specs.Handed.{Stands}
 use Rattle.case_verdicts.specs.Sheets.{top}
-use Rattle.case_verdicts.specs.Accepted.{Fine, FineSheet}
-use Rattle.case_verdicts.specs.Tableau.{Job, Copy, State, jobs, numbered, copy, Meets, bare}
-use Rattle.case_verdicts.specs.Search.{Keeps, Clash, Below, equations, _≈_, Met, after, Refuted, RefutedBy}
+use Rattle.case_verdicts.specs.Tableau.{State}
+use Rattle.case_verdicts.specs.Search.{Keeps, Clash, Below, equations, _≈_, Met, Refuted, RefutedBy}
 use Rattle.case_verdicts.specs.Words.{stateOf}
 use Rattle.case_verdicts.proofs.Decide.{less?, same?, in?}
-use Rattle.case_verdicts.proofs.Tableau.{numbered-job, of-listed, copy-block, job-is}
 use Rattle.case_verdicts.proofs.Refute.{unified, clashed}
 use Rattle.tableau_plan.specs.Plan.{rowAt, rowValues, rowCount, viewCount}
 use Rattle.search_state.specs.State.{made-up-slots, Fresh, Constants, Equated, EquatedBy}
@@ -32,13 +29,13 @@ use Rattle.search_conflict.specs.Conflict.{kept, relaxed, Rests, Assigned}
 use Rattle.search_conflict.proofs.Jumps.{below-by, relaxed-plain, relaxed-constant, relaxed-kept, relaxed-back, rests-more, jump, refuted-below}
 use Rattle.search_nogoods.specs.Nogoods.{Forgot}
 use Rattle.search_learning.specs.Rows.{Unmarked, Learned}
-use Rattle.search_chase.specs.Parts.{ReadyPlan, sheetBy, Proper, Settled, NodeBy, Stood, Fitting, StateFound, Levelled, SameLevels, Lost, OpenNode, Taken, RowPassed, TakenBy, AssignedIfTaken, JumpsBy, roundFrom, TriedRows, Failed, Going, Started, FoundOrLost, Nogoods, RefutedAs}
-use Rattle.search_chase.proofs.Node.{Task, in-nth, meets-kept}
-use Rattle.tableau_plan.proofs.Whole.{nth-in}
-use Rattle.search_chase.proofs.ReadyLaws.{ready-task}
+use Rattle.search_task.specs.Task.{ReadyPlan, sheetBy, Settled}
+use Rattle.search_chase.specs.Parts.{Proper, NodeBy, Stood, Fitting, StateFound, Levelled, SameLevels, Lost, OpenNode, Taken, RowPassed, TakenBy, AssignedIfTaken, JumpsBy, roundFrom, TriedRows, Failed, Going, Started, FoundOrLost, Nogoods, RefutedAs}
+use Rattle.search_task.proofs.Columns.{zeros-at}
+use Rattle.search_task.proofs.ReadyLaws.{zero-small, row-constants}
+use Rattle.search_task.proofs.Copies.{settled-after}
 use Rattle.search_chase.proofs.Nogoods.{strikes-under, strikes-back, strikes-learned}
-use Rattle.search_chase.specs.declared.Goal.{Goal}
-use Rattle.search_chase.specs.declared.Goal.the-variants.{Counterexample, Agreement}
+use Rattle.search_task.specs.declared.Goal.{Goal}
 
 -- ---- words
 
@@ -47,16 +44,6 @@ own-proper ws pr n lt = let s = pr .size in pr .each n (omega arith)
 
 pub proper-own : (ws : List ℕ) → length ws ≡ slot-end → Own ws → Proper ws
 proper-own ws size own = record { size = size; each = λ n lt. own n (omega arith) }
-
-pub zero-small : (k n : ℕ) → In n (replicate k 0) → n < top
-zero-small zero n m = absurd m
-zero-small (suc k) n (inl e) = omega arith
-zero-small (suc k) n (inr m) = zero-small k n m
-
-padded-small : (l : List ℕ) (k : ℕ) → ((n : ℕ) → In n l → n < top) → Constants (l ++ replicate k 0)
-padded-small [] k h v m = zero-small k v m
-padded-small (n ∷ l) k h v (inl e) = h v (inl e)
-padded-small (n ∷ l) k h v (inr m) = padded-small l k (λ q i. h q (inr i)) v m
 
 -- ---- numbers of the sheet
 
@@ -121,39 +108,6 @@ unfolding relaxed
 relaxed-all ws lv = refl
 
 module _ (p : List ℕ) (x : Sheet) (r : ReadyPlan p x) where
-  -- listed rows are made of constants
-  pub row-constants : (i : ℕ) → i < rowCount p → Constants (rowValues p i)
-  row-constants i lt =
-      let o = r .plan .rows i lt in
-      let c = r .plan .views in
-      let h = o .view in
-      let w = nth (x .views) (rowAt p i 0) in
-      subst Constants (sym (o .values)) (padded-small (o .row) (4 - length (o .row)) (λ n m. r .accepted .rows w (nth-in (x .views) (rowAt p i 0) (omega arith)) (o .row) (o .listed) n m))
-
-  -- ---- what is settled stays settled
-
-  view-plain : (w : View) → In w (x .views) → w .block .apart ≡ []
-  view-plain w m =
-      let (v, lt, e) = in-nth (x .views) w m in
-      let c = r .plan .views in
-      subst (λ (u : View). u .block .apart ≡ []) (sym e) (r .views v (omega arith) .plain)
-
-  pub job-plain : (goal : Goal) (j : Job) → In j (jobs (sheetBy goal x)) → j .block .apart ≡ []
-  job-plain Counterexample j (inl e) = subst (λ (k : Job). k .block .apart ≡ []) (sym e) (r .question .plain)
-  job-plain Counterexample j (inr m) = let (w, t, n, k, e) = of-listed x j m in subst (λ (q : Job). q .block .apart ≡ []) (sym e) (view-plain w n)
-  job-plain Agreement j (inl e) = subst (λ (k : Job). k .block .apart ≡ []) (sym e) refl
-  job-plain Agreement j (inr m) = let (w, t, n, k, e) = of-listed (bare x) j m in subst (λ (q : Job). q .block .apart ≡ []) (sym e) (view-plain w n)
-
-  pub copy-kept : (goal : Goal) (h : ℕ → ℕ) (s : State) (c : Copy) → In c (numbered (jobs (sheetBy goal x))) → Keeps top h → Meets (copy s (c .number)) (c .job) → Meets (copy (after h s) (c .number)) (c .job)
-  copy-kept goal h s c m k meets =
-      let y = sheetBy goal x in
-      let ok = ready-task p x r goal .accepted in
-      let j = numbered-job (jobs y) c m in
-      meets-kept h (copy s (c .number)) (c .job) k (copy-block y ok c m .head) (job-is y ok (c .job) j) (job-plain goal (c .job) j) meets
-
-  pub settled-after : (goal : Goal) (h : ℕ → ℕ) (s : State) → Keeps top h → Settled (sheetBy goal x) s → Settled (sheetBy goal x) (after h s)
-  settled-after goal h s k st c m = copy-kept goal h s c m k (st c m)
-
   -- ---- a stray row, and the rows tried for it
 
   module _ (goal : Goal) (ws lv : List ℕ) (next left : ℕ) (b : Started x (sheetBy goal x) ws left) (g : Levelled ws lv next) (view : ℕ) (u st lw : List ℕ) (marks : List Bool) (at : ℕ → ℕ) (n : ℕ) (gone : List Bool) (last : ℕ) (sl : List ℕ) (sm : List Bool)
@@ -166,13 +120,13 @@ module _ (p : List ℕ) (x : Sheet) (r : ReadyPlan p x) where
 
     -- the words changed are numbers of the row
     taken-stood : (out : List ℕ) → Taken p view (at n) ws out u → Stood x out
-    taken-stood out t = stood-after x ws out u (rowValues p (at n)) (b .proper .size) (b .stood) (o .fresh) (row-constants (at n) few) (o .fits (at n) few (t .view-is)) (t .step)
+    taken-stood out t = stood-after x ws out u (rowValues p (at n)) (b .proper .size) (b .stood) (o .fresh) (row-constants p x r (at n) few) (o .fits (at n) few (t .view-is)) (t .step)
 
     taken-begins : (out : List ℕ) → Taken p view (at n) ws out u → Started x y out (left - 1)
     taken-begins out t = record {
       proper = proper-own out (t .step .same ∙ b .proper .size) (t .own);
       stood = taken-stood out t;
-      settled = subst (Settled y) (sym (t .step .state)) (settled-after goal (t .step .by) (stateOf top ws) (t .step .unifier .keeps) (b .settled));
+      settled = subst (Settled y) (sym (t .step .state)) (settled-after p x r goal (t .step .by) (stateOf top ws) (t .step .unifier .keeps) (b .settled));
       room = let h = b .room in ⊎-elim (λ e. absurd (o .other (at n) few (t .view-is) e)) (λ f. omega arith) (t .step .fewer);
     }
 
@@ -239,7 +193,7 @@ module _ (p : List ℕ) (x : Sheet) (r : ReadyPlan p x) where
       bound k m h keeps met =
           let (small, e) = fresh-slot k m in
           let there : stateOf top out k ≡ t .step .by (top + k) = (λ j. t .step .state j k) ∙ ap (t .step .by) e in
-          let (w, i, constant, f) = taken-value x ws out u (rowValues p (at n)) (b .proper .size) (o .fresh) (row-constants (at n) few) (o .fits (at n) few (t .view-is)) (t .step) k small m in
+          let (w, i, constant, f) = taken-value x ws out u (rowValues p (at n)) (b .proper .size) (o .fresh) (row-constants p x r (at n) few) (o .fits (at n) few (t .view-is)) (t .step) k small m in
           let v = inside out k 0 (top + k) (let z = out-size in omega arith) in
           sym (t .step .unifier .general h keeps met (top + k)) ∙ ap h (sym there) ∙ keeps (stateOf top out k) (omega arith)
 
@@ -303,7 +257,7 @@ module _ (p : List ℕ) (x : Sheet) (r : ReadyPlan p x) where
     Take res out = Own st → Fresh st u → Constants (rowValues p (at n)) → TakenBy res p view (at n) st out u
 
     at-words : (res : Bool) (out : List ℕ) → Take res out → TakenBy res p view (at n) ws out u
-    at-words res out take = subst (λ l. (Own l → Fresh l u → Constants (rowValues p (at n)) → TakenBy res p view (at n) l out u) → TakenBy res p view (at n) ws out u) (sym (here .same)) (λ f. f (own-proper ws (b .proper)) (o .fresh) (row-constants (at n) few)) take
+    at-words res out take = subst (λ l. (Own l → Fresh l u → Constants (rowValues p (at n)) → TakenBy res p view (at n) l out u) → TakenBy res p view (at n) ws out u) (sym (here .same)) (λ f. f (own-proper ws (b .proper)) (o .fresh) (row-constants p x r (at n) few)) take
 
     took : (res : Bool) (out : List ℕ) → Take res out → res ≡ true → Taken p view (at n) ws out u
     took true out take e = at-words true out take
@@ -370,7 +324,7 @@ module _ (p : List ℕ) (x : Sheet) (r : ReadyPlan p x) where
             → Going p x y ws lv back ly more view u at (n + 1) less (at n) nl nm
         going-taken more less d cut nl nm learned = record {
           failed = λ lt. failed-taken out taken lx c deeper size a below more less d cut (lost none .rests);
-          strikes = strikes-learned y ws lv (b .proper) u (rowValues p (at n)) rl rm less nl nm (o .fresh) (row-constants (at n) few) refl (failed-taken out taken lx c deeper size a below more less d cut (lost none .rests) .refuted) learned
+          strikes = strikes-learned y ws lv (b .proper) u (rowValues p (at n)) rl rm less nl nm (o .fresh) (row-constants p x r (at n) few) refl (failed-taken out taken lx c deeper size a below more less d cut (lost none .rests) .refuted) learned
               (strikes-after out taken lx c deeper size a tl tm rl rm forgot (lost none .strikes));
           same = back-is;
           levels = levels-back out taken lx c deeper size a ly (lost none .levels);
@@ -459,11 +413,6 @@ jumps-no true old below b next marks e j = absurd (true≢false e)
 jumps-no false old below b next marks e j = j
 
 -- ---- before the first choice
-
-zeros-at : (k n : ℕ) → getD (replicate {A = ℕ} k 0) n 0 ≡ 0
-zeros-at zero n = refl
-zeros-at (suc k) zero = refl
-zeros-at (suc k) (suc n) = zeros-at k n
 
 pub levelled-first : (ws : List ℕ) (k : ℕ) → Levelled ws (replicate k 0) 1
 levelled-first ws k = record { each = λ n lt. let z = zeros-at k n in omega arith }

@@ -1,10 +1,6 @@
-pub mod Padded
-pub mod Node
-pub mod Heads
 pub mod Fresh
 pub mod ReadyLaws
 pub mod NodeLaws
-pub mod Columns
 pub mod Nogoods
 pub mod Levels
 pub mod Copies

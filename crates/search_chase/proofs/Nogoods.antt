@@ -21,7 +21,7 @@ use Rattle.search_conflict.proofs.Jumps.{below-by, relaxed-plain, relaxed-const
 use Rattle.search_nogoods.specs.Nogoods.{slotAt, valueAt, marksAt, countOf, SameEntry, Forgot}
 use Rattle.search_chase.specs.Parts.{Proper, Nogood, Nogoods}
 use Rattle.search_learning.specs.Rows.{Alone, Learned}
-use Rattle.search_chase.proofs.Columns.{met-at, at-met, at-in, row-at}
+use Rattle.search_task.proofs.Columns.{met-at, at-met, at-in, row-at}
 
 module _ (ws lv : List ℕ) (pr : Proper ws) where
   -- a slot that is not bound is not bound without choices either

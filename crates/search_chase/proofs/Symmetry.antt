@@ -30,19 +30,18 @@ use Rattle.search_conflict.specs.Conflict.{kept, relaxed}
 use Rattle.search_conflict.proofs.Jumps.{below-by, relaxed-plain, relaxed-constant, relaxed-kept}
 use Rattle.search_symmetry.specs.Symmetry.{exchanged, copyTo, Exchanges, RowTo, RowsTo, FixedValue, Alike}
 use Rattle.search_symmetry.proofs.Symmetry.{Still, StillBlock, Turns, Symmetric, good-turned, map-twice, row-turned}
-use Rattle.search_chase.specs.Parts.{ReadyPlan, sheetBy, Proper}
-use Rattle.search_chase.proofs.Columns.{same-at, pad-at, map-at, map-length, met-at, at-met, at-in, row-at}
-use Rattle.search_chase.proofs.Heads.{block-at}
-use Rattle.search_chase.proofs.Fresh.{copy-small}
-use Rattle.search_chase.proofs.Node.{in-nth}
+use Rattle.search_task.specs.Task.{ReadyPlan, sheetBy}
+use Rattle.search_chase.specs.Parts.{Proper}
+use Rattle.search_task.proofs.Columns.{same-at, pad-at, map-at, map-length, met-at, at-met, at-in, row-at}
+use Rattle.search_task.proofs.Heads.{block-at}
+use Rattle.search_task.proofs.Copies.{copy-small, copy-job, first-job, numbered-is}
+use Rattle.search_task.proofs.Node.{in-nth}
 use Rattle.tableau_plan.proofs.Whole.{nth-in}
-use Rattle.search_chase.proofs.NodeLaws.{list-index, list-shaped}
-use Rattle.search_chase.proofs.Levels.{row-constants}
+use Rattle.search_task.proofs.NodeLaws.{list-index, list-shaped}
+use Rattle.search_task.proofs.ReadyLaws.{row-constants, ready-task, jobs-count}
 use Rattle.search_chase.proofs.Nogoods.{own-slot}
-use Rattle.search_chase.proofs.ReadyLaws.{ready-task}
-use Rattle.search_chase.proofs.Copies.{copy-job, first-job, numbered-is}
-use Rattle.search_chase.specs.declared.Goal.{Goal}
-use Rattle.search_chase.specs.declared.Goal.the-variants.{Counterexample, Agreement}
+use Rattle.search_task.specs.declared.Goal.{Goal}
+use Rattle.search_task.specs.declared.Goal.the-variants.{Counterexample, Agreement}
 
 -- ---- exchanging twice
 
@@ -209,16 +208,12 @@ module _ (p : List ℕ) (x : Sheet) (r : ReadyPlan p x) (one other : ℕ) (to : 
         },
       )
 
-  few-jobs : (goal : Goal) → length (jobs (sheetBy goal x)) ≡ suc (rowCount p)
-  few-jobs Counterexample = r .plan .copies
-  few-jobs Agreement = r .plan .copies
-
   turns-each : (goal : Goal) (c : Copy) → In c (numbered (jobs (sheetBy goal x))) → StillBlock turn (c .job .block) × Turns (sheetBy goal x) turn toCopy c
   turns-each goal c m = go (c .number) refl
     where
       go : (k : ℕ) → c .number ≡ k → StillBlock turn (c .job .block) × Turns (sheetBy goal x) turn toCopy c
       go zero e = turns-first goal c m e
-      go (suc i) e = let lt = copy-small (jobs (sheetBy goal x)) c m in let f = few-jobs goal in turns-row goal c m i e (omega arith)
+      go (suc i) e = let lt = copy-small (jobs (sheetBy goal x)) c m in let f = jobs-count p x r goal in turns-row goal c m i e (omega arith)
 
   symmetric : (goal : Goal) → Symmetric (sheetBy goal x) turn toCopy
   symmetric Counterexample = record { twice = twice; first = refl; question = still-asked Counterexample; lists = still-list Counterexample; views = still-views; copies = turns-each Counterexample; rows = rows-turned }

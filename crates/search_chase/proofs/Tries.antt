@@ -20,13 +20,15 @@ use Rattle.search_conflict.specs.Conflict.{kept, relaxed}
 use Rattle.search_symmetry.specs.Symmetry.{Alike}
 use Rattle.search_nogoods.specs.Nogoods.{slotAt, valueAt, marksAt, countOf}
 use Rattle.search_learning.specs.Rows.{ExcludedRow, StruckBy}
-use Rattle.search_chase.specs.Parts.{ReadyPlan, sheetBy, Proper, Levelled, OpenNode, TriedRows, Failed, Going, RefutedAs, Nogoods}
-use Rattle.search_chase.proofs.Columns.{row-at}
-use Rattle.search_chase.proofs.Levels.{row-constants, relaxed-same}
+use Rattle.search_task.specs.Task.{ReadyPlan, sheetBy}
+use Rattle.search_chase.specs.Parts.{Proper, Levelled, OpenNode, TriedRows, Failed, Going, RefutedAs, Nogoods}
+use Rattle.search_task.proofs.Columns.{row-at}
+use Rattle.search_task.proofs.ReadyLaws.{row-constants}
+use Rattle.search_chase.proofs.Levels.{relaxed-same}
 use Rattle.search_chase.proofs.Nogoods.{refuted-more, struck-row}
 use Rattle.search_chase.proofs.Symmetry.{alike-refuted}
 use Rattle.search_nogoods.specs.Sizes.{most-choices}
-use Rattle.search_chase.specs.declared.Goal.{Goal}
+use Rattle.search_task.specs.declared.Goal.{Goal}
 
 pub refuted-struck : (r : Bool) (p ws lv u : List ℕ) (last k : ℕ) (below : List Bool) (sl : List ℕ) (sm old marks : List Bool) → StruckBy r p u k sl sm old marks → RefutedAs r p ws lv u last k below sl sm old marks
 refuted-struck true p ws lv u last k below sl sm old marks s = inr s

@@ -3,25 +3,22 @@ use mathlib.Core.Path.{_≡_}
 use mathlib.Core.Bool.{Bool, true, false, cond}
 use mathlib.Core.List.{List, [], _∷_}
 use mathlib.Core.Logic.{_⊎_}
-use Prim.Native.Nat.{ℕ, _+_, _-_, _*_, _<_, _≤_, min}
+use Prim.Native.Nat.{ℕ, _+_, _-_, _<_, _≤_, min}
 use lib.Dec.{ltb}
 use lib.ListN.{length, getD}
-use Rattle.query_layout.specs.Layout.{names}
 use Rattle.sheet_format.specs.Limits.{most-atoms}
-use Rattle.tableau_layout.specs.Layout.{slot-end, question-block, list-block, view-block}
-use Rattle.query_meaning.specs.Meaning.{Block, In}
-use Rattle.query_meaning.specs.Blocks.{nth}
-use Rattle.query_encoding.specs.Encoding.{Shaped, padded}
+use Rattle.tableau_layout.specs.Layout.{slot-end, list-block, view-block}
+use Rattle.query_meaning.specs.Meaning.{In}
+use Rattle.query_encoding.specs.Encoding.{padded}
 use Rattle.case_verdicts.specs.Verdict.{Sheet}
 use Rattle.case_verdicts.specs.Handed.{Stands}
 use Rattle.case_verdicts.specs.Sheets.{top}
-use Rattle.case_verdicts.specs.Accepted.{PlainTable, FineSheet}
-use Rattle.case_verdicts.specs.Tableau.{State, Copy, jobs, numbered, copy, Meets, Good, bare}
+use Rattle.case_verdicts.specs.Tableau.{State, Copy, jobs, numbered, copy, Meets, Good}
 use Rattle.case_verdicts.specs.Search.{free, equations, Clash, Below, Refuted, RefutedBy}
 use Rattle.case_verdicts.specs.Words.{stateOf}
-use Rattle.query_join.specs.Joins.{headRow}
 use Rattle.query_answers.specs.Answers.{WitnessAt}
-use Rattle.tableau_plan.specs.Plan.{Plan, listCount, viewCount, askedSize, rowCount, rowAt, rowValues, blockNumbers, blockSize, tableauSize, tableauFacts}
+use Rattle.tableau_plan.specs.Plan.{listCount, rowCount, rowAt, rowValues, blockNumbers, blockSize}
+use Rattle.search_task.specs.Task.{Settled, askedRow}
 use Rattle.search_state.specs.State.{made-up-slots, Fresh, Equated}
 use Rattle.search_state.specs.Parts.{Own}
 use Rattle.tableau_parts.specs.Views.{GivenToList, StrayAt, NoStray}
@@ -30,35 +27,6 @@ use Rattle.search_conflict.specs.Conflict.{kept, relaxed, Rests, Marked, HeadMa
 use Rattle.search_symmetry.specs.Symmetry.{Alike}
 use Rattle.search_nogoods.specs.Nogoods.{slotAt, valueAt, marksAt, countOf}
 use Rattle.search_learning.specs.Rows.{ExcludedRow}
-use Rattle.search_chase.specs.declared.Goal.{Goal}
-use Rattle.search_chase.specs.declared.Goal.the-variants.{Counterexample, Agreement}
-
--- a plan of an accepted sheet
-pub record ReadyPlan (p : List ℕ) (x : Sheet) : Type 0 where
-  pub plan : Plan p x
-  pub accepted : FineSheet top x
-  pub plain : PlainTable (x .table)
-  pub question : Shaped (x .question)
-  pub lists : (l : Block) → In l (x .lists) → Shaped l × (length (l .head) ≡ length (x .question .head))
-  pub views : (v : ℕ) → v < viewCount p → Shaped (nth (x .views) v .block)
-
--- the question is asked where a counterexample is searched for
-abbrev pub asks : Goal → Bool
-asks Counterexample = true
-asks Agreement = false
-
--- the sheet itself, or the bare sheet, whose cases are the agreeing logs; and where its atoms start in the tableau
-abbrev pub sheetBy : Goal → Sheet → Sheet
-sheetBy Counterexample x = x
-sheetBy Agreement x = bare x
-
-abbrev pub fromBy : Goal → List ℕ → ℕ
-fromBy Counterexample p = 0
-fromBy Agreement p = askedSize p
-
--- the facts of a state, in numbers
-abbrev pub numbersOf : Goal → List ℕ → State → List ℕ
-numbersOf goal p s = tableauFacts p s (fromBy goal p) (tableauSize p - fromBy goal p)
 
 -- each word is a constant, or the own made-up value of its slot
 pub record Proper (ws : List ℕ) : Type 0 where
@@ -77,10 +45,6 @@ pub record Fitting (x : Sheet) (u r : List ℕ) : Type 0 where
   pub right-is : r ≡ padded right
   pub same : length left ≡ length right
   pub stands : (n : ℕ) → In n right → Stands x n
-
--- the copies' heads are what they must be
-abbrev pub Settled : Sheet → State → Type 0
-Settled y s = (c : Copy) → In c (numbered (jobs y)) → Meets (copy s (c .number)) (c .job)
 
 -- a good state was found, and stands in the words
 pub record StateFound (x y : Sheet) (out : List ℕ) : Type 0 where
@@ -136,21 +100,17 @@ pub record GivenBy (p ns ws lv : List ℕ) (from : ℕ) (marks : List Bool) (b :
   pub old : List Bool
   pub marked : Marked p ws lv from at (min (blockSize p b) most-atoms) old marks
 
--- the question's head
-abbrev pub askedRow : List ℕ → List ℕ → List ℕ
-askedRow p ws = headRow (λ z. stateOf top ws (0 * names + z)) (blockNumbers p question-block)
-
 -- a list is given the question's head, and the choices of the facts and of the head are marked
 pub record Shut (p ns ws lv : List ℕ) (marks : List Bool) : Type 0 where
   pub list : ℕ
   pub inside : list < listCount p
   pub mid : List Bool
-  pub given : GivenBy p ns ws lv 0 mid (list-block list) (askedRow p ws)
+  pub given : GivenBy p ns ws lv 0 mid (list-block list) (askedRow p (stateOf top ws))
   pub head : HeadMarked p ws lv 4 mid marks
 
 abbrev pub ShutBy : Bool → List ℕ → List ℕ → List ℕ → List ℕ → List Bool → Type 0
 ShutBy true p ns ws lv marks = Shut p ns ws lv marks
-ShutBy false p ns ws lv marks = GivenToList p ns (askedRow p ws) → ⊥
+ShutBy false p ns ws lv marks = GivenToList p ns (askedRow p (stateOf top ws)) → ⊥
 
 -- what stray rows alone say: one, whose facts' choices are marked, or none
 abbrev pub ByStrays : Bool → Bool → List ℕ → List ℕ → List ℕ → List ℕ → ℕ → List Bool → ℕ → List ℕ → Type 0

@@ -5,11 +5,11 @@ use query_layout::NAMES;
 use search_nogoods::MOST_CHOICES;
 use search_nogoods::NOGOOD_MARKS;
 use search_nogoods::NOGOOD_NUMBERS;
+use search_task::Goal;
 use sheet_format::MOST_ATOMS;
 use sheet_format::MOST_LISTS;
 use sheet_format::MOST_ROWS;
 use sheet_format::MOST_VIEWS;
-use tableau_layout::ASKED_SIZE_AT;
 use tableau_layout::BLOCKS_AT;
 use tableau_layout::LIST_BLOCKS;
 use tableau_layout::PLAN_NUMBERS;
@@ -34,11 +34,11 @@ ghost use Rattle.search_state.specs.State.{Fresh, Constants};
 ghost use Rattle.search_state.specs.Parts.{Own};
 ghost use Rattle.tableau_parts.specs.Views.{GivenAt};
 ghost use Rattle.tableau_parts.specs.Walks as walks;
-ghost use Rattle.search_chase.specs.Parts.{ReadyPlan, Proper, sheetBy, fromBy, numbersOf, NodeBy, GivenBy, ShutBy, ByStrays, TakenBy, AssignedIfTaken, JumpsBy, roundFrom, Started, Levelled, FoundOrLost, Nogoods, RefutedAs, Heads, HeadsBy, FoundBy};
+ghost use Rattle.search_task.specs.Task.{ReadyPlan, sheetBy, fromBy, numbersOf};
+ghost use Rattle.search_chase.specs.Parts.{Proper, NodeBy, GivenBy, ShutBy, ByStrays, TakenBy, AssignedIfTaken, JumpsBy, roundFrom, Started, Levelled, FoundOrLost, Nogoods, RefutedAs, Heads, HeadsBy, FoundBy};
 ghost use Rattle.case_verdicts.specs.Verdict.{Sheet};
 ghost use Rattle.search_nogoods.specs.Sizes.{most-choices, nogood-numbers, nogood-marks};
-ghost use Rattle.search_chase.specs.Parts as specs;
-ghost use Rattle.search_chase.specs.declared.Goal.{Goal};
+ghost use Rattle.search_task.specs.declared.Goal.{Goal};
 
 // A search goes no deeper than there are slots.
 const DEPTH: usize = SLOTS + 1;
@@ -66,22 +66,6 @@ fn head_of(p: &[usize; PLAN_NUMBERS], st: &[usize], b: usize, k: usize) -> [usiz
         head_value(p, st, b, k, 2),
         head_value(p, st, b, k, 3),
     ]
-}
-
-// What is searched for: a case of the sheet, or a log that agrees with its views, whatever the question is.
-pub enum Goal {
-    Counterexample,
-    Agreement,
-}
-
-// Whether the question is asked.
-fn asks(goal: Goal) -> bool
-    ensures { λ r. ⌜ r ≡ specs.asks goal ⌝ }
-{
-    match goal {
-        Goal::Counterexample => true,
-        Goal::Agreement => false,
-    }
 }
 
 // What a state is found to be: done and good, done and refuted, or open, with a stray row of a view, whether several listed rows fit it, and which
@@ -302,23 +286,13 @@ fn by_facts(
     requires { ⌜ (length (now st) ≡ slot-end) × (length (now lv) ≡ slot-end) ⌝ }
     ensures { λ r. ⌜ ((x : Sheet) → ReadyPlan (now (p .entry)) x → Proper (now (st .entry)) → from ≡ fromBy goal (now (p .entry)) → now (facts .entry) ≡ numbersOf goal (now (p .entry)) (stateOf top (now (st .entry))) → NodeBy (r .done) (r .good) (now (p .entry)) x (sheetBy goal x) (now (st .entry)) (now (lv .entry)) (now (marks .exit)) (r .view) (r .values)) ⌝ }
 {
-    if !asks(goal) {
+    if !search_task::asks(goal) {
         return by_strays(p, st, lv, from, facts, marks, u);
     }
     if is_shut(p, st, lv, facts, marks) {
         return ended(false);
     }
     by_strays(p, st, lv, from, facts, marks, u)
-}
-
-// Where a state's facts start in the tableau.
-fn start(p: &[usize; PLAN_NUMBERS], goal: Goal) -> usize
-    ensures { λ r. ⌜ r ≡ fromBy goal (now (p .entry)) ⌝ }
-{
-    if asks(goal) {
-        return 0;
-    }
-    p[ASKED_SIZE_AT]
 }
 
 // What a state is found to be, with the question or without, where u is the stray row that has become a listed one. The choices that this rests on
@@ -336,7 +310,7 @@ fn judge_state(
 {
     search_choices::clear(marks);
     let mut room = [0; TABLEAU_NUMBERS];
-    let from = start(p, goal);
+    let from = search_task::start(p, goal);
     let n = search_state::facts(p, st, from, &mut room);
     if TABLEAU_ATOMS < n {
         return ended(false);

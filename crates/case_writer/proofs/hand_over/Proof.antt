@@ -4,7 +4,7 @@ use native.Mathlib.Omega.{arith}
 use borrow.Author.Needs.{needs}
 use lib.ListN.{length, take}
 use lib.Seq.{length-take-le}
-use Rattle.search_chase.proofs.NodeLaws.{ready-views}
+use Rattle.search_task.proofs.NodeLaws.{ready-views}
 use Rattle.case_writer.proofs.Handing.{written}
 use Rattle.case_writer.proofs.hand_over.Statement.{statement}
 use Rattle.case_writer.proofs.hand_over.Tie as tie

@@ -30,7 +30,8 @@ use Rattle.search_chase.proofs.+seek.Tie.{close}
 use Rattle.case_verdicts.specs.Verdict.{Sheet}
 use Rattle.tableau_plan.specs.Plan.{rowValues, rowCount}
 use Rattle.search_learning.specs.Rows.{Learned}
-use Rattle.search_chase.specs.Parts.{ReadyPlan, Started, Levelled, Nogoods, Going, sheetBy, roundFrom}
+use Rattle.search_task.specs.Task.{ReadyPlan, sheetBy}
+use Rattle.search_chase.specs.Parts.{Started, Levelled, Nogoods, Going, roundFrom}
 use Rattle.search_chase.proofs.Levels.{done-by, open-by, take-at, going-first, going-passed, going-found, going-jumped, going-taken, going-all, jumps-yes, jumps-no}
 use Rattle.search_chase.proofs.Tries.{going-refuted, going-kept}
 use Rattle.search_nogoods.specs.Sizes.{nogood-numbers, nogood-marks}

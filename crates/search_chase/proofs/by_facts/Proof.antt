@@ -1,5 +1,6 @@
 use Rattle.search_chase.proofs.Conflicts.{found, shut-by}
-use Rattle.search_chase.proofs.NodeLaws.{ready-views, unasked, room-for, shut-yes, shut-no}
+use Rattle.search_task.proofs.NodeLaws.{ready-views, unasked, room-for}
+use Rattle.search_chase.proofs.NodeLaws.{shut-yes, shut-no}
 use Rattle.case_verdicts.specs.Words.{stateOf}
 use Rattle.case_verdicts.specs.Sheets.{top}
 use borrow.Author.Tests.{not-true, not-false}

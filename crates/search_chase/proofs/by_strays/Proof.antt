@@ -1,4 +1,5 @@
-use Rattle.search_chase.proofs.NodeLaws.{none-left, stray-is}
+use Rattle.search_task.proofs.NodeLaws.{stray-is}
+use Rattle.search_chase.proofs.NodeLaws.{none-left}
 use borrow.Author.Tests.{not-true, not-false}
 use mathlib.Core.Path.{_≡_, refl, sym, ap, _∙_}
 use mathlib.Core.Logic.{⊎-elim}

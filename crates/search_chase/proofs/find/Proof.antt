@@ -7,7 +7,7 @@ use borrow.Author.Tests.{not-true, not-false}
 use lib.ListN.{replicate}
 use Rattle.tableau_layout.specs.Layout.{slot-end}
 use Rattle.search_nogoods.proofs.Laws.{none-there}
-use Rattle.search_chase.specs.Parts.{sheetBy}
+use Rattle.search_task.specs.Task.{sheetBy}
 use Rattle.search_chase.proofs.Levels.{levelled-first}
 use Rattle.search_chase.proofs.Copies.{heads-no, heads-yes, heads-begin, found-by, found-yes, found-no}
 use borrow.Author.Needs.{needs}

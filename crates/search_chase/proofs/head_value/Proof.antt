@@ -4,7 +4,10 @@ use Prim.Native.Nat.{ℕ, _≤_, _<_, _-_, _%_, _+_, _*_}
 use native.Mathlib.Omega.{arith}
 use lib.ListN.{length, getD}
 use borrow.Author.Needs.{needs}
-use Rattle.search_chase.proofs.Heads.{head-variable, head-constant}
+use Rattle.list_laws.proofs.Lists.{inside}
+use Rattle.case_verdicts.specs.Sheets.{top}
+use Rattle.case_verdicts.specs.Words.{stateOf}
+use Rattle.search_task.proofs.Heads.{head-variable, head-constant}
 use Rattle.search_chase.proofs.head_value.Statement.{statement}
 use Rattle.search_chase.proofs.head_value.Tie as tie
 use Rattle.search_chase.proofs.head_value.Reads as reads
@@ -41,10 +44,12 @@ shared-slice-read-result : tie.Need-shared-slice-read-result
 shared-slice-read-result c = search needs
 
 returns : tie.Need-returns
-returns c = let a = c .before .before .before .args in head-variable (a .p .now) (a .st .now) (a .b) (a .k) (a .c) (omega arith) (omega arith) (omega arith) (c .before .if1 .taken)
+returns c =
+    let a = c .before .before .before .args in
+    inside (a .st .now) _ 0 _ (omega arith) ∙ head-variable (a .p .now) (stateOf top (a .st .now)) (a .b) (a .k) (a .c) (omega arith) (c .before .if1 .taken)
 
 returns-2 : tie.Need-returns-2
-returns-2 c = let a = c .before .before .args in head-constant (a .p .now) (a .st .now) (a .b) (a .k) (a .c) (omega arith) (omega arith) (omega arith) (c .if1 .left)
+returns-2 c = let a = c .before .before .args in head-constant (a .p .now) (stateOf top (a .st .now)) (a .b) (a .k) (a .c) (omega arith) (c .if1 .left)
 
 pub head-value-spec : {M : Type 1} → statement M
 head-value-spec =

@@ -1,4 +1,4 @@
-use Rattle.search_chase.proofs.NodeLaws.{from-few, numbers-by}
+use Rattle.search_task.proofs.NodeLaws.{from-few, numbers-by}
 use Rattle.case_verdicts.specs.Words.{stateOf}
 use Rattle.case_verdicts.specs.Sheets.{top}
 use lib.Seq.{length-take-le}
@@ -15,7 +15,7 @@ use Rattle.search_chase.proofs.judge_state.Lts as lts
 use Rattle.search_choices.proofs.clear.Reads as clear-reads
 use Rattle.search_chase.proofs.by_facts.Reads as by-facts-reads
 use Rattle.search_chase.proofs.ended.Reads as ended-reads
-use Rattle.search_chase.proofs.start.Reads as start-reads
+use Rattle.search_task.proofs.start.Reads as start-reads
 use Rattle.search_state.proofs.facts.Reads as facts-reads
 
 clear-requires : tie.Need-clear-requires

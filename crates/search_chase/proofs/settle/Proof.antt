@@ -10,7 +10,8 @@ use Rattle.case_verdicts.specs.Verdict.{Sheet}
 use Rattle.case_verdicts.specs.Sheets.{top}
 use Rattle.case_verdicts.specs.Search.{free}
 use Rattle.case_verdicts.specs.Words.{stateOf}
-use Rattle.search_chase.specs.Parts.{ReadyPlan, sheetBy, Heads, HeadsBy}
+use Rattle.search_task.specs.Task.{ReadyPlan, sheetBy}
+use Rattle.search_chase.specs.Parts.{Heads, HeadsBy}
 use Rattle.search_chase.proofs.Copies.{heads-free, heads-rows, heads-no, heads-yes}
 use lib.ListN.{length, getD}
 use Rattle.search_chase.proofs.settle.Statement.{statement}
@@ -19,7 +20,7 @@ use Rattle.search_chase.proofs.settle.Reads as reads
 use Rattle.search_chase.proofs.settle.Lts as lts
 use Rattle.tableau_parts.proofs.row_count.Reads as row-count-reads
 use Rattle.search_chase.proofs.settle_row.Reads as settle-row-reads
-use Rattle.search_chase.specs.declared.Goal.{Goal}
+use Rattle.search_task.specs.declared.Goal.{Goal}
 
 abbrev Inv-loop : tie.InvT-loop
 Inv-loop p st₀ listed i₀ st i = (length st ≡ slot-end) × (i ≤ listed) × ((x : Sheet) → ReadyPlan p x → (goal : Goal) → stateOf top st₀ ≡ free top → Heads x (sheetBy goal x) st i)

@@ -5,9 +5,12 @@ use native.Mathlib.Omega.{arith}
 use lib.ListN.{length, getD}
 use borrow.Author.Needs.{needs}
 use Rattle.tableau_layout.specs.Layout.{view-block}
+use Rattle.case_verdicts.specs.Sheets.{top}
+use Rattle.case_verdicts.specs.Words.{stateOf}
 use Rattle.search_state.specs.State.{Fresh, Constants, EquatedBy}
 use Rattle.search_state.specs.Parts.{Own}
-use Rattle.search_chase.proofs.Copies.{settled-by, head-numbers}
+use Rattle.search_task.proofs.Copies.{head-numbers}
+use Rattle.search_chase.proofs.Copies.{settled-by}
 use Rattle.search_chase.proofs.settle_row.Statement.{statement}
 use Rattle.search_chase.proofs.settle_row.Tie as tie
 use Rattle.search_chase.proofs.settle_row.Reads as reads
@@ -57,7 +60,7 @@ returns-2 c =
     let e = c .before .before .before .before .before .before .values-at .ensures (search needs) in
     let q = c .before .before .equate in
     settled-by (s .args .p .now) x r goal (s .args .st .now) (s .args .i) lt h (q .result) (u .result) (q .last .0)
-    (u .ensures ∙ head-numbers (s .args .p .now) x r goal (s .args .st .now) (s .args .i) lt h _ _ (omega arith) (ap view-block v))
+    (u .ensures ∙ head-numbers (s .args .p .now) x r (s .args .i) lt (stateOf top (s .args .st .now)) _ _ (omega arith) (ap view-block v))
     (subst (λ w. Own (s .args .st .now) → Fresh (s .args .st .now) (u .result) → Constants w → EquatedBy (q .result) (s .args .st .now) (q .last .0) (u .result) w × Own (q .last .0)) e (q .ensures (ap length (u .ensures)) (ap length e)))
 
 pub settle-row-spec : {M : Type 1} → statement M

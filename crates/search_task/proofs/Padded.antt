@@ -1,15 +1,14 @@
 -- Equations between rows, and between the same rows with their unused columns.
 use mathlib.Core.Path.{_≡_, refl, sym, ap, _∙_, subst}
-use mathlib.Core.List.{List, [], _∷_, _++_}
+use mathlib.Core.List.{List, [], _∷_, _++_, map}
 use mathlib.Core.Logic.{inl, inr, ⊎-elim}
-use Prim.Native.Nat.{ℕ, zero, suc, _-_}
+use Prim.Native.Nat.{ℕ, _-_}
 use native.Mathlib.Omega.{arith}
 use lib.ListN.{length, replicate}
-use Rattle.query_meaning.specs.Meaning.{In}
 use Rattle.query_encoding.specs.Encoding.{padded}
 use Rattle.case_verdicts.specs.Verdict.{Sheet}
 use Rattle.case_verdicts.specs.Tableau.{State}
-use Rattle.case_verdicts.specs.Search.{Equation, equations, Met, RefutedBy}
+use Rattle.case_verdicts.specs.Search.{Equation, _≈_, equations, Met, RefutedBy}
 
 -- the same rows have nothing to equate
 met-same : (h : ℕ → ℕ) (l : List ℕ) → Met h (equations l l)
@@ -29,3 +28,10 @@ met-padded h ms ns e w = subst (λ k. Met h (equations (padded ms) (ns ++ replic
 -- refuted with the unused columns, refuted without
 pub refuted-padded : (top : ℕ) (y : Sheet) (s : State) (ms ns : List ℕ) → length ms ≡ length ns → RefutedBy top y s (equations (padded ms) (padded ns)) → RefutedBy top y s (equations ms ns)
 refuted-padded top y s ms ns e r = record { none = λ t b met good. r .none t b (met-padded (b .to) ms ns e met) good }
+
+-- equations met, with the unused columns: the rows are made the same
+pub same-met : (h : ℕ → ℕ) (ms ns k l : List ℕ) → length ms ≡ length ns → Met h (equations (ms ++ k) (ns ++ l)) → map h ms ≡ map h ns
+same-met h [] [] k l e w = refl
+same-met h [] (n ∷ ns) k l e w = absurd (omega arith)
+same-met h (m ∷ ms) [] k l e w = absurd (omega arith)
+same-met h (m ∷ ms) (n ∷ ns) k l e w = ap (λ q. q ∷ map h ms) (w (m ≈ n) (inl refl)) ∙ ap (λ q. h n ∷ q) (same-met h ms ns k l (omega arith) (λ f i. w f (inr i)))

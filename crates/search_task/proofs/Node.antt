@@ -2,29 +2,27 @@
 use mathlib.Core.Path.{_≡_, refl, sym, ap, _∙_, subst}
 use mathlib.Core.List.{List, [], _∷_, _++_, map}
 use mathlib.Core.Logic.{_⊎_, inl, inr, ⊎-elim}
-use Prim.Native.Nat.{ℕ, zero, suc, _+_, _-_, _<_, _≤_}
+use Prim.Native.Nat.{ℕ, suc, _<_}
 use native.Mathlib.Nat.{min-eq-left}
 use native.Mathlib.Omega.{arith}
 use lib.IntN.{pos}
-use lib.ListN.{length, getD, length-map}
+use lib.ListN.{length, length-map}
 use Rattle.case_verdicts.proofs.Plain.{no-keys}
 use Rattle.tableau_layout.specs.Layout.{list-block, view-block}
-use Rattle.sheet_format.specs.Relations.{relations, columnsAt, columnsOf}
-use Rattle.sheet_format.specs.Line.{gather}
+use Rattle.sheet_format.specs.Relations.{columnsOf}
 use Rattle.sheet_format.proofs.Lists.{append-nil}
-use Rattle.query_meaning.specs.Meaning.{Term, con, var, Fact, Log, Block, In, row, Holds, Answer}
-use Rattle.query_meaning.specs.Blocks.{View, nth, nowhere}
+use Rattle.query_meaning.specs.Meaning.{Term, con, var, Log, Block, In, row, Answer}
+use Rattle.query_meaning.specs.Blocks.{View, nth}
 use Rattle.query_join.specs.Joins.{Given}
 use Rattle.query_encoding.specs.Encoding.{BlockNumbers, FactNumbers, Shaped, ShapedLog, padded}
 use Rattle.query_encoding.proofs.Bridge.{answer-given, head-length, holds-by, head-row}
 use Rattle.query_encoding.proofs.Order.{pad-same}
 use Rattle.query_facts.proofs.Laws.{columns-most}
 use Rattle.query_blocks.proofs.Shape.{from-map}
-use Rattle.case_verdicts.specs.Table.{Table, relation, unknown, parents, owed, SameKey, Formed}
 use Rattle.case_verdicts.specs.Verdict.{Sheet}
-use Rattle.case_verdicts.specs.Sheets.{plain, ten, top}
+use Rattle.case_verdicts.specs.Sheets.{plain, top}
 use Rattle.case_verdicts.specs.Accepted.{Fine, FineSheet, PlainTable}
-use Rattle.case_verdicts.specs.Tableau.{Job, State, Copy, jobs, numbered, copy, facts, tableauLog, withParents, headOf, Meets, Good}
+use Rattle.case_verdicts.specs.Tableau.{Job, State, Copy, jobs, numbered, copy, tableauLog, headOf, Meets, Good}
 use Rattle.case_verdicts.specs.Search.{Keeps, equations, lines, Refuted, RefutedBy, Alternatives}
 use Rattle.case_verdicts.proofs.Tableau.{log-formed}
 use Rattle.case_verdicts.proofs.Reduce.{row-con}
@@ -32,7 +30,7 @@ use Rattle.case_verdicts.proofs.Refute.{list-gives, view-gives, copy-gives, ste
 use Rattle.tableau_plan.specs.Plan.{rowAt, rowValues, rowCount, viewCount, blockNumbers, blockSize, Plan}
 use Rattle.tableau_plan.proofs.Whole.{nth-in}
 use Rattle.tableau_parts.specs.Views.{GivenAt, ListedRow, StrayAt, NoStray}
-use Rattle.search_chase.proofs.Padded.{refuted-padded}
+use Rattle.search_task.proofs.Padded.{refuted-padded}
 
 -- ---- a task: the sheet itself, or the bare sheet, whose cases are the agreeing logs
 

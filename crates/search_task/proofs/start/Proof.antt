@@ -1,9 +1,9 @@
--- `search_chase::start` meets its contract: the question's atoms stand in front. Assumes nothing.
+-- `search_task::start` meets its contract: the question's atoms stand in front. Assumes nothing.
 use mathlib.Core.Path.{_≡_, sym, _∙_}
 use borrow.Author.Needs.{needs}
-use Rattle.search_chase.proofs.NodeLaws.{from-asked, from-unasked}
-use Rattle.search_chase.proofs.start.Statement.{statement}
-use Rattle.search_chase.proofs.start.Tie as tie
+use Rattle.search_task.proofs.NodeLaws.{from-asked, from-unasked}
+use Rattle.search_task.proofs.start.Statement.{statement}
+use Rattle.search_task.proofs.start.Tie as tie
 
 asks-requires : tie.Need-asks-requires
 asks-requires c κs = search needs

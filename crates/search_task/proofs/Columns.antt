@@ -1,8 +1,8 @@
 -- Rows column by column.
 use mathlib.Core.Path.{_≡_, refl, sym, ap, _∙_, subst}
 use mathlib.Core.List.{List, [], _∷_, _++_, map}
-use mathlib.Core.Logic.{_⊎_, inl, inr}
-use Prim.Native.Nat.{ℕ, zero, suc, _+_, _-_, _*_, _<_, _≤_}
+use mathlib.Core.Logic.{inl, inr}
+use Prim.Native.Nat.{ℕ, zero, suc, _+_, _<_}
 use native.Mathlib.Omega.{arith}
 use lib.ListN.{length, getD, replicate}
 use Rattle.query_meaning.specs.Meaning.{In}
@@ -15,7 +15,7 @@ same-at [] (n ∷ m) e h = absurd (omega arith)
 same-at (k ∷ l) [] e h = absurd (omega arith)
 same-at (k ∷ l) (n ∷ m) e h = ap (λ z. z ∷ l) (h 0 (omega arith)) ∙ ap (λ z. n ∷ z) (same-at l m (omega arith) (λ c lt. h (suc c) (omega arith)))
 
-zeros-at : (k c : ℕ) → getD (replicate {A = ℕ} k 0) c 0 ≡ 0
+pub zeros-at : (k c : ℕ) → getD (replicate {A = ℕ} k 0) c 0 ≡ 0
 zeros-at zero c = refl
 zeros-at (suc k) zero = refl
 zeros-at (suc k) (suc c) = zeros-at k c
