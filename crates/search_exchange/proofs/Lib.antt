@@ -1,0 +1,4 @@
+pub mod Laws
+pub mod Symmetry
+pub mod Turned
+pub mod Exchange
