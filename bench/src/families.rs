@@ -20,15 +20,33 @@ impl Dice {
     }
 }
 
-/// A sheet with its family and size. The targets for hard sheets are not asked of one that is excused.
+/// A sheet with its family and size. The time for hard sheets is not asked of one that is excused. The verdict is there where it is
+/// known without a search of either kind.
 pub struct Sample {
     pub family: &'static str,
     pub size: String,
     pub sheet: Sheet,
     pub excused: bool,
+    pub verdict: Option<u8>,
+}
+
+impl Sample {
+    pub fn new(family: &'static str, size: String, sheet: Sheet) -> Sample {
+        Sample { family, size, sheet, excused: false, verdict: None }
+    }
+    pub fn is_page(&self) -> bool {
+        self.family.starts_with("pages")
+    }
 }
 
 type Rows = Vec<Vec<i32>>;
+
+/// Facts: relations with their values.
+pub type Log = Vec<(usize, Vec<i32>)>;
+
+const COVERED: u8 = 0;
+const NOT_COVERED: u8 = 1;
+const NO_LOG: u8 = 2;
 
 fn single(values: impl IntoIterator<Item = i32>) -> Rows {
     values.into_iter().map(|v| vec![v]).collect()
@@ -369,10 +387,268 @@ fn pairs(crews: i32, rowers: i32, more: i32, dropped: usize, question: usize) ->
     page(q, l, pairs_views(crews, rowers, more, dropped))
 }
 
+// --- Pigeons, told apart --------------------------------------------------------------------------------------------
+
+const TOLD_APART: &str = "pigeons, told apart";
+
+/// Pigeons into holes, each of which has a coach of its own in another view, so that no hole is like another.
+fn pigeons_told_apart(pigeons: i32, holes: i32) -> Sheet {
+    page(
+        "(): Strap(1)",
+        NEVER,
+        vec![
+            view("(a,b): Beat(a,x), Beat(b,x)", (1..=pigeons).map(|p| vec![p, p]).collect()),
+            view("(x): Beat(a,x)", single(901..=900 + holes)),
+            view("(x,y): Coach(x,y)", (1..=holes).map(|h| vec![900 + h, h]).collect()),
+        ],
+    )
+}
+
+// --- Wide atoms -----------------------------------------------------------------------------------------------------
+
+/// What may not be along an edge from a to b, in one session: the numbers of boats (c, d) or of seats (x, y) that are alike.
+const ALIKE: [(&str, &[&str]); 4] = [
+    ("boat and seat", &["(): Sig(a,b), Seat(a,s,c,x), Seat(b,s,y,c)"]),
+    ("boats", &["(): Sig(a,b), Seat(a,s,c,x), Seat(b,s,c,y)"]),
+    ("boats, seats", &["(): Sig(a,b), Seat(a,s,c,x), Seat(b,s,c,y)", "(): Sig(a,b), Seat(a,s,c,x), Seat(b,s,d,x)"]),
+    ("boats, boat and seat", &["(): Sig(a,b), Seat(a,s,c,x), Seat(b,s,c,y)", "(): Sig(a,b), Seat(a,s,c,x), Seat(b,s,y,c)"]),
+];
+
+/// Rowers with a seat in each of three sessions, from so many numbers of boats and seats; no seat has its boat's number, and along the
+/// edges some are not alike.
+fn wide(graph: &Graph, numbers: i32, alike: usize) -> Sheet {
+    let rowers: BTreeSet<i32> = graph.iter().flat_map(|(a, b)| [*a, *b]).collect();
+    let mut views = vec![
+        view("(a): Seat(a,0,c,x), Seat(a,1,d,y), Seat(a,2,e,z)", single(rowers)),
+        view("(c): Seat(a,s,c,x)", single(901..=900 + numbers)),
+        view("(x): Seat(a,s,c,x)", single(901..=900 + numbers)),
+        view("(a,b): Sig(a,b)", graph.iter().map(|(a, b)| vec![*a, *b]).collect()),
+        view("(): Seat(a,s,c,c)", vec![]),
+    ];
+    views.extend(ALIKE[alike].1.iter().map(|text| view(text, vec![])));
+    page("(): Strap(1)", NEVER, views)
+}
+
+// --- Many choices ---------------------------------------------------------------------------------------------------
+
+/// n rowers with a seat in each of three sessions, boat and seat one of two: six choices each.
+fn six_each(n: i32) -> Vec<View> {
+    vec![
+        view("(a): Seat(a,0,c,x), Seat(a,1,d,y), Seat(a,2,e,z)", single(1..=n)),
+        view("(c): Seat(a,s,c,x)", single([501, 502])),
+        view("(x): Seat(a,s,c,x)", single([1, 2])),
+    ]
+}
+
+/// Six choices for each of n rowers; then four beats that are all joined and have three colours. Covered.
+fn many_then_elsewhere(n: i32) -> Sheet {
+    let mut views = six_each(n);
+    views.push(view("(x,y): Beat(x,y)", unequal(3)));
+    page(FOUR_JOINED, NEVER, views)
+}
+
+/// A ring of rowers, the first or the last ones.
+fn ring(n: i32, length: i32, last: bool) -> Rows {
+    let at = |i: i32| if last { n - i % length } else { 1 + i % length };
+    (0..length).map(|i| vec![at(i), at(i + 1)]).collect()
+}
+
+/// Six choices for each of n rowers; along a ring of an odd number of them no boats of session 1 are alike. No log, or covered where the
+/// list and not a view says so.
+fn many_with_ring(n: i32, length: i32, last: bool, listed: bool) -> Sheet {
+    let mut views = six_each(n);
+    views.push(view("(a,b): Beat(a,b)", ring(n, length, last)));
+    let alike = "(): Beat(a,b), Seat(a,1,c,x), Seat(b,1,c,y)";
+    if listed {
+        return page("(): Strap(1)", alike, views);
+    }
+    views.push(view(alike, vec![]));
+    page("(): Strap(1)", NEVER, views)
+}
+
+// --- Longer chains of parity ----------------------------------------------------------------------------------------
+
+const ODD_AND_EVEN: [[i32; 2]; 8] = [[1, 2], [1, 4], [2, 1], [2, 3], [3, 2], [3, 4], [4, 1], [4, 3]];
+
+/// Odd rates follow even ones, of three in all.
+fn three_rates(n: i32, fits: bool) -> Sheet {
+    let steps = unequal(3).into_iter().filter(|p| (p[0] + p[1]) % 2 == 1).collect();
+    chain(n, steps, if fits { 2 - n % 2 } else { 1 + n % 2 })
+}
+
+/// Two links a row, a pulse and a strap worn, the place between them made up. Along the chain odd rates of pulses come before even ones
+/// that are worn, and the other way about is listed too and has no place: no log.
+fn two_links(rows: i32, rates: i32) -> Sheet {
+    let steps = || ODD_AND_EVEN.iter().filter(|p| p[0] <= rates && p[1] <= rates).map(|p| p.to_vec()).collect::<Rows>();
+    let views = vec![
+        view("(a,d): Pulse(a,b,r), Worn(b,d,s)", (1..=rows).map(|i| vec![i, i + 1]).collect()),
+        view("(r,s): Pulse(a,b,r), Worn(b,c,s)", steps()),
+        view("(r,s): Worn(a,b,r), Pulse(b,c,s)", steps()),
+        view("(r): Pulse(1,b,r)", single([1])),
+    ];
+    page("(): Strap(1)", NEVER, views)
+}
+
+/// Every three pulses on end lead from a place to the next one, so those that start between two places have nowhere to be: no log.
+fn three_on_end(rows: i32) -> Sheet {
+    let views = vec![
+        view("(a,d): Pulse(a,b,r), Pulse(b,c,s), Pulse(c,d,t)", (1..=rows).map(|i| vec![i, i + 1]).collect()),
+        view("(r,s): Pulse(a,b,r), Pulse(b,c,s)", ODD_AND_EVEN.map(|p| p.to_vec()).to_vec()),
+        view("(r): Pulse(1,b,r)", single([1])),
+    ];
+    page("(): Strap(1)", NEVER, views)
+}
+
+/// A ring of n pulses; odd rates follow even ones all the way round.
+fn parity_ring(n: i32) -> Sheet {
+    let views = vec![
+        view("(a,b): Pulse(a,b,r)", (1..=n).map(|i| vec![i, i % n + 1]).collect()),
+        view("(r,s): Pulse(a,b,r), Pulse(b,c,s)", ODD_AND_EVEN.map(|p| p.to_vec()).to_vec()),
+    ];
+    page("(): Strap(1)", NEVER, views)
+}
+
+/// The sum of n bits taken twice, in two orders: each link is a seat that holds the sum so far, a bit and the next sum. The two sums come
+/// out the same, or, where it does not fit, they may not.
+fn parity_twice(order: &[i32], fits: bool) -> Sheet {
+    let n = order.len() as i32;
+    let same = order.iter().enumerate().map(|(at, bit)| vec![1 + bit, n + 1 + at as i32]).collect();
+    let next = (1..2 * n).filter(|a| *a != n).map(|a| vec![a, a + 1]).collect();
+    let alike = || vec![vec![0, 0], vec![1, 1]];
+    let views = vec![
+        view("(a): Seat(a,u,v,w)", single(1..=2 * n)),
+        view("(u,v,w): Seat(a,u,v,w)", vec![vec![0, 0, 0], vec![0, 1, 1], vec![1, 0, 1], vec![1, 1, 0]]),
+        view("(a,b): Beat(a,b)", next),
+        view("(a,b): Noise(a,b)", same),
+        view("(w,u): Beat(a,b), Seat(a,x,y,w), Seat(b,u,z,t)", alike()),
+        view("(v,y): Noise(a,b), Seat(a,u,v,w), Seat(b,x,y,z)", alike()),
+        view(&format!("(u): Seat(1,u,v,w), Seat({},u,x,y)", n + 1), single([0])),
+        view(&format!("(): Seat({n},u,v,w), Seat({},x,y,w)", 2 * n), if fits { vec![vec![]] } else { vec![] }),
+    ];
+    page("(): Strap(1)", NEVER, views)
+}
+
+// --- Exact cover ----------------------------------------------------------------------------------------------------
+
+/// Whether some of these triples hold each x from 1 to m once, and each y and each z of theirs at most once.
+fn has_exact_cover(m: i32, triples: &Rows, taken: &mut Vec<Vec<i32>>) -> bool {
+    let x = 1 + taken.len() as i32;
+    x > m
+        || triples.iter().filter(|t| t[0] == x).any(|t| {
+            if taken.iter().any(|u| u[1] == t[1] || u[2] == t[2]) {
+                return false;
+            }
+            taken.push(t.clone());
+            let found = has_exact_cover(m, triples, taken);
+            taken.pop();
+            found
+        })
+}
+
+/// So many triples of x from 1, y from 101 and z from 201, m of each, that hold each of them; with an exact cover by m of them or without.
+fn some_triples(dice: &mut Dice, m: i32, count: usize, fits: bool) -> Rows {
+    loop {
+        let mut triples = BTreeSet::new();
+        if fits {
+            let mut left: [Vec<i32>; 2] = [(101..=100 + m).collect(), (201..=200 + m).collect()];
+            for x in 1..=m {
+                let [y, z] = &mut left;
+                triples.insert(vec![x, y.remove(dice.below(y.len())), z.remove(dice.below(z.len()))]);
+            }
+        }
+        while triples.len() < count {
+            triples.insert((0..3).map(|c| 100 * c + 1 + dice.below(m as usize) as i32).collect::<Vec<i32>>());
+        }
+        let all = (0..3).all(|c| triples.iter().map(|t| t[c]).collect::<BTreeSet<i32>>().len() == m as usize);
+        let triples: Rows = triples.into_iter().collect();
+        if all && has_exact_cover(m, &triples, &mut Vec::new()) == fits {
+            return triples;
+        }
+    }
+}
+
+/// Of the listed triples those in session 1 hold each x, y and z once.
+fn exact_cover(m: i32, triples: &Rows) -> Sheet {
+    let twice = |first: i32| (first..first + m).map(|i| vec![i, i]).collect::<Rows>();
+    page(
+        "(): Strap(1)",
+        NEVER,
+        vec![
+            view("(x,y,z): Seat(s,x,y,z)", triples.clone()),
+            view("(x,w): Seat(1,x,y,z), Seat(1,w,y,v)", twice(1)),
+            view("(y,w): Seat(1,x,y,z), Seat(1,x,w,v)", twice(101)),
+            view("(z,w): Seat(1,x,y,z), Seat(1,x,v,w)", twice(201)),
+        ],
+    )
+}
+
+/// Whether points can be chosen so that of each triple one is chosen and no more; the first ones are chosen already.
+fn one_of_three(points: i32, triples: &Rows, chosen: &mut Vec<bool>) -> bool {
+    let there = |p: i32| chosen.get(p as usize - 1).copied();
+    let is_open = |t: &Vec<i32>| {
+        let known: Vec<bool> = t.iter().filter_map(|p| there(*p)).collect();
+        let count = known.iter().filter(|c| **c).count();
+        count <= 1 && (known.len() < 3 || count == 1)
+    };
+    if !triples.iter().all(is_open) {
+        return false;
+    }
+    if chosen.len() == points as usize {
+        return true;
+    }
+    for bit in [false, true] {
+        chosen.push(bit);
+        let found = one_of_three(points, triples, chosen);
+        chosen.pop();
+        if found {
+            return true;
+        }
+    }
+    false
+}
+
+/// n triples of n points, each of which is in three of them.
+fn three_each(dice: &mut Dice, n: usize) -> Rows {
+    loop {
+        let mut ends: Vec<i32> = (0..3 * n).map(|i| 1 + (i / 3) as i32).collect();
+        for i in (1..ends.len()).rev() {
+            ends.swap(i, dice.below(i + 1));
+        }
+        let rows: BTreeSet<Vec<i32>> = ends
+            .chunks(3)
+            .map(|c| {
+                let mut row = c.to_vec();
+                row.sort();
+                row
+            })
+            .collect();
+        if rows.len() == n && rows.iter().all(|r| r[0] < r[1] && r[1] < r[2]) {
+            return rows.into_iter().collect();
+        }
+    }
+}
+
+/// Each point is there (1) or not (0); of each listed triple no two are there, and the list finds one of which none is there.
+fn cover_by_points(points: i32, triples: &Rows) -> Sheet {
+    let both = |one: &str, other: &str| view(&format!("(): Worn(i,j,k), Rower({one},1), Rower({other},1)"), vec![]);
+    page(
+        "(): Strap(1)",
+        "(): Worn(i,j,k), Rower(i,0), Rower(j,0), Rower(k,0)",
+        vec![
+            view("(i,j,k): Worn(i,j,k)", triples.clone()),
+            view("(i): Rower(i,c)", single(1..=points)),
+            view("(c): Rower(i,c)", single([0, 1])),
+            both("i", "j"),
+            both("i", "k"),
+            both("j", "k"),
+        ],
+    )
+}
+
 // --- Pages ----------------------------------------------------------------------------------------------------------
 
 /// What stands in each column of each relation: rower, crew, strap, session, tick, rate, coach, boat, seat.
-const KINDS: [&[usize]; 11] =
+pub const KINDS: [&[usize]; 11] =
     [&[], &[0, 1], &[2], &[2, 3, 0], &[2, 4], &[2, 4], &[2, 4], &[2, 4, 5], &[6, 1], &[0, 3, 7, 8], &[3]];
 
 /// How many of each kind a page's log has, and the first number of each.
@@ -435,7 +711,7 @@ fn some_block(dice: &mut Dice, most: usize, relations: &[usize], columns: Option
 }
 
 /// The rows that facts give a block, ascending, at most so many and one more.
-fn rows_of(block: &Block, log: &[(usize, Vec<i32>)], most: usize) -> Rows {
+pub fn rows_of(block: &Block, log: &Log, most: usize) -> Rows {
     let value_of = |v: i32| v as Value;
     let mut facts = Facts::new(200);
     for (relation, values) in log {
@@ -463,7 +739,7 @@ fn some_page(dice: &mut Dice) -> Sheet {
         let relation = dice.one(&relations);
         log.insert((relation, KINDS[relation].iter().map(|k| some_value(dice, *k)).collect::<Vec<i32>>()));
     }
-    let log: Vec<(usize, Vec<i32>)> = log.into_iter().collect();
+    let log: Log = log.into_iter().collect();
     let (question, kinds) = loop {
         let most = 1 + dice.below(4);
         if let Some(found) = some_block(dice, most, &relations, None) {
@@ -528,7 +804,7 @@ pub fn pages() -> Vec<Sample> {
         } else {
             some_page(&mut dice)
         };
-        samples.push(Sample { family: if at % 10 == 9 { "pages, pairs" } else { "pages" }, size: format!("{}", at + 1), sheet, excused: false });
+        samples.push(Sample::new(if at % 10 == 9 { "pages, pairs" } else { "pages" }, format!("{}", at + 1), sheet));
     }
     samples
 }
@@ -537,7 +813,7 @@ pub fn pages() -> Vec<Sample> {
 pub fn hard() -> Vec<Sample> {
     let mut samples = Vec::new();
     let mut add = |family: &'static str, size: String, sheet: Sheet| {
-        samples.push(Sample { family, size, sheet, excused: false });
+        samples.push(Sample::new(family, size, sheet));
     };
     for n in [8, 14, 20, 32] {
         add("choices, then a contradiction", format!("{n}"), choices_first(n));
@@ -638,7 +914,88 @@ pub fn hard() -> Vec<Sample> {
     for (p, h) in [(9, 8), (10, 9)] {
         for columns in 1..=3 {
             let family = ["pigeons", "pigeons, holes of pairs", "pigeons, holes of triples"][columns - 1];
-            samples.push(Sample { family, size: format!("{p} into {h}"), sheet: pigeons(p, h, columns), excused: columns == 3 });
+            samples.push(Sample::new(family, format!("{p} into {h}"), pigeons(p, h, columns)));
+        }
+    }
+    samples.extend(wides(&mut dice));
+    samples.extend(known());
+    samples
+}
+
+/// The families of which each verdict is known beforehand.
+fn known() -> Vec<Sample> {
+    let mut samples = Vec::new();
+    let mut add = |family: &'static str, size: String, verdict: u8, sheet: Sheet| {
+        samples.push(Sample { verdict: Some(verdict), excused: family == TOLD_APART, ..Sample::new(family, size, sheet) });
+    };
+    for (p, h) in [(5, 4), (6, 5), (7, 6), (8, 7), (8, 8)] {
+        add(TOLD_APART, format!("{p} into {h}"), if p > h { NO_LOG } else { NOT_COVERED }, pigeons_told_apart(p, h));
+    }
+    for n in [10, 11, 16, 21, 22, 26, 30] {
+        let choices = 6 * n;
+        add("many choices, then elsewhere", format!("{choices}"), COVERED, many_then_elsewhere(n));
+    }
+    for n in [11, 16, 22, 28, 31] {
+        for length in [3, 5] {
+            for last in [false, true] {
+                let size = format!("{}, {length} {}", 6 * n, if last { "last" } else { "first" });
+                add("many choices, an odd ring", size.clone(), NO_LOG, many_with_ring(n, length, last, false));
+                add("many choices, covered by one", size, COVERED, many_with_ring(n, length, last, true));
+            }
+        }
+    }
+    for n in (3..=30).filter(|n| ![8, 12, 16, 20, 30].contains(n)) {
+        add("chain, parity", format!("{n}"), NO_LOG, parity_chain(n));
+    }
+    for n in [6, 9, 14, 21, 28, 33, 34] {
+        add("chain, parity, three rates", format!("{n}"), NOT_COVERED, three_rates(n, true));
+        add("chain, parity, three rates", format!("{n}, wrong end"), NO_LOG, three_rates(n, false));
+    }
+    for (rows, rates) in [(3, 4), (6, 4), (11, 4), (16, 4), (23, 4), (10, 3), (20, 3), (31, 3)] {
+        add("chain, parity, two links", format!("{}, {rates} rates", 2 * rows), NO_LOG, two_links(rows, rates));
+    }
+    for rows in [2, 5, 10] {
+        add("chain, parity, three on end", format!("{}", 3 * rows), NO_LOG, three_on_end(rows));
+    }
+    for n in [5, 6, 9, 10, 15, 16, 21, 22, 31, 32] {
+        add("chain, parity, ring", format!("{n}"), if n % 2 == 1 { NO_LOG } else { NOT_COVERED }, parity_ring(n));
+    }
+    let mut dice = Dice::new(11);
+    for n in 3..=6 {
+        let mut order: Vec<i32> = (0..n).collect();
+        for fits in [false, true] {
+            for i in (1..order.len()).rev() {
+                order.swap(i, dice.below(i + 1));
+            }
+            let size = format!("{n} bits{}", if fits { "" } else { ", other end" });
+            add("chain, parity, taken twice", size, if fits { NOT_COVERED } else { NO_LOG }, parity_twice(&order, fits));
+        }
+    }
+    for (m, count) in [(3, 8), (4, 10), (4, 16), (5, 15), (5, 25), (6, 18), (6, 22), (7, 19), (8, 16)] {
+        for fits in [true, false] {
+            let triples = some_triples(&mut dice, m, count, fits);
+            let size = format!("{m}, {count}{}", if fits { "" } else { ", none" });
+            add("exact cover, triples", size, if fits { NOT_COVERED } else { NO_LOG }, exact_cover(m, &triples));
+        }
+    }
+    for n in [9, 12, 15, 16, 18, 19] {
+        for at in 1..=3 {
+            let triples = three_each(&mut dice, n);
+            let fits = one_of_three(n as i32, &triples, &mut Vec::new());
+            let size = format!("{n}, {at}{}", if fits { "" } else { ", none" });
+            add("exact cover, points", size, if fits { NOT_COVERED } else { COVERED }, cover_by_points(n as i32, &triples));
+        }
+    }
+    samples
+}
+
+/// Rowers with wide atoms, and edges among them.
+fn wides(dice: &mut Dice) -> Vec<Sample> {
+    let mut samples = Vec::new();
+    for (rowers, edges, numbers) in [(5, 7, 3), (7, 10, 3), (9, 15, 3), (10, 20, 3), (12, 22, 3), (14, 20, 3), (10, 22, 4), (8, 20, 4)] {
+        for (alike, (name, _)) in ALIKE.iter().enumerate() {
+            let graph = random_graph(dice, rowers, edges);
+            samples.push(Sample::new("wide atoms", format!("{rowers}, {edges}, {numbers}, {name}"), wide(&graph, numbers, alike)));
         }
     }
     samples

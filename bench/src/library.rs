@@ -3,7 +3,7 @@
 //! Either way a run is a process of its own with a time limit and 256 KiB of stack, so that neither a hang nor an overflow stops
 //! the benchmark.
 
-use std::io::{Read, Write};
+use std::io::{BufRead, BufReader, Read, Write};
 use std::path::PathBuf;
 use std::process::{Command, Stdio};
 use std::sync::mpsc;
@@ -15,7 +15,8 @@ pub const STACK: usize = 256 * 1024;
 pub enum Run {
     /// What the program cover prints or would print, the time of one judgement, and the bytes of stack that it used (0: not known).
     Done(String, Duration, usize),
-    Hang,
+    /// It did not end in the time that it was given.
+    Hang(Duration),
     /// It stopped without an answer, as it does when the stack is not enough.
     Crash,
 }
@@ -132,28 +133,40 @@ fn used() -> usize {
     PAINTED - PAGE * (0..PAINTED / PAGE).take_while(|page| changed(*page) <= 16).count()
 }
 
-/// What a run of the program in this process prints: the nanoseconds of the fastest of some judgements, the stack that the first one
-/// used, and the last answer.
-pub fn run_here() {
-    let mut sheet = Vec::new();
-    std::io::stdin().read_to_end(&mut sheet).unwrap();
+/// The first judgement's stack, the time of the fastest of some, and what the program cover would print.
+fn timed(sheet: &[u8], time: Duration) -> (usize, Duration, String) {
+    let mut words = [0i32; 640];
+    paint();
+    let _ = library_judge(sheet, &mut words);
+    let stack = used();
+    let (mut best, start) = (Duration::MAX, Instant::now());
+    loop {
+        let one = Instant::now();
+        let outcome = library_judge(sheet, &mut words);
+        best = best.min(one.elapsed());
+        if start.elapsed() > time {
+            return (stack, best, printed(sheet, &outcome, &words));
+        }
+    }
+}
+
+/// What runs of the library in this process print of each sheet that is given, after a line with its length: a line with the bytes of the
+/// answer, the nanoseconds and the stack, and the answer. The first word is the microseconds for each.
+pub fn run_here(words: &[String]) {
+    let time = Duration::from_micros(words[0].parse().unwrap());
+    let mut data = Vec::new();
+    std::io::stdin().read_to_end(&mut data).unwrap();
     let judged = move || {
-        let mut words = [0i32; 640];
-        paint();
-        let _ = library_judge(&sheet, &mut words);
-        let stack = used();
-        let (mut best, start) = (Duration::MAX, Instant::now());
-        loop {
-            let one = Instant::now();
-            let outcome = library_judge(&sheet, &mut words);
-            best = best.min(one.elapsed());
-            if start.elapsed() > Duration::from_millis(20) {
-                return (best, stack, outcome, words, sheet);
-            }
+        let mut rest = &data[..];
+        while let Some(at) = rest.iter().position(|b| *b == 10) {
+            let length: usize = std::str::from_utf8(&rest[..at]).unwrap().parse().unwrap();
+            let (stack, best, text) = timed(&rest[at + 1..at + 1 + length], time);
+            print!("{} {} {stack}\n{text}", text.len(), best.as_nanos());
+            std::io::stdout().flush().unwrap();
+            rest = &rest[at + 1 + length..];
         }
     };
-    let (best, stack, outcome, words, sheet) = std::thread::Builder::new().stack_size(STACK).spawn(judged).unwrap().join().unwrap();
-    print!("{} {stack}\n{}", best.as_nanos(), printed(&sheet, &outcome, &words));
+    std::thread::Builder::new().stack_size(STACK).spawn(judged).unwrap().join().unwrap();
 }
 
 /// The program cover: what COVER names, or the one that is built at the repository's root.
@@ -164,17 +177,20 @@ pub fn program() -> PathBuf {
 
 /// Runs the library on a sheet. Without the linked library the time is that of a process, and `floor` is taken off.
 pub fn run(sheet: &[u8], limit: Duration, floor: Duration) -> Run {
-    let mut command = if is_linked() {
-        let mut command = Command::new(std::env::current_exe().unwrap());
-        command.arg("library");
-        command
-    } else {
-        let mut command = Command::new("/bin/sh");
-        command.arg("-c").arg(format!("ulimit -s {}; exec \"$0\"", STACK / 1024)).arg(program()).env_clear();
-        command
-    };
+    if is_linked() {
+        return run_many(&[sheet], limit, Duration::from_millis(20)).remove(0);
+    }
     let start = Instant::now();
-    let mut child = command.stdin(Stdio::piped()).stdout(Stdio::piped()).stderr(Stdio::null()).spawn().expect("a process");
+    let mut child = Command::new("/bin/sh")
+        .arg("-c")
+        .arg(format!("ulimit -s {}; exec \"$0\"", STACK / 1024))
+        .arg(program())
+        .env_clear()
+        .stdin(Stdio::piped())
+        .stdout(Stdio::piped())
+        .stderr(Stdio::null())
+        .spawn()
+        .expect("a process");
     let (mut stdin, mut stdout) = (child.stdin.take().unwrap(), child.stdout.take().unwrap());
     let _ = stdin.write_all(sheet);
     drop(stdin);
@@ -187,17 +203,60 @@ pub fn run(sheet: &[u8], limit: Duration, floor: Duration) -> Run {
     let Ok((text, time)) = told.recv_timeout(limit) else {
         let _ = child.kill();
         let _ = child.wait();
-        return Run::Hang;
+        return Run::Hang(limit);
     };
     if !child.wait().is_ok_and(|status| status.success()) || text.is_empty() {
         return Run::Crash;
     }
-    if !is_linked() {
-        return Run::Done(text, time.saturating_sub(floor), 0);
+    Run::Done(text, time.saturating_sub(floor), 0)
+}
+
+/// An answer as run_here prints it; None where there is none any more.
+fn next_answer(from: &mut impl BufRead) -> Option<Run> {
+    let mut line = String::new();
+    from.read_line(&mut line).ok()?;
+    let numbers: Vec<u64> = line.split_whitespace().filter_map(|w| w.parse().ok()).collect();
+    let [length, nanos, stack] = numbers[..] else { return None };
+    let mut text = vec![0; length as usize];
+    from.read_exact(&mut text).ok()?;
+    Some(Run::Done(String::from_utf8(text).ok()?, Duration::from_nanos(nanos), stack as usize))
+}
+
+/// Runs the linked library on many sheets in one process, each for some time; after a hang or a crash another process goes on.
+pub fn run_many(sheets: &[&[u8]], limit: Duration, time: Duration) -> Vec<Run> {
+    let mut runs = Vec::new();
+    while runs.len() < sheets.len() {
+        let mut child = Command::new(std::env::current_exe().unwrap())
+            .args(["library", &time.as_micros().to_string()])
+            .stdin(Stdio::piped())
+            .stdout(Stdio::piped())
+            .stderr(Stdio::null())
+            .spawn()
+            .expect("a process");
+        let mut stdin = child.stdin.take().unwrap();
+        for sheet in &sheets[runs.len()..] {
+            let _ = stdin.write_all(format!("{}\n", sheet.len()).as_bytes());
+            let _ = stdin.write_all(sheet);
+        }
+        drop(stdin);
+        let mut stdout = BufReader::new(child.stdout.take().unwrap());
+        let (tell, told) = mpsc::channel();
+        std::thread::spawn(move || while next_answer(&mut stdout).is_some_and(|run| tell.send(run).is_ok()) {});
+        while runs.len() < sheets.len() {
+            let run = told.recv_timeout(limit).unwrap_or_else(|how| match how {
+                mpsc::RecvTimeoutError::Timeout => Run::Hang(limit),
+                mpsc::RecvTimeoutError::Disconnected => Run::Crash,
+            });
+            let goes_on = matches!(run, Run::Done(..));
+            runs.push(run);
+            if !goes_on {
+                break;
+            }
+        }
+        let _ = child.kill();
+        let _ = child.wait();
     }
-    let (first, answer) = text.split_once('\n').unwrap_or(("0 0", ""));
-    let (nanos, stack) = first.split_once(' ').unwrap_or(("0", "0"));
-    Run::Done(answer.to_string(), Duration::from_nanos(nanos.parse().unwrap_or(0)), stack.parse().unwrap_or(0))
+    runs
 }
 
 /// The time of a process that has next to nothing to judge.
