@@ -2,13 +2,18 @@
 """Compares the judge of this package with the one in tests/cover_cases.py, which shares nothing with it.
 
     python3 bench/check.py [COUNT] [SEED] [PROGRAM]
+    python3 bench/check.py --sheets FOLDER [COUNT] [SECONDS]
 
 Run it at the repository's root, after `cargo build --release --offline` in bench/. It takes COUNT generated sheets (4,000
 unless said), as many damaged ones, and the stored cases. Verdicts and refusals have to be the same with each strategy of
 the search; each case handed over has to be a case, without facts to spare, in order, with its least missing answer.
 PROGRAM, if given, is a program like target/bin/cover, and is asked beside it.
+
+With --sheets it takes the files of a folder, as `bench sheets` writes them, COUNT of them in even steps (all unless said), and the best
+strategy alone. The other judge is slow: what it does not judge in SECONDS (2 unless said) is counted as not judged.
 """
 import pathlib
+import signal
 import subprocess
 import sys
 
@@ -116,7 +121,52 @@ def fault(parts, number, lines):
     return None
 
 
+class TooLong(Exception):
+    pass
+
+
+def ring(*_):
+    raise TooLong
+
+
+def judged_in(seconds, parts):
+    """The verdict of the other judge; None where it takes longer."""
+    signal.signal(signal.SIGALRM, ring)
+    signal.setitimer(signal.ITIMER_REAL, seconds)
+    try:
+        return judged_by_search(parts)[0]
+    except (TooLong, RecursionError):
+        return None
+    finally:
+        signal.setitimer(signal.ITIMER_REAL, 0)
+
+
+def check_folder(folder, count=None, seconds=2):
+    """Compares the verdicts of sheets in files, and looks at the cases."""
+    paths = sorted(path for path in pathlib.Path(folder).iterdir() if path.name != "verdicts.txt")
+    paths = paths[::max(1, len(paths) // int(count))][:int(count)] if count else paths
+    sheets = [path.read_bytes() for path in paths]
+    faults, tally = 0, {}
+    for path, sheet, got in zip(paths, sheets, printed(sheets, STRATEGIES - 1), strict=True):
+        number, line, lines = read(sheet, MOST_WORDS)
+        if number:
+            sys.exit(f"{path.name} is sent back by {number} in line {line}")
+        parts = parts_of(lines)
+        want = judged_in(float(seconds), parts)
+        # A case speaks for itself.
+        wrong = fault(parts, want, got) if want is not None else fault(parts, 1, got) if got[0][0] == 1 else None
+        if wrong:
+            faults += 1
+            print(f"{path.name}: {wrong}")
+        key = str(want) if want is not None else f"not judged there, {got[0][0]} here"
+        tally[key] = tally.get(key, 0) + 1
+    print(f"{len(sheets)} sheets, {faults} faults; " + ", ".join(f"{key}: {n}" for key, n in sorted(tally.items())))
+    sys.exit(faults > 0)
+
+
 def main():
+    if sys.argv[1:2] == ["--sheets"]:
+        check_folder(*sys.argv[2:])
     count, seed = (int(word) for word in (sys.argv[1:3] + ["4000", "1"][len(sys.argv[1:3]):]))
     program = sys.argv[3] if len(sys.argv) > 3 else None
     dice = Dice(seed)

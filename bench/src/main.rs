@@ -164,12 +164,13 @@ fn strategy_of(name: &str) -> Strategy {
 /// The verdict and the fastest of some runs.
 fn own(bytes: &[u8], strategy: Strategy, most: Duration, runs: Duration) -> (Verdict, Effort, Duration) {
     let limit = Limit { nodes: usize::MAX / 2, time: most };
-    let (start, mut best) = (Instant::now(), Duration::MAX);
+    let (start, mut best, mut count) = (Instant::now(), Duration::MAX, 0);
     loop {
         let one = Instant::now();
         let (verdict, effort) = judge::judge_by(bytes, strategy, Some(limit));
         best = best.min(one.elapsed());
-        if start.elapsed() > runs {
+        count += 1;
+        if library::is_enough(count, start.elapsed(), runs) {
             return (verdict, effort, best);
         }
     }
@@ -212,16 +213,20 @@ fn measure(sample: Sample, strategy: Strategy, limit: Duration, floor: Duration)
     Line { sample, verdict, effort, own, cut_down, library, fault }
 }
 
-/// The same for thousands of sheets, in less time for each: the library judges them in one process. What seems to be too slow is measured
-/// again by itself, as longer.
+/// The same for thousands of sheets, in less time for each: the library judges them in one process. What comes near the limit for pages is
+/// measured again by itself, for longer.
 fn measure_many(samples: Vec<Sample>, strategy: Strategy, limit: Duration, floor: Duration) -> Vec<Line> {
     let bytes: Vec<Vec<u8>> = samples.iter().map(families::bytes).collect();
     let sheets: Vec<&[u8]> = bytes.iter().map(Vec::as_slice).collect();
-    let runs = if library::is_linked() { library::run_many(&sheets, limit, SHORT_RUNS) } else { sheets.iter().map(|s| library::run(s, limit, floor)).collect() };
+    let runs = if library::is_linked() {
+        library::run_many(&sheets, limit, SHORT_RUNS)
+    } else {
+        sheets.iter().map(|s| library::run(s, limit, floor)).collect()
+    };
     let mut lines = Vec::new();
     for ((sample, bytes), mut library) in samples.into_iter().zip(&bytes).zip(runs) {
         let (verdict, effort, mut time) = own(bytes, strategy, Duration::from_secs(5), SHORT_RUNS);
-        if library::is_linked() && matches!(library, Run::Done(_, time, _) if time > PAGE_LIMIT / 2) {
+        if library::is_linked() && matches!(library, Run::Done(_, time, _) if time > PAGE_LIMIT / 2 && time < 4 * PAGE_LIMIT) {
             time = time.min(own(bytes, strategy, Duration::from_secs(5), RUNS).2);
             library = library::run(bytes, limit, floor);
         }
@@ -287,7 +292,7 @@ fn middle(mut numbers: Vec<f64>) -> Option<f64> {
 
 fn told_middle(numbers: Vec<f64>) -> String {
     let count = numbers.len();
-    middle(numbers).map_or("none".into(), |m| format!("{m:.2} of {count}"))
+    middle(numbers).map_or("none".into(), |m| format!("{m:.2} ({count} sheets)"))
 }
 
 /// The middle one of all ratios, those of sheets that take long, and the sheets that have none. A run that did not end counts as one
@@ -365,7 +370,8 @@ fn targets(lines: &[Line], strategy: &str, largest: &[u8]) -> bool {
     let deep: Vec<&Line> = lines.iter().filter(|l| matches!(l.library, Run::Crash) || l.stack() > MOST_STACK).collect();
     let most = lines.iter().max_by_key(|l| l.stack()).map_or(String::new(), |l| format!("; the most is {} KiB ({})", l.stack(), l.name()));
     let unended = lines.iter().filter(|l| matches!(l.library, Run::Hang(_))).count();
-    all &= tell("at most 256 KiB of stack on every sheet", deep.is_empty(), format!("{} crash or need more{}{most}", deep.len(), names(&deep, with_time)));
+    let how = format!("{} crash or need more{}{most}", deep.len(), names(&deep, with_time));
+    all &= tell("at most 256 KiB of stack on every sheet", deep.is_empty(), how);
     if unended > 0 {
         println!("        not known of those that did not end: {unended}");
     }
@@ -378,7 +384,8 @@ fn targets(lines: &[Line], strategy: &str, largest: &[u8]) -> bool {
     }
     let wrong: Vec<&Line> = lines.iter().filter(|l| l.fault.is_some()).collect();
     let known = lines.iter().filter(|l| l.sample.verdict.is_some()).count();
-    all &= tell("no wrong answer", wrong.is_empty(), format!("{} wrong{}; {known} verdicts were known beforehand", wrong.len(), names(&wrong, |_| String::new())));
+    let how = format!("{} wrong{}; {known} verdicts were known beforehand", wrong.len(), names(&wrong, |_| String::new()));
+    all &= tell("no wrong answer", wrong.is_empty(), how);
     let unchecked: Vec<&Line> = lines.iter().filter(|l| !l.is_checked()).collect();
     println!("        answers that could not be compared: {} of {}{}", unchecked.len(), lines.len(), names(&unchecked, |_| String::new()));
     all

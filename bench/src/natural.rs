@@ -156,7 +156,17 @@ struct Club {
 }
 
 fn some_club(dice: &mut Dice) -> Club {
-    let counts = [2 + dice.below(7), 1 + dice.below(3), 1 + dice.below(6), 1 + dice.below(5), 1 + dice.below(5), 2 + dice.below(3), 1 + dice.below(2), 1 + dice.below(4), 8];
+    let counts = [
+        2 + dice.below(5),
+        1 + dice.below(2),
+        1 + dice.below(4),
+        1 + dice.below(4),
+        1 + dice.below(4),
+        2 + dice.below(2),
+        1 + dice.below(2),
+        1 + dice.below(3),
+        8,
+    ];
     let numbers: [Vec<i32>; 9] = std::array::from_fn(|kind| (0..counts[kind] as i32).map(|i| FIRST[kind] + i).collect());
     let mut log: BTreeSet<(usize, Vec<i32>)> = BTreeSet::new();
     let [rowers, crews, straps, sessions, ticks, rates, coaches, boats, _] = &numbers;
@@ -280,7 +290,7 @@ fn some_page(dice: &mut Dice) -> Sheet {
         4 => [&SEATS[..], &CREWS].concat(),
         _ => [&SEATS[..], &STRAPS, &RATES, &CREWS].concat(),
     };
-    let wanted = [3, 4, 5, 6, 6, 7, 7, 8, 8, 8][dice.below(10)];
+    let wanted = [3, 3, 4, 4, 5, 5, 6, 6, 7, 8][dice.below(10)];
     let (mut views, mut left): (Vec<View>, usize) = (Vec::new(), MOST_ROWS);
     for _ in 0..40 {
         let text = texts[dice.below(texts.len())];
