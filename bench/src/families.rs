@@ -485,6 +485,7 @@ fn two_links(rows: i32, rates: i32) -> Sheet {
         view("(r,s): Pulse(a,b,r), Worn(b,c,s)", steps()),
         view("(r,s): Worn(a,b,r), Pulse(b,c,s)", steps()),
         view("(r): Pulse(1,b,r)", single([1])),
+        view(&format!("(r): Worn(a,{},r)", rows + 1), single([2])),
     ];
     page("(): Strap(1)", NEVER, views)
 }
@@ -951,7 +952,7 @@ fn known() -> Vec<Sample> {
         add("chain, parity, three rates", format!("{n}"), NOT_COVERED, three_rates(n, true));
         add("chain, parity, three rates", format!("{n}, wrong end"), NO_LOG, three_rates(n, false));
     }
-    for (rows, rates) in [(3, 4), (6, 4), (11, 4), (16, 4), (23, 4), (10, 3), (20, 3), (31, 3)] {
+    for (rows, rates) in [(3, 4), (6, 4), (11, 4), (16, 4), (22, 4), (10, 3), (20, 3), (30, 3)] {
         add("chain, parity, two links", format!("{}, {rates} rates", 2 * rows), NO_LOG, two_links(rows, rates));
     }
     for rows in [2, 5, 10] {
