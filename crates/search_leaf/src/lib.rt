@@ -108,6 +108,7 @@ fn write_facts(
 // Whether the question is asked and a list is given its head.
 fn is_answered(p: &[usize; PLAN_NUMBERS], goal: Goal, ws: &[usize; SLOTS], facts: &[usize]) -> bool
     ensures { λ r. ⌜ (FormedPlan (now (p .entry)) → length (now (ws .entry)) ≡ slot-end → r ≡ false → asks goal ≡ true → GivenToList (now (p .entry)) (now (facts .entry)) (askedRow (now (p .entry)) (stateOf top (now (ws .entry)))) → ⊥) ⌝ }
+    ensures { λ r. ⌜ (FormedPlan (now (p .entry)) → length (now (ws .entry)) ≡ slot-end → r ≡ true → (asks goal ≡ true) × GivenToList (now (p .entry)) (now (facts .entry)) (askedRow (now (p .entry)) (stateOf top (now (ws .entry))))) ⌝ }
 {
     if !search_task::asks(goal) {
         return false;
@@ -137,6 +138,16 @@ pub fn is_good(p: &[usize; PLAN_NUMBERS], goal: Goal, ws: &[usize; SLOTS]) -> bo
     let mut room = [0; TABLEAU_NUMBERS];
     let n = write_facts(p, goal, ws, &mut room);
     is_clean(p, goal, ws, &room[..n * FACT_NUMBERS])
+}
+
+// Whether the question is asked and the facts of the state give a list its head.
+pub fn is_given(p: &[usize; PLAN_NUMBERS], goal: Goal, ws: &[usize; SLOTS]) -> bool
+    ensures { λ r. ⌜ ((x : Sheet) → ReadyPlan (now (p .entry)) x → length (now (ws .entry)) ≡ slot-end → r ≡ false → asks goal ≡ true → GivenToList (now (p .entry)) (numbersOf goal (now (p .entry)) (stateOf top (now (ws .entry)))) (askedRow (now (p .entry)) (stateOf top (now (ws .entry)))) → ⊥) ⌝ }
+    ensures { λ r. ⌜ ((x : Sheet) → ReadyPlan (now (p .entry)) x → length (now (ws .entry)) ≡ slot-end → r ≡ true → (asks goal ≡ true) × GivenToList (now (p .entry)) (numbersOf goal (now (p .entry)) (stateOf top (now (ws .entry)))) (askedRow (now (p .entry)) (stateOf top (now (ws .entry))))) ⌝ }
+{
+    let mut room = [0; TABLEAU_NUMBERS];
+    let n = write_facts(p, goal, ws, &mut room);
+    is_answered(p, goal, ws, &room[..n * 5])
 }
 
 // The first stray row that the facts of the state give a view, if there is one, and the places of facts that give it.

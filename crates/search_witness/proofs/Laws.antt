@@ -12,9 +12,9 @@ use Rattle.list_laws.proofs.Lists.{part-get}
 use Rattle.list_laws.proofs.Order.{less?}
 use Rattle.sheet_format.specs.Limits.{most-atoms}
 use Rattle.query_layout.specs.Layout.{block-head, block-width, names}
-use Rattle.tableau_layout.specs.Layout.{blocks-at, slot-end}
+use Rattle.tableau_layout.specs.Layout.{blocks-at, question-block, slot-end}
 use Rattle.query_meaning.specs.Meaning.{In}
-use Rattle.query_join.specs.Joins.{valueOf}
+use Rattle.query_join.specs.Joins.{valueOf, headRow}
 use Rattle.case_verdicts.specs.Sheets.{top}
 use Rattle.case_verdicts.specs.Tableau.{State}
 use Rattle.tableau_plan.specs.Plan.{blockNumbers, blockSize, slotValue, tableauAt, tableauFacts, tableauSize}
@@ -26,8 +26,8 @@ use Rattle.search_links.specs.Steps.{RootValue, RootValues}
 use Rattle.search_links.proofs.Words.{place-root}
 use Rattle.search_reasons.specs.Reasons.{Obeys, Place, WayMarked, AgreesBy}
 use Rattle.search_reasons.proofs.Laws.{obeys-less}
-use Rattle.search_reasons.proofs.Ways.{constant-value}
-use Rattle.search_witness.specs.Witness.{readAt, placeOf, Reads, ColumnRead, AtomRead, AtomsRead, HeadRead, RowRead, RowShown}
+use Rattle.search_reasons.proofs.Ways.{slot-value, constant-value}
+use Rattle.search_witness.specs.Witness.{readAt, placeOf, Reads, ColumnRead, AtomRead, AtomsRead, HeadRead, RowRead, RowShown, AskedShown}
 
 -- ---- places
 
@@ -202,3 +202,22 @@ module _ (p ws first : List ℕ) (from b : ℕ) (at : List ℕ) (n : ℕ) {row o
           go (inr (inl e)) = subst (RootValue top ws) (sym e) (r .root linked whole 1 (omega arith))
           go (inr (inr (inl e))) = subst (RootValue top ws) (sym e) (r .root linked whole 2 (omega arith))
           go (inr (inr (inr (inl e)))) = subst (RootValue top ws) (sym e) (r .root linked whole 3 (omega arith))
+
+-- ---- the question's head
+
+-- where the places are those of the first copy, a term is read under its valuation
+own-read : (first : List ℕ) (t : State) → ((x : ℕ) → x < names → getD first x 0 ≡ x) → (a : ℕ) → valueOf (readAt first t) a ≡ valueOf (λ z. t (0 * names + z)) a
+unfolding valueOf
+own-read first t own a = ⊎-elim
+    (λ h. rw (lt-ltb a names h) (ap (slotValue t) (own a h) ∙ slot-value t a (omega arith) ∙ ap t (let e : a ≡ 0 * names + a = omega arith in e)))
+    (λ h. rw (le-ltb a names h) refl)
+    (less? a names)
+
+pub asked-shown : (p ws first : List ℕ) {row old set : List ℕ} → ((x : ℕ) → x < names → getD first x 0 ≡ x) → RowRead p ws first question-block row old set → AskedShown p ws row old set
+asked-shown p ws first {row} {old} {set} own r = record { more = r .more; size = r .size; row-is = row-is }
+  where
+    row-is : (t : State) → Obeys t ws set → headRow (λ z. t (0 * names + z)) (blockNumbers p question-block) ≡ map (valueUnder top t) row
+    row-is t o = (λ i. heads 0 (omega arith) i ∷ heads 1 (omega arith) i ∷ heads 2 (omega arith) i ∷ heads 3 (omega arith) i ∷ []) ∙ ap (map (valueUnder top t)) (sym (four row (r .size)))
+      where
+        heads : (c : ℕ) → c < 4 → valueOf (λ z. t (0 * names + z)) (getD (blockNumbers p question-block) (block-head + c) 0) ≡ valueUnder top t (getD row c 0)
+        heads c h = sym (own-read first t own (getD (blockNumbers p question-block) (block-head + c) 0)) ∙ r .value c h t o

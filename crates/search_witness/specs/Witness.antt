@@ -6,10 +6,10 @@ use Prim.Native.Nat.{ℕ, _+_, _-_, _*_, _<_, _≤_}
 use lib.Dec.{ltb}
 use lib.ListN.{length, getD}
 use Rattle.query_layout.specs.Layout.{block-head, names}
-use Rattle.tableau_layout.specs.Layout.{slot-end}
+use Rattle.tableau_layout.specs.Layout.{question-block, slot-end}
 use Rattle.case_verdicts.specs.Sheets.{top}
 use Rattle.case_verdicts.specs.Tableau.{State}
-use Rattle.query_join.specs.Joins.{valueOf}
+use Rattle.query_join.specs.Joins.{valueOf, headRow}
 use Rattle.tableau_plan.specs.Plan.{blockNumbers, slotValue, tableauAt, tableauFacts, tableauSize}
 use Rattle.tableau_parts.specs.Views.{GivenAt}
 use Rattle.search_slots.specs.Slots.{SetWithin}
@@ -66,3 +66,9 @@ pub record RowShown (p ws : List ℕ) (from b : ℕ) (row old set : List ℕ) : 
   pub size : length row ≡ 4
   pub given : (t : State) → Obeys t ws set → GivenAt p b (tableauFacts p t from (tableauSize p - from)) (map (valueUnder top t) row)
   pub roots : Linked top ws → length ws ≡ slot-end → RootValues top ws row
+
+-- in every state that obeys the set, the question's head under the valuation of the first copy is the row
+pub record AskedShown (p ws row old set : List ℕ) : Type 0 where
+  pub more : SetWithin old set
+  pub size : length row ≡ 4
+  pub row-is : (t : State) → Obeys t ws set → headRow (λ z. t (0 * names + z)) (blockNumbers p question-block) ≡ map (valueUnder top t) row

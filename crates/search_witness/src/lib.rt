@@ -10,18 +10,19 @@ use sheet_format::MOST_ATOMS;
 use tableau_layout::BLOCKS_AT;
 use tableau_layout::MOST_BLOCKS;
 use tableau_layout::PLAN_NUMBERS;
+use tableau_layout::QUESTION_BLOCK;
 use tableau_layout::SLOTS;
 use tableau_layout::TABLEAU_ATOMS;
 use tableau_layout::TABLEAU_SIZE_AT;
 ghost use mathlib.Core.Path.{_≡_};
 ghost use mathlib.Core.Bool.{true};
-ghost use Prim.Native.Nat.{_+_, _<_, _≤_};
-ghost use lib.ListN.{length};
+ghost use Prim.Native.Nat.{ℕ, _+_, _<_, _≤_};
+ghost use lib.ListN.{length, getD};
 ghost use Rattle.query_layout.specs.Layout.{names};
 ghost use Rattle.sheet_format.specs.Limits.{most-atoms};
 ghost use Rattle.tableau_layout.specs.Layout.{most-blocks, tableau-atoms};
 ghost use Rattle.case_verdicts.specs.Sheets.{top};
-ghost use Rattle.search_witness.specs.Witness.{placeOf, ColumnRead, AtomRead, AtomsRead, HeadRead, RowRead, RowShown};
+ghost use Rattle.search_witness.specs.Witness.{placeOf, ColumnRead, AtomRead, AtomsRead, HeadRead, RowRead, RowShown, AskedShown};
 
 // Past every place of the tableau.
 const NOWHERE: usize = SLOTS + MADE_UP;
@@ -249,4 +250,26 @@ pub fn show(
         };
     }
     reads_row(p, ws, &first, b, set)
+}
+
+// The places of the first copy: of each variable its slot there.
+fn own_places() -> [usize; NAMES]
+    ensures { λ r. ⌜ ((x : ℕ) → x < names → getD r x 0 ≡ x) ⌝ }
+{
+    let mut first = [0; NAMES];
+    let mut x = 0;
+    while x < NAMES {
+        first[x] = x;
+        x += 1;
+    }
+    first
+}
+
+// The question's head in this state; the slots that this rests on are marked.
+pub fn asked(p: &[usize; PLAN_NUMBERS], ws: &[usize], set: &mut [u64]) -> Shown
+    ensures { λ r. ⌜ (r .ok ≡ true → AskedShown (now (p .entry)) (now (ws .entry)) (r .row) (now (set .entry)) (now (set .exit))) ⌝ }
+    ensures { λ r. ⌜ length (now (set .exit)) ≡ length (now (set .entry)) ⌝ }
+{
+    let first = own_places();
+    reads_row(p, ws, &first, QUESTION_BLOCK, set)
 }

@@ -25,7 +25,7 @@ returns-2 c = λ x r on size e.
     let s = a .before .before in
     let f = c .before .first in
     let ready = ready-views (s .args .p .now) x r in
-    good (s .args .p .now) x r (s .args .goal) (stateOf top (s .args .ws .now)) (s .args .facts .now) e (a .is-answered .ensures ready size (c .before .before .if1 .left))
+    good (s .args .p .now) x r (s .args .goal) (stateOf top (s .args .ws .now)) (s .args .facts .now) e (a .is-answered .ensures .0 ready size (c .before .before .if1 .left))
     (f .result .some) (f .result .view) (f .result .values) (not-true (f .result .some) on) (f .ensures .0 ready)
 
 pub is-clean-spec : {M : Type 1} → statement M
