@@ -10,7 +10,7 @@ the search; each case handed over has to be a case, without facts to spare, in o
 PROGRAM, if given, is a program like target/bin/cover, and is asked beside it.
 
 With --sheets it takes the files of a folder, as `bench sheets` writes them, COUNT of them in even steps (all unless said), and the best
-strategy alone. The other judge is slow: what it does not judge in SECONDS (2 unless said) is counted as not judged.
+strategy alone. The other judge is slow: what it does not judge, or whose case is not looked at, in SECONDS (2 unless said) is counted so.
 """
 import pathlib
 import signal
@@ -129,14 +129,14 @@ def ring(*_):
     raise TooLong
 
 
-def judged_in(seconds, parts):
-    """The verdict of the other judge; None where it takes longer."""
+def done_in(seconds, what, *given):
+    """Whether something came to an end in this time, and its result."""
     signal.signal(signal.SIGALRM, ring)
     signal.setitimer(signal.ITIMER_REAL, seconds)
     try:
-        return judged_by_search(parts)[0]
+        return True, what(*given)
     except (TooLong, RecursionError):
-        return None
+        return False, None
     finally:
         signal.setitimer(signal.ITIMER_REAL, 0)
 
@@ -146,19 +146,24 @@ def check_folder(folder, count=None, seconds=2):
     paths = sorted(path for path in pathlib.Path(folder).iterdir() if path.name != "verdicts.txt")
     paths = paths[::max(1, len(paths) // int(count))][:int(count)] if count else paths
     sheets = [path.read_bytes() for path in paths]
-    faults, tally = 0, {}
+    faults, tally, seconds = 0, {}, float(seconds)
     for path, sheet, got in zip(paths, sheets, printed(sheets, STRATEGIES - 1), strict=True):
         number, line, lines = read(sheet, MOST_WORDS)
         if number:
             sys.exit(f"{path.name} is sent back by {number} in line {line}")
         parts = parts_of(lines)
-        want = judged_in(float(seconds), parts)
-        # A case speaks for itself.
-        wrong = fault(parts, want, got) if want is not None else fault(parts, 1, got) if got[0][0] == 1 else None
+        verdict = got[0][0]
+        judged, found = done_in(seconds, judged_by_search, parts)
+        key = str(found[0]) if judged else f"not judged there, {verdict} here"
+        if judged and found[0] != verdict:
+            looked, wrong = True, f"verdict {verdict} and not {found[0]}"
+        else:
+            # A case speaks for itself.
+            looked, wrong = done_in(seconds, fault, parts, verdict, got)
         if wrong:
             faults += 1
             print(f"{path.name}: {wrong}")
-        key = str(want) if want is not None else f"not judged there, {got[0][0]} here"
+        key += "" if looked else ", its case not looked at"
         tally[key] = tally.get(key, 0) + 1
     print(f"{len(sheets)} sheets, {faults} faults; " + ", ".join(f"{key}: {n}" for key, n in sorted(tally.items())))
     sys.exit(faults > 0)
