@@ -7,7 +7,7 @@ use lib.Seq.{length-take-le}
 use Rattle.case_verdicts.specs.Sheets.{top}
 use Rattle.case_verdicts.specs.Words.{stateOf}
 use Rattle.tableau_parts.specs.Views.{GivenToList}
-use Rattle.search_task.specs.Task.{asks, askedRow}
+use Rattle.search_task.specs.Task.{askedRow}
 use Rattle.search_task.proofs.NodeLaws.{ready-views}
 use Rattle.search_leaf.proofs.is_given.Statement.{statement}
 use Rattle.search_leaf.proofs.is_given.Tie as tie

@@ -1,0 +1,457 @@
+// What a state of the search is found to be: good, refuted, or open at a row that has to become a listed one.
+//
+// What to look at comes from advice, which is believed in nothing: each proposal is checked against the words. Where none is left, the state is looked
+// at whole.
+use query_layout::COLUMNS;
+use query_layout::FACT_NUMBERS;
+use query_layout::MADE_UP;
+use search_advice::LIST_GIVEN;
+use search_advice::ROW_GIVEN;
+use search_board::BITS;
+use search_board::BOARD;
+use search_memory::MEMORY_NUMBERS;
+use search_slots::SET_WORDS;
+use search_task::Goal;
+use search_violation::Violation;
+use sheet_format::MOST_ATOMS;
+use sheet_format::MOST_VIEWS;
+use tableau_layout::LIST_BLOCKS;
+use tableau_layout::PLAN_NUMBERS;
+use tableau_layout::SLOTS;
+use tableau_layout::TABLEAU_ATOMS;
+use tableau_layout::TABLEAU_SIZE_AT;
+use tableau_layout::VIEW_BLOCKS;
+ghost use mathlib.Core.Path.{_≡_};
+ghost use mathlib.Core.Bool.{true, false};
+ghost use Prim.Native.Nat.{ℕ, _<_};
+ghost use lib.ListN.{length, getD};
+ghost use Rattle.tableau_layout.specs.Layout.{slot-end, tableau-atoms};
+ghost use Rattle.case_verdicts.specs.Verdict.{Sheet};
+ghost use Rattle.case_verdicts.specs.Sheets.{top};
+ghost use Rattle.case_verdicts.specs.Tableau.{Good};
+ghost use Rattle.search_task.specs.Task.{ReadyPlan, sheetBy, numbersOf};
+ghost use Rattle.tableau_parts.specs.Views.{StrayAt};
+ghost use Rattle.search_links.specs.Links.{linkedState};
+ghost use Rattle.search_reasons.specs.Reasons.{RestsOn};
+ghost use Rattle.search_slots.specs.Slots.{inSet};
+ghost use Rattle.search_node.specs.Node.{Standing, Wordly, WordOf, TermAt, TermOf, StateFound, OpenState, NodeBy};
+
+// Good and done, refuted and done, or open: a row of a view, and as digits the listed rows to try first.
+pub struct Finding {
+    pub values: [usize; 4],
+    pub hint: u64,
+    pub view: usize,
+    pub done: bool,
+    pub good: bool,
+}
+
+// A row of a view that is not listed, if there is one.
+struct Opening {
+    some: bool,
+    view: usize,
+    values: [usize; 4],
+}
+
+// A state that is done.
+fn ended(good: bool) -> Finding
+    ensures { λ r. ⌜ (r .done ≡ true) × (r .good ≡ good) ⌝ }
+{
+    Finding {
+        values: [0; 4],
+        hint: 0,
+        view: 0,
+        done: true,
+        good,
+    }
+}
+
+// The values of the slots.
+fn read_all(ws: &[usize; SLOTS], out: &mut [usize; SLOTS])
+    ensures { λ r. ⌜ (length (now (out .entry)) ≡ slot-end → (n : ℕ) → n < slot-end → getD (now (out .exit)) n 0 ≡ linkedState top (now (ws .entry)) n) ⌝ }
+    ensures { λ r. ⌜ length (now (out .exit)) ≡ length (now (out .entry)) ⌝ }
+{
+    let mut n = 0;
+    while n < SLOTS {
+        out[n] = search_links::place_value(ws, n);
+        n += 1;
+    }
+}
+
+// Whether atoms of the tableau give list block b the question's head; if so, the set is what this rests on.
+fn is_shut(
+    p: &[usize; PLAN_NUMBERS],
+    ws: &[usize; SLOTS],
+    b: usize,
+    at: &[usize; MOST_ATOMS],
+    set: &mut [u64; SET_WORDS],
+) -> bool
+    ensures { λ r. ⌜ ((x : Sheet) → ReadyPlan (now (p .entry)) x → r ≡ true → RestsOn (Good x) (now (ws .entry)) (now (set .exit))) ⌝ }
+    ensures { λ r. ⌜ length (now (set .exit)) ≡ length (now (set .entry)) ⌝ }
+{
+    if b < LIST_BLOCKS {
+        return false;
+    }
+    let list = b - LIST_BLOCKS;
+    if tableau_parts::list_count(p) <= list {
+        return false;
+    }
+    let given = search_witness::show(p, ws, 0, b, at, set);
+    if !given.ok {
+        return false;
+    }
+    let asked = search_witness::asked(p, ws, set);
+    if !asked.ok {
+        return false;
+    }
+    let row = given.row;
+    let head = asked.row;
+    tableau_parts::same(row, head)
+}
+
+// No row.
+fn none() -> Opening
+    ensures { λ r. ⌜ r .some ≡ false ⌝ }
+{
+    Opening {
+        some: false,
+        view: 0,
+        values: [0; 4],
+    }
+}
+
+// The row that atoms of the tableau give view block b, if it is none of the listed; the set is what this rests on.
+fn open_row(
+    p: &[usize; PLAN_NUMBERS],
+    ws: &[usize; SLOTS],
+    goal: Goal,
+    b: usize,
+    at: &[usize; MOST_ATOMS],
+    set: &mut [u64; SET_WORDS],
+) -> Opening
+    ensures { λ r. ⌜ ((x : Sheet) → ReadyPlan (now (p .entry)) x → Wordly x (sheetBy goal x) (now (ws .entry)) → r .some ≡ true → OpenState (now (p .entry)) x (Good (sheetBy goal x)) (now (ws .entry)) (now (set .exit)) (r .view) (r .values)) ⌝ }
+    ensures { λ r. ⌜ length (now (set .exit)) ≡ length (now (set .entry)) ⌝ }
+{
+    if b < VIEW_BLOCKS {
+        return none();
+    }
+    let view = b - VIEW_BLOCKS;
+    if tableau_parts::view_count(p) <= view {
+        return none();
+    }
+    let given = search_witness::show(p, ws, search_task::start(p, goal), b, at, set);
+    if !given.ok {
+        return none();
+    }
+    let values = given.row;
+    if tableau_parts::is_listed(p, tableau_parts::row_count(p), view, values) {
+        return none();
+    }
+    Opening {
+        some: true,
+        view,
+        values,
+    }
+}
+
+// A state open at a row.
+fn opened(view: usize, values: [usize; 4], hint: u64) -> Finding
+    ensures { λ r. ⌜ (r .done ≡ false) × (r .view ≡ view) × (r .values ≡ values) ⌝ }
+{
+    Finding {
+        values,
+        hint,
+        view,
+        done: false,
+        good: false,
+    }
+}
+
+// Leaves every slot in the set.
+fn fill(set: &mut [u64; SET_WORDS])
+    ensures { λ r. ⌜ ((n : ℕ) → inSet (now (set .exit)) n ≡ true) × (length (now (set .exit)) ≡ length (now (set .entry))) ⌝ }
+{
+    let no = search_slots::none();
+    search_slots::put(set, &no[..0]);
+}
+
+// The atoms of the tableau that are these facts of a state: its facts begin at atom `from`.
+fn atoms_of(at: &[usize; MOST_ATOMS], from: usize) -> [usize; MOST_ATOMS] {
+    let mut atoms = [TABLEAU_ATOMS; MOST_ATOMS];
+    let mut j = 0;
+    while j < MOST_ATOMS {
+        let i = at[j];
+        if i < TABLEAU_ATOMS {
+            if from < TABLEAU_ATOMS {
+                atoms[j] = from + i;
+            }
+        }
+        j += 1;
+    }
+    atoms
+}
+
+// Whether v is a slot's word.
+fn is_word(ws: &[usize; SLOTS], v: usize) -> bool
+    ensures { λ r. ⌜ (r ≡ true → WordOf (now (ws .entry)) v) ⌝ }
+{
+    let mut n = 0;
+    while n < SLOTS {
+        if ws[n] == v {
+            return true;
+        }
+        n += 1;
+    }
+    false
+}
+
+// Whether atom i of the tableau has the place w.
+fn has_term(p: &[usize; PLAN_NUMBERS], i: usize, w: usize) -> bool
+    requires { ⌜ i < tableau-atoms ⌝ }
+    ensures { λ r. ⌜ (r ≡ true → TermAt (now (p .entry)) i w) ⌝ }
+{
+    let mut c = 0;
+    while c < COLUMNS {
+        if p[i * FACT_NUMBERS + 1 + c] == w {
+            return true;
+        }
+        c += 1;
+    }
+    false
+}
+
+// Whether an atom of the tableau has the place w.
+fn is_term(p: &[usize; PLAN_NUMBERS], w: usize) -> bool
+    ensures { λ r. ⌜ (r ≡ true → TermOf (now (p .entry)) w) ⌝ }
+{
+    let size = p[TABLEAU_SIZE_AT];
+    if TABLEAU_ATOMS < size {
+        return false;
+    }
+    let mut i = 0;
+    while i < size {
+        if has_term(p, i, w) {
+            return true;
+        }
+        i += 1;
+    }
+    false
+}
+
+// Whether v is sure to be a number of the sheet, or is made up: slot n's value, a value made up, a slot's word, or a constant of the tableau.
+fn is_standing(p: &[usize; PLAN_NUMBERS], ws: &[usize; SLOTS], n: usize, v: usize) -> bool
+    ensures { λ r. ⌜ ((x y : Sheet) → ReadyPlan (now (p .entry)) x → Wordly x y (now (ws .entry)) → n < slot-end → r ≡ true → Standing x v) ⌝ }
+{
+    if search_links::place_value(ws, n) == v {
+        return true;
+    }
+    if MADE_UP <= v {
+        return v < MADE_UP + SLOTS;
+    }
+    if is_word(ws, v) {
+        return true;
+    }
+    if v == 0 {
+        return false;
+    }
+    is_term(p, SLOTS + v)
+}
+
+// Writes these values of the slots, as long as each is sure to be a number of the sheet or is made up; whether all are.
+fn take_values(
+    p: &[usize; PLAN_NUMBERS],
+    ws: &[usize; SLOTS],
+    values: &[usize; SLOTS],
+    out: &mut [usize; SLOTS],
+) -> bool
+    ensures { λ r. ⌜ ((x y : Sheet) → ReadyPlan (now (p .entry)) x → Wordly x y (now (ws .entry)) → length (now (out .entry)) ≡ slot-end → r ≡ true → (n : ℕ) → n < slot-end → Standing x (getD (now (out .exit)) n 0)) ⌝ }
+    ensures { λ r. ⌜ length (now (out .exit)) ≡ length (now (out .entry)) ⌝ }
+{
+    let mut n = 0;
+    while n < SLOTS {
+        let v = values[n];
+        if !is_standing(p, ws, n, v) {
+            return false;
+        }
+        out[n] = v;
+        n += 1;
+    }
+    true
+}
+
+// A state open at a row, by all words.
+fn by_all(view: usize, values: [usize; 4], set: &mut [u64; SET_WORDS]) -> Finding
+    ensures { λ r. ⌜ (r .done ≡ false) × (r .view ≡ view) × (r .values ≡ values) ⌝ }
+    ensures { λ r. ⌜ ((n : ℕ) → inSet (now (set .exit)) n ≡ true) × (length (now (set .exit)) ≡ length (now (set .entry))) ⌝ }
+{
+    fill(set);
+    opened(view, values, 0)
+}
+
+// The row that the facts of the whole state give a view: by the words that show it where its facts do, else by all words.
+fn by_row(
+    p: &[usize; PLAN_NUMBERS],
+    ws: &[usize; SLOTS],
+    goal: Goal,
+    stray: Violation,
+    set: &mut [u64; SET_WORDS],
+) -> Finding
+    ensures { λ r. ⌜ ((x : Sheet) → ReadyPlan (now (p .entry)) x → Wordly x (sheetBy goal x) (now (ws .entry)) → StrayAt (now (p .entry)) (numbersOf goal (now (p .entry)) (linkedState top (now (ws .entry)))) (stray .view) (stray .values) → OpenState (now (p .entry)) x (Good (sheetBy goal x)) (now (ws .entry)) (now (set .exit)) (r .view) (r .values)) ⌝ }
+    ensures { λ r. ⌜ r .done ≡ false ⌝ }
+    ensures { λ r. ⌜ length (now (set .exit)) ≡ length (now (set .entry)) ⌝ }
+{
+    let at = stray.at;
+    let view = stray.view;
+    let values = stray.values;
+    if MOST_VIEWS <= view {
+        return by_all(view, values, set);
+    }
+    let atoms = atoms_of(&at, search_task::start(p, goal));
+    search_slots::clear(set);
+    let o = open_row(p, ws, goal, VIEW_BLOCKS + view, &atoms, set);
+    if o.some {
+        let row = o.values;
+        return opened(o.view, row, 0);
+    }
+    by_all(view, values, set)
+}
+
+// A state looked at whole: good, and then its values stand in `out`; refuted, by a list that is given the question's head; or open at the first row
+// that is not listed.
+fn by_walk(
+    p: &[usize; PLAN_NUMBERS],
+    ws: &[usize; SLOTS],
+    goal: Goal,
+    set: &mut [u64; SET_WORDS],
+    out: &mut [usize; SLOTS],
+) -> Finding
+    ensures { λ r. ⌜ ((x : Sheet) → ReadyPlan (now (p .entry)) x → Wordly x (sheetBy goal x) (now (ws .entry)) → length (now (out .entry)) ≡ slot-end → NodeBy (r .done) (r .good) (now (p .entry)) x (sheetBy goal x) (now (ws .entry)) (now (set .exit)) (r .view) (r .values) (now (out .exit))) ⌝ }
+    ensures { λ r. ⌜ (length (now (set .exit)) ≡ length (now (set .entry))) × (length (now (out .exit)) ≡ length (now (out .entry))) ⌝ }
+{
+    read_all(ws, out);
+    if search_leaf::is_given(p, goal, out) {
+        fill(set);
+        return ended(false);
+    }
+    let stray = search_leaf::first_stray(p, goal, out);
+    if stray.some {
+        return by_row(p, ws, goal, stray, set);
+    }
+    ended(true)
+}
+
+// Whether the state is good where the facts that advice leaves out are read as others; if so, its values stand in `out`.
+fn is_resolved(
+    p: &[usize; PLAN_NUMBERS],
+    ws: &[usize; SLOTS],
+    goal: Goal,
+    bd: &[u32; BOARD],
+    bits: &[u64; BITS],
+    out: &mut [usize; SLOTS],
+) -> bool
+    ensures { λ r. ⌜ ((x : Sheet) → ReadyPlan (now (p .entry)) x → Wordly x (sheetBy goal x) (now (ws .entry)) → length (now (out .entry)) ≡ slot-end → r ≡ true → StateFound x (sheetBy goal x) (now (out .exit))) ⌝ }
+    ensures { λ r. ⌜ length (now (out .exit)) ≡ length (now (out .entry)) ⌝ }
+{
+    let mut values = [0usize; SLOTS];
+    search_advice::resolve(p, ws, bd, bits, &mut values);
+    if !take_values(p, ws, &values, out) {
+        return false;
+    }
+    search_leaf::is_good(p, goal, out)
+}
+
+// The state where a list is said to be given the question's head by facts of the tableau.
+fn by_list(
+    p: &[usize; PLAN_NUMBERS],
+    ws: &[usize; SLOTS],
+    goal: Goal,
+    block: usize,
+    at: &[usize; MOST_ATOMS],
+    set: &mut [u64; SET_WORDS],
+    out: &mut [usize; SLOTS],
+) -> Finding
+    ensures { λ r. ⌜ ((x : Sheet) → ReadyPlan (now (p .entry)) x → Wordly x (sheetBy goal x) (now (ws .entry)) → length (now (out .entry)) ≡ slot-end → NodeBy (r .done) (r .good) (now (p .entry)) x (sheetBy goal x) (now (ws .entry)) (now (set .exit)) (r .view) (r .values) (now (out .exit))) ⌝ }
+    ensures { λ r. ⌜ (length (now (set .exit)) ≡ length (now (set .entry))) × (length (now (out .exit)) ≡ length (now (out .entry))) ⌝ }
+{
+    if !search_task::asks(goal) {
+        return by_walk(p, ws, goal, set, out);
+    }
+    if is_shut(p, ws, block, at, set) {
+        return ended(false);
+    }
+    by_walk(p, ws, goal, set, out)
+}
+
+// The state where a view is said to be given a row by facts of the tableau.
+fn by_view(
+    p: &[usize; PLAN_NUMBERS],
+    ws: &[usize; SLOTS],
+    goal: Goal,
+    block: usize,
+    at: &[usize; MOST_ATOMS],
+    hint: u64,
+    set: &mut [u64; SET_WORDS],
+    out: &mut [usize; SLOTS],
+) -> Finding
+    ensures { λ r. ⌜ ((x : Sheet) → ReadyPlan (now (p .entry)) x → Wordly x (sheetBy goal x) (now (ws .entry)) → length (now (out .entry)) ≡ slot-end → NodeBy (r .done) (r .good) (now (p .entry)) x (sheetBy goal x) (now (ws .entry)) (now (set .exit)) (r .view) (r .values) (now (out .exit))) ⌝ }
+    ensures { λ r. ⌜ (length (now (set .exit)) ≡ length (now (set .entry))) × (length (now (out .exit)) ≡ length (now (out .entry))) ⌝ }
+{
+    let o = open_row(p, ws, goal, block, at, set);
+    if o.some {
+        let row = o.values;
+        return opened(o.view, row, hint);
+    }
+    by_walk(p, ws, goal, set, out)
+}
+
+// The state where nothing is said to be left.
+fn by_values(
+    p: &[usize; PLAN_NUMBERS],
+    ws: &[usize; SLOTS],
+    goal: Goal,
+    bd: &[u32; BOARD],
+    bits: &[u64; BITS],
+    set: &mut [u64; SET_WORDS],
+    out: &mut [usize; SLOTS],
+) -> Finding
+    ensures { λ r. ⌜ ((x : Sheet) → ReadyPlan (now (p .entry)) x → Wordly x (sheetBy goal x) (now (ws .entry)) → length (now (out .entry)) ≡ slot-end → NodeBy (r .done) (r .good) (now (p .entry)) x (sheetBy goal x) (now (ws .entry)) (now (set .exit)) (r .view) (r .values) (now (out .exit))) ⌝ }
+    ensures { λ r. ⌜ (length (now (set .exit)) ≡ length (now (set .entry))) × (length (now (out .exit)) ≡ length (now (out .entry))) ⌝ }
+{
+    if is_resolved(p, ws, goal, bd, bits, out) {
+        return ended(true);
+    }
+    by_walk(p, ws, goal, set, out)
+}
+
+// What a state is found to be. Good: the values of a good state stand in `out`. Refuted or open: the set has the slots that this rests on.
+pub fn judge_state(
+    p: &[usize; PLAN_NUMBERS],
+    ws: &[usize; SLOTS],
+    goal: Goal,
+    sl: &[usize; MEMORY_NUMBERS],
+    set: &mut [u64; SET_WORDS],
+    bd: &mut [u32; BOARD],
+    bits: &mut [u64; BITS],
+    out: &mut [usize; SLOTS],
+) -> Finding
+    ensures { λ r. ⌜ ((x : Sheet) → ReadyPlan (now (p .entry)) x → Wordly x (sheetBy goal x) (now (ws .entry)) → length (now (out .entry)) ≡ slot-end → NodeBy (r .done) (r .good) (now (p .entry)) x (sheetBy goal x) (now (ws .entry)) (now (set .exit)) (r .view) (r .values) (now (out .exit))) ⌝ }
+    ensures { λ r. ⌜ (length (now (set .exit)) ≡ length (now (set .entry))) × (length (now (out .exit)) ≡ length (now (out .entry))) ⌝ }
+{
+    search_slots::clear(set);
+    let a = search_advice::advise(
+        p,
+        ws,
+        search_task::asks(goal),
+        search_task::start(p, goal),
+        sl,
+        bd,
+        bits,
+    );
+    let at = a.at;
+    if a.kind == LIST_GIVEN {
+        return by_list(p, ws, goal, a.block, &at, set, out);
+    }
+    if a.kind == ROW_GIVEN {
+        return by_view(p, ws, goal, a.block, &at, a.hint, set, out);
+    }
+    by_values(p, ws, goal, bd, bits, set, out)
+}
