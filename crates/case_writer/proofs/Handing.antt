@@ -35,7 +35,7 @@ use Rattle.tableau_parts.specs.Walks as walks
 use Rattle.case_order.specs.Order.{fiveAt, Ordered}
 use Rattle.case_minimization.specs.Minimization.{IsCase, Shrunk}
 use Rattle.search_task.specs.Task.{ReadyPlan}
-use Rattle.search_chase.specs.Parts.{StateFound}
+use Rattle.search_node.specs.Node.{StateFound}
 use Rattle.search_task.proofs.Node as node
 use Rattle.search_task.proofs.ReadyLaws.{ready-task}
 use Rattle.search_task.proofs.NodeLaws.{facts-by, ready-views}
@@ -82,7 +82,7 @@ module _ (p : List ℕ) (x : Sheet) (r : ReadyPlan p x) (st : List ℕ) (f : Sta
           let d = r .plan .rows-few in
           let z = f .size in
           let q : n ≡ getD st k 0 = e ∙ inside st k (top + k) 0 (omega arith) in
-          ⊎-elim (λ t. inl (subst (Stands x) (sym q) t)) (λ t. inr (omega arith, omega arith)) (f .stood .each k (omega arith))
+          ⊎-elim (λ t. inl (subst (Stands x) (sym q) t)) (λ t. let low = t .0 in let high = t .1 in inr (omega arith, omega arith)) (f .stood k (omega arith))
 
   -- ---- the state's facts
 

@@ -12,7 +12,7 @@ ghost use Rattle.tableau_layout.specs.Layout.{tableau-atoms, tableau-numbers};
 ghost use Rattle.list_laws.specs.Wrote.{Wrote};
 ghost use Rattle.case_verdicts.specs.Verdict.{Sheet};
 ghost use Rattle.search_task.specs.Task.{ReadyPlan};
-ghost use Rattle.search_chase.specs.Parts.{StateFound};
+ghost use Rattle.search_node.specs.Node.{StateFound};
 ghost use Rattle.case_writer.specs.Over.{SpareFreeIn, HandsOver};
 
 // How many facts stand in the lent words, and the missing answer.
