@@ -1,9 +1,0 @@
-pub mod Fresh
-pub mod ReadyLaws
-pub mod NodeLaws
-pub mod Nogoods
-pub mod Levels
-pub mod Copies
-pub mod Conflicts
-pub mod Symmetry
-pub mod Tries

@@ -1,4 +1,0 @@
-pub mod Laws
-pub mod Writes
-pub mod Relaxed
-pub mod Jumps

@@ -1,2 +1,0 @@
-pub mod Symmetry
-pub mod Steps
