@@ -15,8 +15,8 @@ use Rattle.sheet_format.specs.Line.{Line, all, null, natural}
 use Rattle.sheet_format.specs.Cause.{Kind, question, saved, view, atom, row, other, kind, rest, second, terms, orOut, termOf, isTerm, isConstant, term, constant, inPlace, misplaced, wrongColumns, outOfRange, tooMany, wrongLength, cause, start, nextBy, next, refusal, scan, isHead, isAtom, atoms, same, occurs, bound, unsafe, heads, refusalOf}
 use Rattle.sheet_format.specs.declared.Refusal.{Refusal}
 use Rattle.sheet_format.specs.declared.Seen.{Seen}
-use Rattle.sheet_format.specs.declared.Term.{Term}
-use Rattle.sheet_format.specs.declared.Term.the-variants.{Constant, Variable, OutOfRange}
+use Rattle.sheet_format.specs.declared.FieldTerm.{FieldTerm}
+use Rattle.sheet_format.specs.declared.FieldTerm.the-variants.{Constant, Variable, OutOfRange}
 use Rattle.sheet_format.proofs.Lists.{no-way, passed}
 use Rattle.sheet_format.proofs.ScanLaws.{accepted-scan}
 use Rattle.query_meaning.specs.Meaning.{var, Block, In}
@@ -31,7 +31,7 @@ use Rattle.case_verdicts.proofs.Tables.{plain-columns, plain-sound}
 
 -- ---- words
 
-in-range : (t : Bool) (u : Term) → isTerm (orOut t u) ≡ true → t ≡ true
+in-range : (t : Bool) (u : FieldTerm) → isTerm (orOut t u) ≡ true → t ≡ true
 in-range true u e = refl
 in-range false u e = e
 
@@ -43,7 +43,7 @@ fine-word (negsuc n) e = let h = ltb-true n most-variables (in-range (ltb n most
 fine-words : (zs : List ℤ) → all term zs ≡ true → Fine top (map asTerm zs)
 fine-words zs h t m = let (z, i, e) = from-map asTerm zs t m in subst (FineTerm top) (sym e) (fine-word z (all-in term zs z h i))
 
-is-term : (u : Term) → isConstant u ≡ true → isTerm u ≡ true
+is-term : (u : FieldTerm) → isConstant u ≡ true → isTerm u ≡ true
 is-term (Constant n) e = refl
 is-term (Variable n) e = refl
 is-term OutOfRange e = e

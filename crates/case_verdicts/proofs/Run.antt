@@ -132,8 +132,8 @@ pub record GoodState (x : Sheet) (s : State) : Type 0 where
   pub good : Good x state
   pub old : (n : ℕ) → In n (map state (slots x)) → Has x s n
 
-abbrev pub Outcome : ℕ → Sheet → State → Type 0
-Outcome top x s = GoodState x s ⊎ Refuted top x s
+abbrev pub RunOutcome : ℕ → Sheet → State → Type 0
+RunOutcome top x s = GoodState x s ⊎ Refuted top x s
 
 pub still-less : {k m n : ℕ} → k < m → m < suc n → k < n
 still-less h l = omega arith
@@ -142,23 +142,23 @@ abbrev pub earlier : {top : ℕ} {x : Sheet} {s : State} {r : ℕ → ℕ} → P
 earlier p f = record { state = f .state; good = f .good; old = λ n i. ⊎-elim (λ c. inl c) (p .old n) (f .old n i) }
 
 module _ {top : ℕ} (x : Sheet) (ok : FineSheet top x) (s : State) (n : ℕ) (most : measure top (slots x) s < suc n)
-    (next : (t : State) → measure top (slots x) t < n → Outcome top x t) where
+    (next : (t : State) → measure top (slots x) t < n → RunOutcome top x t) where
   abbrev pub alternative : (es : List Equation) → Open (Stands x) (slots x) s es → RefutedBy top x s es ⊎ GoodState x s
   alternative es o =
       ⊎-elim (λ u. ⊎-elim (λ g. inr (earlier (u .2) g)) (λ z. inl (unified (u .1) z)) (next (after (u .0) s) (still-less (unified-lower (u .1) (u .2) o) most)))
       (λ c. inl (clashed c)) (unify x ok s es (o .known))
 
-  abbrev pub turn : Good x s ⊎ Violation top x s → Outcome top x s
+  abbrev pub turn : Good x s ⊎ Violation top x s → RunOutcome top x s
   turn (inl g) = inl (record { state = s; good = g; old = λ k i. inr i })
   turn (inr y) = ⊎-elim (λ all. inr (step (y .must) all)) (λ g. inl g) (all-or (RefutedBy top x s) (y .alts) (λ es m. alternative es (y .opens es m)))
 
 -- n bounds the rounds: each round lowers the measure
-unfoldable pub search-from : (x : Sheet) {top : ℕ} → FineSheet top x → Evaluable x → (n : ℕ) (s : State) → measure top (slots x) s < n → Outcome top x s
+unfoldable pub search-from : (x : Sheet) {top : ℕ} → FineSheet top x → Evaluable x → (n : ℕ) (s : State) → measure top (slots x) s < n → RunOutcome top x s
 search-from x ok safe zero s most = absurd (let h = most in omega arith)
 search-from x ok safe (suc n) s most = turn x ok s n most (search-from x ok safe n) (look x ok s safe)
 
 -- from the first state: something good, or nothing
-abbrev pub decided : (x : Sheet) {top : ℕ} → FineSheet top x → Evaluable x → Outcome top x (free top)
+abbrev pub decided : (x : Sheet) {top : ℕ} → FineSheet top x → Evaluable x → RunOutcome top x (free top)
 decided x {top} ok safe = search-from x ok safe (suc (measure top (slots x) (free top))) (free top) (le-refl _)
 
 -- the values of the log that is found

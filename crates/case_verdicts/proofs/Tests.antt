@@ -93,10 +93,10 @@ accept top x =
 
 -- ---- judged sheets
 
-abbrev pub Judgement : Sheet → Type 0
-Judgement x = Covered x ⊎ (Handed top value-end x ⊎ NoLog x)
+abbrev pub SheetJudgement : Sheet → Type 0
+SheetJudgement x = Covered x ⊎ (Handed top value-end x ⊎ NoLog x)
 
-abbrev pub verdict? : (x : Sheet) → Or (Judgement x)
+abbrev pub verdict? : (x : Sheet) → Or (SheetJudgement x)
 verdict? x =
     then (accept top x) (λ a.
     then (safe? (x .question)) (λ q.
@@ -108,7 +108,7 @@ OnlyOf x covered = Unit {0}
 OnlyOf x (case a n fs) = (h : Handed top value-end x) → Shows x a n fs h
 OnlyOf x no-log = Unit {0}
 
-abbrev pub shown? : (x : Sheet) → Judgement x → (r : Shown) → Or (OnlyOf x r → SaysOf x r)
+abbrev pub shown? : (x : Sheet) → SheetJudgement x → (r : Shown) → Or (OnlyOf x r → SaysOf x r)
 shown? x (inl c) covered = inl (λ o. c)
 shown? x (inl c) (case a n fs) = inr tt
 shown? x (inl c) no-log = inr tt
@@ -123,7 +123,7 @@ shown? x (inr (inr z)) no-log = inl (λ o. z)
 pub unasked : (ws : List View) → NoLog (sheet (nowhere .block) [] ws) → (q : Block) (ls : List Block) → NoLog (sheet q ls ws)
 unasked ws none q ls log a = none log (record { lawful = a .lawful; agrees = a .agrees })
 
-abbrev pub unasked? : (ws : List View) → Judgement (sheet (nowhere .block) [] ws) → Or ((q : Block) (ls : List Block) → NoLog (sheet q ls ws))
+abbrev pub unasked? : (ws : List View) → SheetJudgement (sheet (nowhere .block) [] ws) → Or ((q : Block) (ls : List Block) → NoLog (sheet q ls ws))
 unasked? ws (inl c) = inr tt
 unasked? ws (inr (inl h)) = inr tt
 unasked? ws (inr (inr z)) = inl (unasked ws z)

@@ -56,7 +56,7 @@ fn decide(p: &[usize; PLAN_NUMBERS], out: &mut [i32]) -> Judgement
     ensures { λ r. ⌜ ((x : Sheet) → ReadyPlan (now (p .entry)) x → Decided x (now (out .entry)) (now (out .exit)) r) ⌝ }
 {
     let mut words = [0usize; SLOTS];
-    if search_run::find(p, Goal::Counterexample, &mut words) {
+    if search_chase::find(p, Goal::Counterexample, &mut words) {
         let handed = case_writer::hand_over(p, &words, out);
         let missing = handed.missing;
         return Judgement {
@@ -67,7 +67,7 @@ fn decide(p: &[usize; PLAN_NUMBERS], out: &mut [i32]) -> Judgement
             missing,
         };
     }
-    if search_run::find(p, Goal::Agreement, &mut words) {
+    if search_chase::find(p, Goal::Agreement, &mut words) {
         return plain(COVERED, 0, 0);
     }
     plain(NO_LOG, 0, 0)

@@ -15,7 +15,7 @@ use Rattle.sheet_format.specs.Relations.{columnsOf}
 use Rattle.sheet_format.specs.Line.{Line, all, null, natural}
 use Rattle.sheet_format.specs.Cause.{kind, rest, second, terms, term, isTerm, orOut, termOf, scan, start, next, isHead, atoms, same, occurs, bound, unsafe, heads, refusalOf}
 use Rattle.sheet_format.specs.declared.Seen.{Seen}
-use Rattle.sheet_format.specs.declared.Term.the-variants.{Constant, Variable}
+use Rattle.sheet_format.specs.declared.FieldTerm.the-variants.{Constant, Variable}
 use Rattle.sheet_format.proofs.Lists.{no-way, both, neither}
 use Rattle.sheet_format.proofs.ScanLaws.{accepted-scan, Clean}
 use Rattle.query_meaning.specs.Meaning.{con, var, Atom, Block, In}

@@ -5,6 +5,7 @@ use search_board::ANY_ROW;
 use search_board::BEST;
 use search_board::BITS;
 use search_board::BOARD;
+use search_board::BYTE;
 use search_board::CHANGED;
 use search_board::FACT_END;
 use search_board::FACT_WORDS;
@@ -19,7 +20,7 @@ use search_board::LOOKED;
 use search_board::MOST_KEPT;
 use search_board::OVER;
 use search_board::STARTED;
-use search_memory::MEMORY_NUMBERS;
+use search_nogoods::MEMORY_NUMBERS;
 use sheet_format::MOST_ATOMS;
 use tableau_layout::LIST_BLOCKS;
 use tableau_layout::PLAN_NUMBERS;
@@ -525,7 +526,7 @@ pub fn advise(
             let at = g.at;
             return Advice {
                 kind: LIST_GIVEN,
-                block: LIST_BLOCKS + g.list % 256,
+                block: LIST_BLOCKS + g.list % BYTE,
                 at,
                 hint: 0,
             };

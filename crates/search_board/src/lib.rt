@@ -8,7 +8,7 @@ use query_layout::FACT_NUMBERS;
 use query_layout::HEAD_AT;
 use query_layout::MADE_UP;
 use query_layout::NAMES;
-use search_memory::MEMORY_NUMBERS;
+use search_nogoods::MEMORY_NUMBERS;
 use search_slots::SET_WORDS;
 use sheet_format::MOST_ATOMS;
 use sheet_format::MOST_ROWS;
@@ -96,8 +96,11 @@ pub const HINT: usize = STRUCK + SET_WORDS;
 
 pub const BITS: usize = HINT + 1;
 
+// A view, a list or a fact is a number below this: an entry has eight digits for each.
+pub const BYTE: usize = 256;
+
 // A head's constant x is told as this and x; else its number has the atom and the column.
-const HEAD_CONSTANT: usize = 256;
+const HEAD_CONSTANT: usize = BYTE;
 
 // ---- numbers
 
@@ -673,17 +676,17 @@ pub fn is_folded(bd: &[u32; BOARD], bits: &[u64; BITS], row: &[usize; 4]) -> boo
 // ---- rows of views: an entry has the view in its lowest eight digits, and then eight digits for the fact that each atom is
 
 pub fn entry_view(e: usize) -> usize {
-    e % 256
+    e % BYTE
 }
 
 // The fact that atom j is in an entry.
 pub fn entry_fact(e: usize, j: usize) -> usize {
-    (e >> (8 * (j % 7) + 8)) % 256
+    (e >> (8 * (j % 7) + 8)) % BYTE
 }
 
 // The entry with fact i for atom j.
 pub fn entry_with(e: usize, j: usize, i: usize) -> usize {
-    e | ((i % 256) << (8 * (j % 7) + 8))
+    e | ((i % BYTE) << (8 * (j % 7) + 8))
 }
 
 fn entry_value(bd: &[u32; BOARD], e: usize, h: usize) -> usize {
@@ -783,7 +786,7 @@ fn is_struck(sl: &[usize; MEMORY_NUMBERS], bits: &[u64; BITS], v: usize, y: usiz
     if v < MADE_UP {
         return false;
     }
-    search_memory::find(sl, v - MADE_UP, y) < search_memory::count(sl)
+    search_nogoods::find(sl, v - MADE_UP, y) < search_nogoods::count(sl)
 }
 
 // Whether a value of the row has one that it cannot become in the other.
@@ -885,7 +888,7 @@ pub fn fits(
 // Marks the slots that have a value that they cannot have.
 pub fn mark_struck(sl: &[usize; MEMORY_NUMBERS], bits: &mut [u64; BITS]) {
     clear(bits, STRUCK, SET_WORDS);
-    let n = search_memory::count(sl);
+    let n = search_nogoods::count(sl);
     let mut e = 0;
     while e < n {
         let slot = sl[e * 2];

@@ -4,7 +4,7 @@ use query_layout::FACT_NUMBERS;
 use query_layout::HEAD_AT;
 use query_layout::NAMES;
 use search_task::Goal;
-use search_violation::Violation;
+use search_violation::Stray;
 use sheet_format::MOST_LISTS;
 use sheet_format::MOST_VIEWS;
 use tableau_layout::BLOCKS_AT;
@@ -151,7 +151,7 @@ pub fn is_given(p: &[usize; PLAN_NUMBERS], goal: Goal, ws: &[usize; SLOTS]) -> b
 }
 
 // The first stray row that the facts of the state give a view, if there is one, and the places of facts that give it.
-pub fn first_stray(p: &[usize; PLAN_NUMBERS], goal: Goal, ws: &[usize; SLOTS]) -> Violation
+pub fn first_stray(p: &[usize; PLAN_NUMBERS], goal: Goal, ws: &[usize; SLOTS]) -> Stray
     ensures { λ r. ⌜ ((x : Sheet) → ReadyPlan (now (p .entry)) x → length (now (ws .entry)) ≡ slot-end → StrayBy (r .some) (now (p .entry)) (numbersOf goal (now (p .entry)) (stateOf top (now (ws .entry)))) (r .view) (r .values)) ⌝ }
     ensures { λ r. ⌜ ((x : Sheet) → ReadyPlan (now (p .entry)) x → length (now (ws .entry)) ≡ slot-end → r .some ≡ true → WitnessAt (blockNumbers (now (p .entry)) (view-block (r .view))) (min (blockSize (now (p .entry)) (view-block (r .view))) most-atoms) (numbersOf goal (now (p .entry)) (stateOf top (now (ws .entry)))) (r .values) (r .at)) ⌝ }
 {

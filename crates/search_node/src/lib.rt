@@ -9,10 +9,10 @@ use search_advice::LIST_GIVEN;
 use search_advice::ROW_GIVEN;
 use search_board::BITS;
 use search_board::BOARD;
-use search_memory::MEMORY_NUMBERS;
+use search_nogoods::MEMORY_NUMBERS;
 use search_slots::SET_WORDS;
 use search_task::Goal;
-use search_violation::Violation;
+use search_violation::Stray;
 use sheet_format::MOST_ATOMS;
 use sheet_format::MOST_VIEWS;
 use tableau_layout::LIST_BLOCKS;
@@ -46,7 +46,7 @@ pub struct Finding {
 }
 
 // A row of a view that is not listed, if there is one.
-struct Opening {
+struct OpenRow {
     some: bool,
     view: usize,
     values: [usize; 4],
@@ -109,10 +109,10 @@ fn is_shut(
 }
 
 // No row.
-fn none() -> Opening
+fn none() -> OpenRow
     ensures { λ r. ⌜ r .some ≡ false ⌝ }
 {
-    Opening {
+    OpenRow {
         some: false,
         view: 0,
         values: [0; 4],
@@ -127,7 +127,7 @@ fn open_row(
     b: usize,
     at: &[usize; MOST_ATOMS],
     set: &mut [u64; SET_WORDS],
-) -> Opening
+) -> OpenRow
     ensures { λ r. ⌜ ((x : Sheet) → ReadyPlan (now (p .entry)) x → Wordly x (sheetBy goal x) (now (ws .entry)) → r .some ≡ true → OpenState (now (p .entry)) x (Good (sheetBy goal x)) (now (ws .entry)) (now (set .exit)) (r .view) (r .values)) ⌝ }
     ensures { λ r. ⌜ length (now (set .exit)) ≡ length (now (set .entry)) ⌝ }
 {
@@ -146,7 +146,7 @@ fn open_row(
     if tableau_parts::is_listed(p, tableau_parts::row_count(p), view, values) {
         return none();
     }
-    Opening {
+    OpenRow {
         some: true,
         view,
         values,
@@ -292,7 +292,7 @@ fn by_row(
     p: &[usize; PLAN_NUMBERS],
     ws: &[usize; SLOTS],
     goal: Goal,
-    stray: Violation,
+    stray: Stray,
     set: &mut [u64; SET_WORDS],
 ) -> Finding
     ensures { λ r. ⌜ ((x : Sheet) → ReadyPlan (now (p .entry)) x → Wordly x (sheetBy goal x) (now (ws .entry)) → StrayAt (now (p .entry)) (numbersOf goal (now (p .entry)) (linkedState top (now (ws .entry)))) (stray .view) (stray .values) → OpenState (now (p .entry)) x (Good (sheetBy goal x)) (now (ws .entry)) (now (set .exit)) (r .view) (r .values)) ⌝ }

@@ -28,7 +28,7 @@ ghost use Rattle.search_witness.specs.Witness.{placeOf, ColumnRead, Atom
 const NOWHERE: usize = SLOTS + MADE_UP;
 
 // Whether a block's atoms become facts, and the row that its head then has.
-pub struct Shown {
+pub struct ShownRow {
     pub ok: bool,
     pub row: [usize; 4],
 }
@@ -208,7 +208,7 @@ fn reads_row(
     first: &[usize; NAMES],
     b: usize,
     set: &mut [u64],
-) -> Shown
+) -> ShownRow
     requires { ⌜ b < most-blocks ⌝ }
     ensures { λ r. ⌜ (r .ok ≡ true → RowRead (now (p .entry)) (now (ws .entry)) (now (first .entry)) b (r .row) (now (set .entry)) (now (set .exit))) ⌝ }
     ensures { λ r. ⌜ length (now (set .exit)) ≡ length (now (set .entry)) ⌝ }
@@ -219,7 +219,7 @@ fn reads_row(
     let g = reads_head(p, ws, first, b, 3, set);
     let row = [a.value, e.value, f.value, g.value];
     let ok = a.ok & e.ok & f.ok & g.ok;
-    Shown { ok, row }
+    ShownRow { ok, row }
 }
 
 // Whether the atoms `at` of the tableau, all from atom `from` on, give block b a row in this state, and which. The slots that this rests on are
@@ -231,12 +231,12 @@ pub fn show(
     b: usize,
     at: &[usize; MOST_ATOMS],
     set: &mut [u64],
-) -> Shown
+) -> ShownRow
     ensures { λ r. ⌜ (r .ok ≡ true → RowShown (now (p .entry)) (now (ws .entry)) from b (r .row) (now (set .entry)) (now (set .exit))) ⌝ }
     ensures { λ r. ⌜ length (now (set .exit)) ≡ length (now (set .entry)) ⌝ }
 {
     if MOST_BLOCKS <= b {
-        return Shown {
+        return ShownRow {
             ok: false,
             row: [0; 4],
         };
@@ -244,7 +244,7 @@ pub fn show(
     let n = tableau_parts::size_at(p, b);
     let first = first_places(p, b, n, at);
     if !reads_atoms(p, ws, &first, from, b, at, n, set) {
-        return Shown {
+        return ShownRow {
             ok: false,
             row: [0; 4],
         };
@@ -266,7 +266,7 @@ fn own_places() -> [usize; NAMES]
 }
 
 // The question's head in this state; the slots that this rests on are marked.
-pub fn asked(p: &[usize; PLAN_NUMBERS], ws: &[usize], set: &mut [u64]) -> Shown
+pub fn asked(p: &[usize; PLAN_NUMBERS], ws: &[usize], set: &mut [u64]) -> ShownRow
     ensures { λ r. ⌜ (r .ok ≡ true → AskedShown (now (p .entry)) (now (ws .entry)) (r .row) (now (set .entry)) (now (set .exit))) ⌝ }
     ensures { λ r. ⌜ length (now (set .exit)) ≡ length (now (set .entry)) ⌝ }
 {

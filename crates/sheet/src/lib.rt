@@ -1,5 +1,5 @@
 // A sheet's bytes to its number form and back, and a line's own bytes.
-pub use sheet_lines::Place;
+pub use sheet_lines::LinePlace;
 pub use sheet_lines::find_line;
 pub use sheet_lines::line;
 pub use sheet_reader::read;

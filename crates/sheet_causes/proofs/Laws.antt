@@ -22,7 +22,7 @@ use Rattle.sheet_format.specs.Line.{Line, all, null, wordLine}
 use Rattle.sheet_format.specs.Cause.{kindOf, kind, rest, terms, isHead, isAtom, atoms, same, occurs, bound, unsafe, refusal, none, heads, cause, next, stepOf, orAt, missing, start, scan, refusalOf}
 use Rattle.sheet_format.specs.declared.Refusal.{Refusal}
 use Rattle.sheet_format.specs.declared.Seen.{Seen}
-use Rattle.sheet_format.specs.declared.Step.the-variants.{Goes, Stops}
+use Rattle.sheet_format.specs.declared.LineStep.the-variants.{Goes, Stops}
 use Rattle.sheet_causes.specs.Formed.{FormedLines}
 
 -- ---- the lines of a number form

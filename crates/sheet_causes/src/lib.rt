@@ -1,10 +1,10 @@
 // Why the lines of a number form are sent back: the first cause among the lines or at the end, and then cause 8 by heads.
 use sheet_format::LINE_WORDS;
+use sheet_format::LineStep;
 use sheet_format::MISPLACED;
 use sheet_format::Refusal;
 use sheet_format::SAVED_KIND;
 use sheet_format::Seen;
-use sheet_format::Step;
 use sheet_format::UNSAFE_HEAD;
 ghost use mathlib.Core.Path.{_≡_};
 ghost use mathlib.Core.Bool.{false, not};
@@ -189,10 +189,10 @@ fn by_lines(ws: &[i32]) -> Refusal
         let l = line_at(ws, i);
         let s = sheet_line_causes::step(g, &before, &l);
         match s {
-            Step::Goes(next) => {
+            LineStep::Goes(next) => {
                 g = next;
             }
-            Step::Stops(c) => {
+            LineStep::Stops(c) => {
                 return Refusal {
                     number: c,
                     line: i + 1,

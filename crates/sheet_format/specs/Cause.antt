@@ -11,10 +11,10 @@ use Rattle.sheet_format.specs.Relations.{columnsOf}
 use Rattle.sheet_format.specs.Line.{Line, all, null}
 use Rattle.sheet_format.specs.declared.Refusal.{Refusal}
 use Rattle.sheet_format.specs.declared.Seen.{Seen}
-use Rattle.sheet_format.specs.declared.Step.{Step}
-use Rattle.sheet_format.specs.declared.Step.the-variants.{Goes, Stops}
-use Rattle.sheet_format.specs.declared.Term.{Term}
-use Rattle.sheet_format.specs.declared.Term.the-variants.{Constant, Variable, OutOfRange}
+use Rattle.sheet_format.specs.declared.LineStep.{LineStep}
+use Rattle.sheet_format.specs.declared.LineStep.the-variants.{Goes, Stops}
+use Rattle.sheet_format.specs.declared.FieldTerm.{FieldTerm}
+use Rattle.sheet_format.specs.declared.FieldTerm.the-variants.{Constant, Variable, OutOfRange}
 
 -- ---- a line's kind is its first field
 
@@ -47,20 +47,20 @@ terms l = rest (rest l)
 
 -- ---- terms: constants from 0, variables from -1 down
 
-abbrev pub orOut : Bool → Term → Term
+abbrev pub orOut : Bool → FieldTerm → FieldTerm
 orOut true t = t
 orOut false t = OutOfRange
 
-unfoldable pub termOf : ℤ → Term
+unfoldable pub termOf : ℤ → FieldTerm
 termOf (pos n) = orOut (ltb n constant-end) (Constant n)
 termOf (negsuc n) = orOut (ltb n most-variables) (Variable (suc n))
 
-abbrev pub isTerm : Term → Bool
+abbrev pub isTerm : FieldTerm → Bool
 isTerm (Constant n) = true
 isTerm (Variable n) = true
 isTerm OutOfRange = false
 
-abbrev pub isConstant : Term → Bool
+abbrev pub isConstant : FieldTerm → Bool
 isConstant (Constant n) = true
 isConstant (Variable n) = false
 isConstant OutOfRange = false
@@ -177,7 +177,7 @@ unfoldable pub next : Seen → Line → Seen
 next g l = nextBy g (kind l) (length (rest l))
 
 -- a line goes on to the next, or stops the sheet by its cause
-unfoldable pub stepOf : Seen → Line → Line → Step
+unfoldable pub stepOf : Seen → Line → Line → LineStep
 stepOf g before l = cond (eqb (cause g before l) 0) (Goes (next g l)) (Stops (cause g before l))
 
 -- ---- the sheet's refusal

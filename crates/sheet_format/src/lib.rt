@@ -108,7 +108,7 @@ pub enum Field {
 }
 
 // What a number stands for as a term: a constant, or a variable by its index from 1.
-pub enum Term {
+pub enum FieldTerm {
     Constant(usize),
     Variable(usize),
     OutOfRange,
@@ -127,7 +127,7 @@ pub struct Seen {
 }
 
 // What a line does to the sheet: it goes on, or stops by its cause.
-pub enum Step {
+pub enum LineStep {
     Goes(Seen),
     Stops(usize),
 }

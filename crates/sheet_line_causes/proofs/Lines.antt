@@ -17,7 +17,7 @@ use Rattle.sheet_format.specs.Cause.{Kind, rest, second, terms, term, constant,
 use Rattle.sheet_format.specs.Cause.Kind.{question, saved, view, atom, row}
 use Rattle.sheet_format.specs.Relations.{columnsOf}
 use Rattle.sheet_format.specs.declared.Seen.{Seen}
-use Rattle.sheet_format.specs.declared.Step.the-variants.{Goes, Stops}
+use Rattle.sheet_format.specs.declared.LineStep.the-variants.{Goes, Stops}
 use Rattle.sheet_line_causes.specs.Parts.{causeBy, CountedFields, fieldCount, fields}
 
 -- ---- the fields by the words

@@ -2,8 +2,10 @@
 use sheet_format::ATOM_KIND;
 use sheet_format::FIELD_END;
 use sheet_format::FIELD_MINUS_END;
+use sheet_format::FieldTerm;
 use sheet_format::LEAST_ATOM_FIELDS;
 use sheet_format::LINE_WORDS;
+use sheet_format::LineStep;
 use sheet_format::MALFORMED;
 use sheet_format::MISPLACED;
 use sheet_format::MOST_ATOMS;
@@ -18,9 +20,7 @@ use sheet_format::QUESTION_KIND;
 use sheet_format::ROW_KIND;
 use sheet_format::SAVED_KIND;
 use sheet_format::Seen;
-use sheet_format::Step;
 use sheet_format::TOO_MANY;
-use sheet_format::Term;
 use sheet_format::VIEW_KIND;
 use sheet_format::WRONG_COLUMNS;
 use sheet_format::WRONG_LENGTH;
@@ -71,9 +71,9 @@ fn is_term(word: i32) -> bool
     ensures { λ r. ⌜ r ≡ term word ⌝ }
 {
     match sheet_terms::term_of(word) {
-        Term::Constant(_) => true,
-        Term::Variable(_) => true,
-        Term::OutOfRange => false,
+        FieldTerm::Constant(_) => true,
+        FieldTerm::Variable(_) => true,
+        FieldTerm::OutOfRange => false,
     }
 }
 
@@ -82,9 +82,9 @@ fn is_constant(word: i32) -> bool
     ensures { λ r. ⌜ r ≡ constant word ⌝ }
 {
     match sheet_terms::term_of(word) {
-        Term::Constant(_) => true,
-        Term::Variable(_) => false,
-        Term::OutOfRange => false,
+        FieldTerm::Constant(_) => true,
+        FieldTerm::Variable(_) => false,
+        FieldTerm::OutOfRange => false,
     }
 }
 
@@ -387,16 +387,16 @@ fn next(g: Seen, kind: i32, n: usize) -> Seen
 }
 
 // What a line does, after the line before it and what the lines so far leave.
-pub fn step(g: Seen, before: &[i32; 7], l: &[i32; 7]) -> Step
+pub fn step(g: Seen, before: &[i32; 7], l: &[i32; 7]) -> LineStep
     ensures { λ r. ⌜ r ≡ stepOf g (wordLine (now (before .entry))) (wordLine (now (l .entry))) ⌝ }
 {
     let n = count(l);
     if n == 0 {
-        return Step::Stops(MALFORMED);
+        return LineStep::Stops(MALFORMED);
     }
     let number = line_cause(g, before, l, n);
     if number != 0 {
-        return Step::Stops(number);
+        return LineStep::Stops(number);
     }
-    Step::Goes(next(g, l[1], n - 1))
+    LineStep::Goes(next(g, l[1], n - 1))
 }

@@ -13,7 +13,7 @@ use Rattle.sheet_format.specs.Line.{natural}
 use Rattle.sheet_format.proofs.Lists.{no-way}
 use Rattle.sheet_format.specs.Cause.{termOf, orOut}
 use Rattle.sheet_format.specs.Relations.{columnsOf, relations}
-use Rattle.sheet_format.specs.declared.Term.the-variants.{Constant, Variable, OutOfRange}
+use Rattle.sheet_format.specs.declared.FieldTerm.the-variants.{Constant, Variable, OutOfRange}
 
 -- ---- terms
 

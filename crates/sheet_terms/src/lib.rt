@@ -1,7 +1,7 @@
 // Terms and relations of a sheet, by their numbers.
 use sheet_format::COLUMNS;
 use sheet_format::CONSTANT_END;
-use sheet_format::Term;
+use sheet_format::FieldTerm;
 use sheet_format::VARIABLES;
 ghost use mathlib.Core.Path.{_≡_};
 ghost use Rattle.sheet_format.specs.Cause.{termOf};
@@ -11,19 +11,19 @@ ghost use Rattle.sheet_format.specs.Relations.{columnsOf};
 const LAST_VARIABLE: i32 = -VARIABLES;
 
 // What a number stands for as a term; a variable's index is its number negated.
-pub fn term_of(t: i32) -> Term
+pub fn term_of(t: i32) -> FieldTerm
     ensures { λ r. ⌜ r ≡ termOf t ⌝ }
 {
     if t < 0 {
         if t < LAST_VARIABLE {
-            return Term::OutOfRange;
+            return FieldTerm::OutOfRange;
         }
-        return Term::Variable((-t) as usize);
+        return FieldTerm::Variable((-t) as usize);
     }
     if t < CONSTANT_END {
-        return Term::Constant(t as usize);
+        return FieldTerm::Constant(t as usize);
     }
-    Term::OutOfRange
+    FieldTerm::OutOfRange
 }
 
 // The columns of a relation, 0 where there is no such relation.

@@ -106,12 +106,12 @@ record RowsRead (block last v : ℕ) (all : List ViewRow) (ahead now : List (Lis
 abbrev WalkedIn : Seen → ℕ → List Line → Type 0
 WalkedIn g v ls = RowsRead (g .block) (g .last) v (rowsFrom v ls) (front ls) (rows ls) (flatFrom v (blocks isView ls))
 
-abbrev Step : Seen → ℕ → Line → List Line → Kind → Type 0
-Step g v l ls k =
+abbrev LineWalked : Seen → ℕ → Line → List Line → Kind → Type 0
+LineWalked g v l ls k =
     RowsRead (g .block) (g .last) v (cond (isView k) (rowsFrom (suc v) ls) (cond (isRow k) (record { view = v - 1; row = map natural (rest l) } ∷ rowsFrom v ls) (rowsFrom v ls))) (frontBy l ls k)
     (cond (isRow k) (map natural (rest l) ∷ rows ls) []) (flatFrom v (cond (isView k) (viewOf l ls ∷ blocks isView ls) (blocks isView ls)))
 
-walked-by : (g : Seen) (v : ℕ) (l : Line) (ls : List Line) (k : Kind) (n : ℕ) → inPlace g k ≡ true → ((u : ℕ) → WalkedIn (nextBy g k n) u ls) → Step g v l ls k
+walked-by : (g : Seen) (v : ℕ) (l : Line) (ls : List Line) (k : Kind) (n : ℕ) → inPlace g k ≡ true → ((u : ℕ) → WalkedIn (nextBy g k n) u ls) → LineWalked g v l ls k
 unfolding front frontBy
 walked-by g v l ls question n p ih =
     let e = eqb-true (g .block) 0 p in

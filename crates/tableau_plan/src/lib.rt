@@ -41,7 +41,7 @@ ghost use Rattle.query_blocks.specs.Parts.{AcceptedLines};
 const TERMS: usize = MADE_UP + NAMES;
 
 // How many views have begun, and how many rows have been taken.
-struct Walk {
+struct Tally {
     views: usize,
     rows: usize,
 }
@@ -118,7 +118,7 @@ fn view_of(views: usize) -> usize
 }
 
 // One line more.
-fn take_line(ws: &[i32], i: usize, p: &mut [usize], walk: Walk) -> Walk
+fn take_line(ws: &[i32], i: usize, p: &mut [usize], walk: Tally) -> Tally
     requires { ⌜ (i < length (now ws) / 7) × (length (now p) ≡ plan-numbers) × (walk .views ≤ i) × (walk .rows ≤ most-rows) ⌝ }
     ensures { λ r. ⌜ (r .views ≤ i + 1) × (r .rows ≤ most-rows) × KeptOutside (now (p .entry)) (now (p .exit)) rows-at blocks-at × (AcceptedLines (wordLines (now (ws .entry))) → RowsDone (now (p .entry)) (wordLines (now (ws .entry))) i (walk .views) (walk .rows) → RowsDone (now (p .exit)) (wordLines (now (ws .entry))) (i + 1) (r .views) (r .rows)) ⌝ }
 {
@@ -126,7 +126,7 @@ fn take_line(ws: &[i32], i: usize, p: &mut [usize], walk: Walk) -> Walk
     let views = walk.views;
     let r = walk.rows;
     if kind == VIEW_KIND {
-        return Walk {
+        return Tally {
             views: views + 1,
             rows: r,
         };
@@ -139,7 +139,7 @@ fn take_line(ws: &[i32], i: usize, p: &mut [usize], walk: Walk) -> Walk
     }
     put_values(ws, i, p, ROWS_AT + r * ROW_NUMBERS + 1);
     p[ROWS_AT + r * ROW_NUMBERS] = view_of(views);
-    Walk { views, rows: r + 1 }
+    Tally { views, rows: r + 1 }
 }
 
 // All listed rows with their views, and how many there are.
@@ -148,7 +148,7 @@ fn put_rows(ws: &[i32], p: &mut [usize]) -> usize
     ensures { λ r. ⌜ (r ≤ most-rows) × KeptOutside (now (p .entry)) (now (p .exit)) rows-at blocks-at × (AcceptedLines (wordLines (now (ws .entry))) → (v : ℕ) × RowsDone (now (p .exit)) (wordLines (now (ws .entry))) (length (now (ws .entry)) / 7) v r) ⌝ }
 {
     let n = ws.len() / LINE_WORDS;
-    let mut walk = Walk { views: 0, rows: 0 };
+    let mut walk = Tally { views: 0, rows: 0 };
     let mut i = 0;
     while i < n {
         walk = take_line(ws, i, p, walk);

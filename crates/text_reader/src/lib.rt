@@ -98,7 +98,7 @@ pub const EXPECT_SHORTER: usize = 18;
 
 // The machine: its place; the kind of the block; the lines of the number form so far, and the kind, the relation and the fields of the last;
 // whether that is a row without brackets; the block's variables so far; and what was expected, 0 where all tokens fitted.
-pub struct State {
+pub struct ReaderState {
     pub place: usize,
     pub block: usize,
     pub lines: usize,
@@ -111,8 +111,8 @@ pub struct State {
 }
 
 // How far the machine came: its state, and the token at which it stopped.
-pub struct Reached {
-    pub state: State,
+pub struct ReadTo {
+    pub state: ReaderState,
     pub at: usize,
 }
 
@@ -291,14 +291,14 @@ fn relation(word: &[u8]) -> usize
 }
 
 // The state at another place.
-fn go(s: State, place: usize) -> State {
+fn go(s: ReaderState, place: usize) -> ReaderState {
     let mut t = s;
     t.place = place;
     t
 }
 
 // The state where something else was expected.
-fn fail(s: State, what: usize) -> State {
+fn fail(s: ReaderState, what: usize) -> ReaderState {
     let mut t = s;
     t.expected = what;
     t
@@ -311,7 +311,7 @@ fn store(words: &mut [i32], at: usize, w: i32) {
 }
 
 // One field more in the last line of the number form.
-fn put_field(words: &mut [i32], s: State, w: i32) -> State {
+fn put_field(words: &mut [i32], s: ReaderState, w: i32) -> ReaderState {
     let lines = s.lines;
     let fields = s.fields;
     if lines < 1 {
@@ -332,7 +332,7 @@ fn put_field(words: &mut [i32], s: State, w: i32) -> State {
 }
 
 // One line more, of a kind. Where no more are kept, the last is written again.
-fn begin(words: &mut [i32], s: State, kind: usize) -> State
+fn begin(words: &mut [i32], s: ReaderState, kind: usize) -> ReaderState
     requires { ⌜ kind ≤ 5 ⌝ }
 {
     let lines = s.lines;
@@ -358,7 +358,7 @@ fn next_block(block: usize) -> usize
 }
 
 // At the start of a line: a block's letter; empty lines and comments are passed over.
-fn start(token: &[u8], s: State, words: &mut [i32]) -> State {
+fn start(token: &[u8], s: ReaderState, words: &mut [i32]) -> ReaderState {
     let block = next_block(s.block);
     if token.len() == 0 {
         return s;
@@ -382,7 +382,7 @@ fn start(token: &[u8], s: State, words: &mut [i32]) -> State {
     go(t, OPEN)
 }
 
-fn comment(token: &[u8], s: State) -> State {
+fn comment(token: &[u8], s: ReaderState) -> ReaderState {
     if kind(token) == b'\n' {
         return go(s, START);
     }
@@ -390,7 +390,7 @@ fn comment(token: &[u8], s: State) -> State {
 }
 
 // Before a bracket. An atom has terms; a head may have none.
-fn open(token: &[u8], s: State) -> State {
+fn open(token: &[u8], s: ReaderState) -> ReaderState {
     if kind(token) != b'(' {
         return fail(s, EXPECT_OPEN);
     }
@@ -405,10 +405,10 @@ fn first(
     text: &[u8],
     at: usize,
     token: &[u8],
-    s: State,
+    s: ReaderState,
     words: &mut [i32],
     names: &mut [usize],
-) -> State {
+) -> ReaderState {
     if kind(token) == b')' {
         return close(s);
     }
@@ -420,11 +420,11 @@ fn term(
     text: &[u8],
     at: usize,
     token: &[u8],
-    s: State,
+    s: ReaderState,
     words: &mut [i32],
     names: &mut [usize],
     what: usize,
-) -> State {
+) -> ReaderState {
     let k = kind(token);
     if k == b'0' {
         let n = number(token);
@@ -439,7 +439,7 @@ fn term(
 }
 
 // The state that has seen a variable of a number.
-fn named(s: State, n: usize) -> State {
+fn named(s: ReaderState, n: usize) -> ReaderState {
     let mut t = s;
     if t.names < n {
         if n <= NAMED {
@@ -450,7 +450,7 @@ fn named(s: State, n: usize) -> State {
 }
 
 // Behind a term.
-fn next(token: &[u8], s: State) -> State {
+fn next(token: &[u8], s: ReaderState) -> ReaderState {
     let k = kind(token);
     if k == b',' {
         return more(s);
@@ -465,7 +465,7 @@ fn next(token: &[u8], s: State) -> State {
 }
 
 // A comma behind a term: there may be one column more.
-fn more(s: State) -> State {
+fn more(s: ReaderState) -> ReaderState {
     if s.kind == ATOM_KIND {
         if s.fields < columns(s) {
             return go(s, TERM);
@@ -479,7 +479,7 @@ fn more(s: State) -> State {
 }
 
 // The fields of the atom that the relation wants: the kind, the relation, a term for each column.
-fn columns(s: State) -> usize {
+fn columns(s: ReaderState) -> usize {
     let r = s.relation;
     if r <= RELATIONS {
         return least(sheet_terms::columns(r as i32), MOST_COLUMNS) + 2;
@@ -494,7 +494,7 @@ fn least(a: usize, b: usize) -> usize
 }
 
 // A closing bracket.
-fn close(s: State) -> State {
+fn close(s: ReaderState) -> ReaderState {
     let kind = s.kind;
     if kind == ATOM_KIND {
         if s.fields == columns(s) {
@@ -508,7 +508,7 @@ fn close(s: State) -> State {
     go(s, COLON)
 }
 
-fn colon(token: &[u8], s: State) -> State {
+fn colon(token: &[u8], s: ReaderState) -> ReaderState {
     if kind(token) == b':' {
         return go(s, RELATION);
     }
@@ -516,7 +516,7 @@ fn colon(token: &[u8], s: State) -> State {
 }
 
 // An atom's relation.
-fn atom(token: &[u8], s: State, words: &mut [i32]) -> State {
+fn atom(token: &[u8], s: ReaderState, words: &mut [i32]) -> ReaderState {
     let r = relation(token);
     if r == 0 {
         return fail(s, EXPECT_RELATION);
@@ -528,7 +528,7 @@ fn atom(token: &[u8], s: State, words: &mut [i32]) -> State {
 }
 
 // Behind an atom: another; or the block's end, which in a view is "=" and the rows.
-fn atom_end(token: &[u8], s: State) -> State {
+fn atom_end(token: &[u8], s: ReaderState) -> ReaderState {
     let k = kind(token);
     if k == b',' {
         return go(s, RELATION);
@@ -546,7 +546,7 @@ fn atom_end(token: &[u8], s: State) -> State {
 }
 
 // Behind "=": a row, or none.
-fn rows(token: &[u8], s: State, words: &mut [i32]) -> State {
+fn rows(token: &[u8], s: ReaderState, words: &mut [i32]) -> ReaderState {
     if kind(token) == b'\n' {
         return go(s, START);
     }
@@ -554,7 +554,7 @@ fn rows(token: &[u8], s: State, words: &mut [i32]) -> State {
 }
 
 // A row, in brackets or bare.
-fn row(token: &[u8], s: State, words: &mut [i32], what: usize) -> State {
+fn row(token: &[u8], s: ReaderState, words: &mut [i32], what: usize) -> ReaderState {
     let k = kind(token);
     if k == b'(' {
         return go(begin(words, s, ROW_KIND), FIRST);
@@ -570,7 +570,7 @@ fn row(token: &[u8], s: State, words: &mut [i32], what: usize) -> State {
 }
 
 // Behind a row.
-fn row_end(token: &[u8], s: State, what: usize) -> State {
+fn row_end(token: &[u8], s: ReaderState, what: usize) -> ReaderState {
     let k = kind(token);
     if k == b';' {
         return go(s, ROW);
@@ -586,10 +586,10 @@ fn step(
     text: &[u8],
     at: usize,
     token: &[u8],
-    s: State,
+    s: ReaderState,
     words: &mut [i32],
     names: &mut [usize],
-) -> State {
+) -> ReaderState {
     let place = s.place;
     match place {
         START => start(token, s, words),
@@ -608,11 +608,11 @@ fn step(
 }
 
 // Runs the machine over a text: to its end, to the first token that does not fit, or to the start of line `most` of the number form.
-pub fn run(text: &[u8], words: &mut [i32], most: usize) -> Reached
+pub fn run(text: &[u8], words: &mut [i32], most: usize) -> ReadTo
     ensures { λ r. ⌜ r .at ≤ length (now (text .entry)) ⌝ }
 {
     let mut names = [0usize; NAMED];
-    let mut s = State {
+    let mut s = ReaderState {
         place: START,
         block: 0,
         lines: 0,
@@ -628,15 +628,15 @@ pub fn run(text: &[u8], words: &mut [i32], most: usize) -> Reached
         let e = token_end(text, at);
         s = step(text, at, &text[at..e], s, words, &mut names);
         if s.expected != 0 {
-            return Reached { state: s, at };
+            return ReadTo { state: s, at };
         }
         if s.lines == most {
-            return Reached { state: s, at };
+            return ReadTo { state: s, at };
         }
         at = skip(text, e);
     }
     s = step(text, at, b"", s, words, &mut names);
-    Reached { state: s, at }
+    ReadTo { state: s, at }
 }
 
 // The line of the text that a place is in, from 1.

@@ -16,8 +16,8 @@ use Rattle.sheet_format.specs.Line.{all, natural}
 use Rattle.sheet_format.specs.Cause.{termOf}
 use Rattle.sheet_format.specs.Sheet.{over}
 use Rattle.sheet_format.specs.Relations.{columnsOf, relations, columnsAt}
-use Rattle.sheet_format.specs.declared.Term.{Term}
-use Rattle.sheet_format.specs.declared.Term.the-variants.{Constant, Variable, OutOfRange}
+use Rattle.sheet_format.specs.declared.FieldTerm.{FieldTerm}
+use Rattle.sheet_format.specs.declared.FieldTerm.the-variants.{Constant, Variable, OutOfRange}
 use Rattle.sheet_format.proofs.FieldLaws.{field-length}
 use Rattle.sheet_format.proofs.Lists.{and-left, and-right, and-both}
 use Rattle.text_buffer.specs.Puts.{Put}
@@ -92,7 +92,7 @@ term-few : (w : ℤ) → length (termBytes w) ≤ field-bytes
 unfolding termBytes
 term-few w = by (termOf w)
   where
-    by : (t : Term) → length (termAs t w) ≤ field-bytes
+    by : (t : FieldTerm) → length (termAs t w) ≤ field-bytes
     by (Variable i) = omega arith
     by (Constant n) = word-few w
     by OutOfRange = word-few w

@@ -19,8 +19,8 @@ use Rattle.sheet_format.specs.Limits.{field-end}
 use Rattle.sheet_format.specs.Line.{natural}
 use Rattle.sheet_format.specs.Cause.{termOf}
 use Rattle.sheet_format.specs.Relations.{columnsAt, columnsOf}
-use Rattle.sheet_format.specs.declared.Term.{Term}
-use Rattle.sheet_format.specs.declared.Term.the-variants.{Constant, Variable, OutOfRange}
+use Rattle.sheet_format.specs.declared.FieldTerm.{FieldTerm}
+use Rattle.sheet_format.specs.declared.FieldTerm.the-variants.{Constant, Variable, OutOfRange}
 use Rattle.sheet_format.proofs.Lists.{append-nil, map-append}
 use Rattle.text_buffer.specs.Puts.{Put}
 use Rattle.text_buffer.specs.Words.{bytes}
@@ -162,7 +162,7 @@ pub letter-first : {i : ℕ} → i < 1 → 97 ≡ variableLetter i
 unfolding variableLetter
 letter-first {i} h = rw (lt-ltb i 1 h)
 
-pub letter-last : {i : ℕ} → 1 ≤ i → 26 < i → 122 ≡ variableLetter i
+pub letter-last : {i : ℕ} → 1 ≤ i → 26 < i → 96 + 26 ≡ variableLetter i
 unfolding variableLetter
 letter-last {i} h l = rw (le-ltb i 1 h, lt-ltb 26 i l)
 
@@ -170,15 +170,15 @@ pub letter-at : {i : ℕ} → 1 ≤ i → i ≤ 26 → 96 + i ≡ variableLetter
 unfolding variableLetter
 letter-at {i} h l = rw (le-ltb i 1 h, le-ltb 26 i l)
 
-pub term-variable : {t : Term} {i v : ℕ} (w : ℤ) → t ≡ termOf w → t ≡ Variable i → v ≡ variableLetter i → v ∷ [] ≡ termBytes w
+pub term-variable : {t : FieldTerm} {i v : ℕ} (w : ℤ) → t ≡ termOf w → t ≡ Variable i → v ≡ variableLetter i → v ∷ [] ≡ termBytes w
 unfolding termBytes
 term-variable w e f g = ap (λ x. x ∷ []) g ∙ ap (λ x. termAs x w) (sym f ∙ e)
 
-pub term-constant : {t : Term} {n : ℕ} (w : ℤ) → t ≡ termOf w → t ≡ Constant n → wordBytes w ≡ termBytes w
+pub term-constant : {t : FieldTerm} {n : ℕ} (w : ℤ) → t ≡ termOf w → t ≡ Constant n → wordBytes w ≡ termBytes w
 unfolding termBytes
 term-constant w e f = ap (λ x. termAs x w) (sym f ∙ e)
 
-pub term-other : {t : Term} (w : ℤ) → t ≡ termOf w → t ≡ OutOfRange → wordBytes w ≡ termBytes w
+pub term-other : {t : FieldTerm} (w : ℤ) → t ≡ termOf w → t ≡ OutOfRange → wordBytes w ≡ termBytes w
 unfolding termBytes
 term-other w e f = ap (λ x. termAs x w) (sym f ∙ e)
 

@@ -10,8 +10,8 @@ use Rattle.sheet_format.specs.Field.{fieldBytes}
 use Rattle.sheet_format.specs.Line.{natural}
 use Rattle.sheet_format.specs.Cause.{termOf}
 use Rattle.sheet_format.specs.Relations.{columnsAt, columnsOf}
-use Rattle.sheet_format.specs.declared.Term.{Term}
-use Rattle.sheet_format.specs.declared.Term.the-variants.{Constant, Variable, OutOfRange}
+use Rattle.sheet_format.specs.declared.FieldTerm.{FieldTerm}
+use Rattle.sheet_format.specs.declared.FieldTerm.the-variants.{Constant, Variable, OutOfRange}
 use Rattle.text_buffer.specs.Words.{bytes}
 use Rattle.text_begins.specs.Begins.{letterOf}
 use Rattle.text_begins.specs.Begins.{most-text}
@@ -58,10 +58,10 @@ numberBytes n = if (ltb n field-end) (wordBytes (pos n))
 
 -- a variable's letter: "a" for the first, "z" from the 26th on
 unfoldable pub variableLetter : ℕ → ℕ
-variableLetter i = cond (ltb i 1) 97 (cond (ltb 26 i) 122 (96 + i))
+variableLetter i = cond (ltb i 1) 97 (cond (ltb 26 i) (96 + 26) (96 + i))
 
 -- a variable by its letter, any other word by its number
-abbrev pub termAs : Term → ℤ → List ℕ
+abbrev pub termAs : FieldTerm → ℤ → List ℕ
 termAs (Variable i) w = variableLetter i ∷ []
 termAs (Constant n) w = wordBytes w
 termAs OutOfRange w = wordBytes w

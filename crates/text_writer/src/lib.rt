@@ -1,8 +1,8 @@
 // Numbers, terms and names of relations, as bytes, and what the bytes of texts are. Each function puts bytes at a place of a buffer, and returns
 // the place after them; what does not fit is left out.
 use sheet_format::FIELD_END;
+use sheet_format::FieldTerm;
 use sheet_format::MOST_SHEET_BYTES;
-use sheet_format::Term;
 use text_buffer::put_byte;
 use text_reader::NAME;
 use text_reader::NAMES;
@@ -75,9 +75,9 @@ pub fn put_term(out: &mut [u8], at: usize, w: i32) -> usize
     ensures { λ r. ⌜ Put (now (out .entry)) (now (out .exit)) at (termBytes w) r ⌝ }
 {
     match sheet_terms::term_of(w) {
-        Term::Variable(index) => put_byte(out, at, variable(index)),
-        Term::Constant(_) => put_word(out, at, w),
-        Term::OutOfRange => put_word(out, at, w),
+        FieldTerm::Variable(index) => put_byte(out, at, variable(index)),
+        FieldTerm::Constant(_) => put_word(out, at, w),
+        FieldTerm::OutOfRange => put_word(out, at, w),
     }
 }
 

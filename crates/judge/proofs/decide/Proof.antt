@@ -9,7 +9,7 @@ use Rattle.judge.proofs.decide.Reads as reads
 use Rattle.judge.proofs.decide.Lts as lts
 use Rattle.case_writer.proofs.hand_over.Reads as hand-over-reads
 use Rattle.judge.proofs.plain.Reads as plain-reads
-use Rattle.search_run.proofs.find.Reads as find-reads
+use Rattle.search_chase.proofs.find.Reads as find-reads
 
 slice-aggregate-find : tie.Need-slice-aggregate-find
 slice-aggregate-find c = search needs

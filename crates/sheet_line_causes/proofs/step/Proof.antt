@@ -5,7 +5,7 @@ use lib.IntN.{pos}
 use Rattle.list_laws.proofs.Words.{word-back}
 use Rattle.sheet_format.specs.Cause.{kindOf}
 use Rattle.sheet_format.specs.Line.{wordLine}
-use Rattle.sheet_format.specs.declared.Step.the-variants.{Goes}
+use Rattle.sheet_format.specs.declared.LineStep.the-variants.{Goes}
 use Rattle.sheet_line_causes.specs.Parts.{CountedFields, fields}
 use Rattle.sheet_line_causes.proofs.Lines.{counted, room, step-malformed, step-stops, step-goes}
 use borrow.Author.Needs.{needs}
