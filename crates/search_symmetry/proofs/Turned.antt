@@ -25,7 +25,7 @@ use Rattle.search_task.specs.Task.{ReadyPlan, sheetBy}
 use Rattle.search_task.specs.declared.Goal.{Goal}
 use Rattle.search_task.specs.declared.Goal.the-variants.{Counterexample, Agreement}
 use Rattle.search_task.proofs.Columns.{same-at, pad-at, map-at, map-length, at-in, row-at}
-use Rattle.search_task.proofs.Heads.{block-at}
+use Rattle.tableau_parts.proofs.Laws.{block-at}
 use Rattle.search_task.proofs.Copies.{copy-small, copy-job, first-job, numbered-is}
 use Rattle.search_task.proofs.Node.{in-nth}
 use Rattle.search_task.proofs.NodeLaws.{list-index, list-shaped}

@@ -4,17 +4,13 @@ use mathlib.Core.List.{List}
 use Prim.Native.Nat.{ℕ, _+_, _-_, _*_, _<_, _≤_}
 use native.Mathlib.Omega.{arith}
 use borrow.Author.Tests.{lt-ltb, le-ltb}
-use lib.ListN.{getD, drop}
-use lib.Seq.{getD-take, getD-drop}
+use lib.ListN.{getD}
 use Rattle.query_layout.specs.Layout.{block-head, block-width, names}
 use Rattle.tableau_layout.specs.Layout.{blocks-at}
 use Rattle.query_join.specs.Joins.{valueOf}
 use Rattle.case_verdicts.specs.Tableau.{State}
 use Rattle.tableau_plan.specs.Plan.{blockNumbers}
-
--- a number of a block is a number of the plan
-pub block-at : (p : List ℕ) (b j : ℕ) → j < block-width → getD (blockNumbers p b) j 0 ≡ getD p (blocks-at + b * block-width + j) 0
-block-at p b j lt = getD-take block-width (drop (blocks-at + b * block-width) p) j 0 lt ∙ getD-drop (blocks-at + b * block-width) p j 0
+use Rattle.tableau_parts.proofs.Laws.{block-at}
 
 module _ (p : List ℕ) (s : State) (b k c : ℕ) (col : c < 4) where
   place : getD (blockNumbers p b) (block-head + c) 0 ≡ getD p (blocks-at + b * block-width + block-head + c) 0

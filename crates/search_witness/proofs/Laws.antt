@@ -8,7 +8,6 @@ use native.Mathlib.Omega.{arith}
 use borrow.Author.Count.{below-more}
 use borrow.Author.Tests.{lt-ltb, le-ltb}
 use lib.ListN.{length, getD}
-use Rattle.list_laws.proofs.Lists.{part-get}
 use Rattle.list_laws.proofs.Order.{less?}
 use Rattle.sheet_format.specs.Limits.{most-atoms}
 use Rattle.query_layout.specs.Layout.{block-head, block-width, names}
@@ -20,6 +19,7 @@ use Rattle.case_verdicts.specs.Tableau.{State}
 use Rattle.tableau_plan.specs.Plan.{blockNumbers, blockSize, slotValue, tableauAt, tableauFacts, tableauSize}
 use Rattle.tableau_plan.proofs.Tableau.{tableau-length, tableau-relation, tableau-term}
 use Rattle.tableau_parts.specs.Views.{GivenAt}
+use Rattle.tableau_parts.proofs.Laws.{block-at}
 use Rattle.search_slots.specs.Slots.{SetWithin}
 use Rattle.search_links.specs.Links.{Linked, placeRoot, valueUnder}
 use Rattle.search_links.specs.Steps.{RootValue, RootValues}
@@ -30,10 +30,6 @@ use Rattle.search_reasons.proofs.Ways.{slot-value, constant-value}
 use Rattle.search_witness.specs.Witness.{readAt, placeOf, Reads, ColumnRead, AtomRead, AtomsRead, HeadRead, RowRead, RowShown, AskedShown}
 
 -- ---- places
-
--- a number of a block is a number of the plan
-block-at : (p : List ℕ) (b j : ℕ) → j < block-width → getD (blockNumbers p b) j 0 ≡ getD p (blocks-at + b * block-width + j) 0
-block-at p b j h = part-get p (blocks-at + b * block-width) block-width j 0 h
 
 pub place-variable : (first : List ℕ) (a : ℕ) → a < names → placeOf first a ≡ getD first a 0
 unfolding placeOf
