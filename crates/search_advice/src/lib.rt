@@ -5,11 +5,16 @@ use search_board::ANY_ROW;
 use search_board::BEST;
 use search_board::BITS;
 use search_board::BOARD;
+use search_board::BY_AT;
+use search_board::BY_LIST;
 use search_board::BYTE;
 use search_board::CHANGED;
+use search_board::COUNTS_AT;
 use search_board::FACT_END;
 use search_board::FACT_WORDS;
 use search_board::FAILURES;
+use search_board::FELL;
+use search_board::FELL_ROW;
 use search_board::FOLDED;
 use search_board::FOUND_ENTRY;
 use search_board::HINT;
@@ -20,6 +25,9 @@ use search_board::LOOKED;
 use search_board::MOST_KEPT;
 use search_board::OVER;
 use search_board::STARTED;
+use search_board::STOOD;
+use search_board::TRY_COUNT;
+use search_board::TRY_KEPT;
 use search_nogoods::MEMORY_NUMBERS;
 use sheet_format::MOST_ATOMS;
 use tableau_layout::LIST_BLOCKS;
@@ -29,15 +37,21 @@ use tableau_layout::SLOTS;
 // From so many failures on, rows are tried before one of them is chosen.
 const PATIENCE: usize = 10;
 
+// More than the listed rows that a row can fit.
+const NO_COUNT: usize = 99;
+
 // So many rows may be visited in these trials.
 const PROBE_BUDGET: usize = 10000;
 
-// What is advised: nothing; a list that is given the question's head; a row of a view.
+// What is advised: nothing; a list that is given the question's head; a row of a view; a row of a view that cannot become a listed one, which the hint
+// names then.
 pub const NOTHING: usize = 0;
 
 pub const LIST_GIVEN: usize = 1;
 
 pub const ROW_GIVEN: usize = 2;
+
+pub const ROW_FAILS: usize = 3;
 
 // The block and the facts that its atoms are, and the listed rows to try first.
 pub struct Advice {
@@ -54,6 +68,7 @@ pub struct Stand {
     pub folded: [u64; FACT_WORDS],
 }
 
+// No advice.
 fn nothing() -> Advice {
     Advice {
         kind: NOTHING,
@@ -70,6 +85,16 @@ fn entry_facts(e: usize) -> [usize; MOST_ATOMS] {
     at[1] = search_board::entry_fact(e, 1);
     at[2] = search_board::entry_fact(e, 2);
     at
+}
+
+// That the row of an entry cannot become listed row i.
+fn by_fall(e: usize, i: usize) -> Advice {
+    Advice {
+        kind: ROW_FAILS,
+        block: search_look::view_block(search_board::entry_view(e)),
+        at: entry_facts(e),
+        hint: i as u64,
+    }
 }
 
 // The row of an entry.
@@ -101,7 +126,16 @@ fn kept_count(bd: &[u32; BOARD]) -> usize {
 
 // ---- trying a listed row
 
-// Whether the facts where a row has become a listed one cannot stand, as one look tells.
+// Notes the facts by which a list is given the question's head in a trial.
+fn note_facts(at: &[usize; MOST_ATOMS], bd: &mut [u32; BOARD]) {
+    let mut j = 0;
+    while j < MOST_ATOMS {
+        search_board::put(bd, BY_AT + j, at[j]);
+        j += 1;
+    }
+}
+
+// Whether the facts where a row has become a listed one cannot stand, as one look tells, and why.
 fn is_refuted(
     p: &[usize; PLAN_NUMBERS],
     sl: &[usize; MEMORY_NUMBERS],
@@ -117,9 +151,13 @@ fn is_refuted(
         let all = !search_board::same_row(&head, &now);
         let g = search_look::giving(p, &now, all, bd, bits);
         if g.some {
+            let at = g.at;
+            search_board::put(bd, BY_LIST, g.list % BYTE + 1);
+            note_facts(&at, bd);
             return true;
         }
     }
+    search_board::put(bd, BY_LIST, 0);
     search_look::look(p, sl, false, false, bd, bits)
 }
 
@@ -128,7 +166,6 @@ fn is_row_refuted(
     p: &[usize; PLAN_NUMBERS],
     ws: &[usize; SLOTS],
     asked: bool,
-    from: usize,
     sl: &[usize; MEMORY_NUMBERS],
     row: &[usize; 4],
     i: usize,
@@ -137,36 +174,45 @@ fn is_row_refuted(
 ) -> bool {
     let to = tableau_parts::values_at(p, i);
     let alive = search_board::facts_at(bits, ALIVE);
-    search_board::suppose(p, from, row, &to, bd, bits);
+    search_board::suppose(row, &to, bd, bits);
     let changed = search_board::facts_at(bits, CHANGED);
     search_board::keep_one(bd, bits);
     let out = is_refuted(p, sl, asked, row, &to, bd, bits);
-    search_board::restore(p, ws, &changed, bd);
+    search_board::restore(p, ws, &changed, bd, bits);
     search_board::put_facts(bits, ALIVE, alive);
     out
 }
 
-// Those of the listed rows in the set that a row of a view can become, as one look at each tells.
-fn rows_left(
+// Puts listed row i into the set at a word.
+fn add_row(bits: &mut [u64; BITS], at: usize, i: usize) {
+    let set = search_board::word(bits, at);
+    search_board::put_word(bits, at, set | search_board::bit(i));
+}
+
+// Tries the listed rows in the set that have not been tried yet with a row: those that may stand and those that fell are noted. True: one fell.
+fn try_rows(
     p: &[usize; PLAN_NUMBERS],
     ws: &[usize; SLOTS],
     asked: bool,
-    from: usize,
     sl: &[usize; MEMORY_NUMBERS],
     row: &[usize; 4],
     set: u64,
     bd: &mut [u32; BOARD],
     bits: &mut [u64; BITS],
-) -> u64 {
-    let mut rows: u64 = 0;
-    let mut i = search_board::next_digit(set, 0);
+) -> bool {
+    let tried = search_board::word(bits, STOOD) | search_board::word(bits, FELL);
+    let open = (set | tried) ^ tried;
+    let mut i = search_board::next_digit(open, 0);
     while i < 64 {
-        if !is_row_refuted(p, ws, asked, from, sl, row, i, bd, bits) {
-            rows = rows | search_board::bit(i);
+        if is_row_refuted(p, ws, asked, sl, row, i, bd, bits) {
+            add_row(bits, FELL, i);
+            search_board::put(bd, FELL_ROW, i + 1);
+            return true;
         }
-        i = search_board::next_digit(set, i + 1);
+        add_row(bits, STOOD, i);
+        i = search_board::next_digit(open, i + 1);
     }
-    rows
+    false
 }
 
 // ---- listed rows whose facts are there already
@@ -247,7 +293,7 @@ fn by_kept(
 ) -> Advice {
     let e = kept_entry(bd, k);
     let row = search_board::entry_row(bd, e);
-    let f = search_board::fits(p, search_board::entry_view(e), &row, sl, bd, bits);
+    let f = search_fits::fits(search_board::entry_view(e), &row, sl, bd, bits);
     let set = if hint == 0 { f.set } else { hint };
     let known = known_rows(p, e, &row, set, bd, bits);
     if known != 0 {
@@ -256,47 +302,44 @@ fn by_kept(
     by_entry(e, hint)
 }
 
-// How many listed rows kept row k fits, and 99 if nothing is to be done there.
+// How many listed rows kept row k fits, and NO_COUNT if nothing is to be done there.
 fn fit_count(
-    p: &[usize; PLAN_NUMBERS],
     sl: &[usize; MEMORY_NUMBERS],
     k: usize,
     bd: &[u32; BOARD],
     bits: &[u64; BITS],
-) -> u8 {
+) -> usize {
     let e = kept_entry(bd, k);
     let row = search_board::entry_row(bd, e);
-    let f = search_board::fits(p, search_board::entry_view(e), &row, sl, bd, bits);
+    let f = search_fits::fits(search_board::entry_view(e), &row, sl, bd, bits);
     if f.listed {
-        return 99;
+        return NO_COUNT;
     }
     if search_board::is_folded(bd, bits, &row) {
-        return 99;
+        return NO_COUNT;
     }
-    (search_board::ones(f.set) % 99) as u8
+    search_board::ones(f.set)
 }
 
 // Counts for each of n kept rows the listed rows that it fits; a kept row that fits the fewest, or n if nothing is to be done. Stops at one that fits one
 // or none.
 fn survey(
-    p: &[usize; PLAN_NUMBERS],
     sl: &[usize; MEMORY_NUMBERS],
     n: usize,
-    counts: &mut [u8; MOST_KEPT],
-    bd: &[u32; BOARD],
+    bd: &mut [u32; BOARD],
     bits: &[u64; BITS],
 ) -> usize {
     let mut best = n;
-    let mut few = 99;
+    let mut few = NO_COUNT;
     let mut k = 0;
     while k < n {
-        let m = fit_count(p, sl, k, bd, bits);
-        put_count(counts, k, m);
+        let m = fit_count(sl, k, bd, bits);
+        put_count(bd, k, m);
         if m < few {
             few = m;
             best = k;
         }
-        if m == 0 {
+        if m < 2 {
             return k;
         }
         k += 1;
@@ -304,26 +347,26 @@ fn survey(
     best
 }
 
-fn put_count(counts: &mut [u8; MOST_KEPT], k: usize, m: u8) {
+// Notes how many listed rows kept row k fits.
+fn put_count(bd: &mut [u32; BOARD], k: usize, m: usize) {
     if k < MOST_KEPT {
-        counts[k] = m;
+        search_board::put(bd, COUNTS_AT + k, m);
     }
 }
 
 // How many listed rows kept row k fits.
-fn count_at(counts: &[u8; MOST_KEPT], k: usize) -> u8 {
+fn count_at(bd: &[u32; BOARD], k: usize) -> usize {
     if MOST_KEPT <= k {
-        return 99;
+        return NO_COUNT;
     }
-    counts[k]
+    search_board::get(bd, COUNTS_AT + k)
 }
 
-// Tries kept row k, and notes it if fewer listed rows are left of it than of those before. Whether that is enough.
+// Tries kept row k, and notes it if fewer listed rows are left of it than of those before. Whether that is enough, or a listed row fell.
 fn try_kept(
     p: &[usize; PLAN_NUMBERS],
     ws: &[usize; SLOTS],
     asked: bool,
-    from: usize,
     sl: &[usize; MEMORY_NUMBERS],
     k: usize,
     bd: &mut [u32; BOARD],
@@ -331,8 +374,11 @@ fn try_kept(
 ) -> bool {
     let e = kept_entry(bd, k);
     let row = search_board::entry_row(bd, e);
-    let f = search_board::fits(p, search_board::entry_view(e), &row, sl, bd, bits);
-    let rows = rows_left(p, ws, asked, from, sl, &row, f.set, bd, bits);
+    let f = search_fits::fits(search_board::entry_view(e), &row, sl, bd, bits);
+    if try_rows(p, ws, asked, sl, &row, f.set, bd, bits) {
+        return true;
+    }
+    let rows = f.set & search_board::word(bits, STOOD);
     let live = search_board::ones(rows);
     if live < search_board::get(bd, LEAST) {
         search_board::put(bd, LEAST, live);
@@ -342,79 +388,84 @@ fn try_kept(
     (live < 2) | (PROBE_BUDGET < search_board::get(bd, LOOKED))
 }
 
-// Tries those of n kept rows that fit m listed rows. Whether that is enough.
+// Goes on to kept row k.
+fn go_on(k: usize, bd: &mut [u32; BOARD], bits: &mut [u64; BITS]) {
+    search_board::put(bd, TRY_KEPT, k);
+    search_board::put_word(bits, STOOD, 0);
+    search_board::put_word(bits, FELL, 0);
+}
+
+// Tries those of n kept rows that fit m listed rows, from the one on at which trials stand. Whether that is enough, or a listed row fell.
 fn try_those(
     p: &[usize; PLAN_NUMBERS],
     ws: &[usize; SLOTS],
     asked: bool,
-    from: usize,
     sl: &[usize; MEMORY_NUMBERS],
     n: usize,
-    m: u8,
-    counts: &[u8; MOST_KEPT],
+    m: usize,
     bd: &mut [u32; BOARD],
     bits: &mut [u64; BITS],
 ) -> bool {
-    let mut k = 0;
+    let mut k = search_board::get(bd, TRY_KEPT);
     while k < n {
-        if count_at(counts, k) == m {
-            if try_kept(p, ws, asked, from, sl, k, bd, bits) {
+        if count_at(bd, k) == m {
+            search_board::put(bd, TRY_KEPT, k);
+            if try_kept(p, ws, asked, sl, k, bd, bits) {
                 return true;
             }
+            go_on(k + 1, bd, bits);
         }
         k += 1;
     }
+    search_board::put(bd, TRY_KEPT, 0);
     false
 }
 
-// Tries n kept rows, those first that fit few listed rows.
+// Tries n kept rows, those first that fit few listed rows, from where trials stand.
 fn try_all(
     p: &[usize; PLAN_NUMBERS],
     ws: &[usize; SLOTS],
     asked: bool,
-    from: usize,
     sl: &[usize; MEMORY_NUMBERS],
     n: usize,
-    counts: &[u8; MOST_KEPT],
     bd: &mut [u32; BOARD],
     bits: &mut [u64; BITS],
 ) {
-    let mut m: u8 = 2;
+    let mut m = search_board::get(bd, TRY_COUNT);
     while m <= 64 {
-        if try_those(p, ws, asked, from, sl, n, m, counts, bd, bits) {
+        if try_those(p, ws, asked, sl, n, m, bd, bits) {
             return;
         }
         m += 1;
+        search_board::put(bd, TRY_COUNT, m);
     }
 }
 
-// The kept row to repair.
-fn choose(
+// Lets trials begin, with a kept row for where none tells more.
+fn begin_trials(best: usize, bd: &mut [u32; BOARD], bits: &mut [u64; BITS]) {
+    search_board::put(bd, LEAST, NO_COUNT);
+    search_board::put(bd, BEST, best);
+    search_board::put(bd, LOOKED, 0);
+    search_board::put_word(bits, HINT, 0);
+    search_board::put(bd, TRY_COUNT, 2);
+    go_on(0, bd, bits);
+}
+
+// Goes on with the trials: a listed row that a kept row cannot become, or the kept row to repair.
+fn go_ahead(
     p: &[usize; PLAN_NUMBERS],
     ws: &[usize; SLOTS],
     asked: bool,
-    from: usize,
     sl: &[usize; MEMORY_NUMBERS],
     bd: &mut [u32; BOARD],
     bits: &mut [u64; BITS],
 ) -> Advice {
-    let n = kept_count(bd);
-    let mut counts = [0u8; MOST_KEPT];
-    let best = survey(p, sl, n, &mut counts, bd, bits);
-    if n <= best {
-        return nothing();
+    search_board::put(bd, FELL_ROW, 0);
+    try_all(p, ws, asked, sl, kept_count(bd), bd, bits);
+    let fell = search_board::get(bd, FELL_ROW);
+    if fell != 0 {
+        return by_fall(kept_entry(bd, search_board::get(bd, TRY_KEPT)), fell - 1);
     }
-    if count_at(&counts, best) < 2 {
-        return by_entry(kept_entry(bd, best), 0);
-    }
-    if search_board::get(bd, FAILURES) < PATIENCE {
-        return by_kept(p, sl, best, 0, bd, bits);
-    }
-    search_board::put(bd, LEAST, 99);
-    search_board::put(bd, BEST, best);
-    search_board::put(bd, LOOKED, 0);
-    search_board::put_word(bits, HINT, 0);
-    try_all(p, ws, asked, from, sl, n, &counts, bd, bits);
     by_kept(
         p,
         sl,
@@ -423,6 +474,40 @@ fn choose(
         bd,
         bits,
     )
+}
+
+// Whether rows are tried ahead after so many failures: from PATIENCE on, in turns. Each turn, with trials and without, is twice as long as the one
+// before, so that neither way costs much more than the better of the two.
+fn is_ahead(failures: usize) -> bool {
+    let x = (failures / PATIENCE) as u64;
+    if x == 0 {
+        return false;
+    }
+    u64::leading_zeros(x) % 2 == 1
+}
+
+// The kept row to repair.
+fn choose(
+    p: &[usize; PLAN_NUMBERS],
+    ws: &[usize; SLOTS],
+    asked: bool,
+    sl: &[usize; MEMORY_NUMBERS],
+    bd: &mut [u32; BOARD],
+    bits: &mut [u64; BITS],
+) -> Advice {
+    let n = kept_count(bd);
+    let best = survey(sl, n, bd, bits);
+    if n <= best {
+        return nothing();
+    }
+    if count_at(bd, best) < 2 {
+        return by_entry(kept_entry(bd, best), 0);
+    }
+    if !is_ahead(search_board::get(bd, FAILURES)) {
+        return by_kept(p, sl, best, 0, bd, bits);
+    }
+    begin_trials(best, bd, bits);
+    go_ahead(p, ws, asked, sl, bd, bits)
 }
 
 // ---- the advice
@@ -435,6 +520,7 @@ pub fn begin(
     bits: &mut [u64; BITS],
 ) {
     search_board::begin(p, from, bd, bits);
+    search_fits::note_rows(p, bd, bits);
 }
 
 // The last look, where rows may have been lost: any row that is not listed.
@@ -463,7 +549,7 @@ fn bring_up(
     bits: &mut [u64; BITS],
 ) -> bool {
     search_board::refresh(p, ws, from, bd, bits);
-    search_board::mark_struck(sl, bits);
+    search_fits::mark_struck(sl, bd, bits);
     search_board::keep_one(bd, bits);
     let first = search_board::get(bd, STARTED) == 0;
     search_board::put(bd, STARTED, 1);
@@ -490,7 +576,7 @@ fn advise_row(
         [0; 4]
     };
     search_fold::fold(p, ws, from, &fixed, all, bd, bits);
-    let a = choose(p, ws, asked, from, sl, bd, bits);
+    let a = choose(p, ws, asked, sl, bd, bits);
     if a.kind != NOTHING {
         return a;
     }
@@ -533,6 +619,44 @@ pub fn advise(
         }
     }
     advise_row(p, ws, asked, from, sl, all, bd, bits)
+}
+
+// What to do next in the same state, once it was looked into that a row cannot become a listed one.
+pub fn advise_on(
+    p: &[usize; PLAN_NUMBERS],
+    ws: &[usize; SLOTS],
+    asked: bool,
+    sl: &[usize; MEMORY_NUMBERS],
+    bd: &mut [u32; BOARD],
+    bits: &mut [u64; BITS],
+) -> Advice {
+    search_fits::mark_struck(sl, bd, bits);
+    go_ahead(p, ws, asked, sl, bd, bits)
+}
+
+// The facts by which a list is given the question's head in a trial.
+fn noted_facts(bd: &[u32; BOARD]) -> [usize; MOST_ATOMS] {
+    let mut at = [0usize; MOST_ATOMS];
+    let mut j = 0;
+    while j < MOST_ATOMS {
+        at[j] = search_board::get(bd, BY_AT + j);
+        j += 1;
+    }
+    at
+}
+
+// Why a row cannot become a listed one: what is the case then.
+pub fn reason(bd: &[u32; BOARD]) -> Advice {
+    let l = search_board::get(bd, BY_LIST);
+    if l == 0 {
+        return by_entry(search_board::get(bd, FOUND_ENTRY), 0);
+    }
+    Advice {
+        kind: LIST_GIVEN,
+        block: LIST_BLOCKS + (l - 1) % BYTE,
+        at: noted_facts(bd),
+        hint: 0,
+    }
 }
 
 // Counts a failure.

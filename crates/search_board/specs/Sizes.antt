@@ -1,4 +1,4 @@
--- The sizes of the board's sets. No promise to a caller rests on these.
+-- The sizes of what the board holds. No promise to a caller rests on these.
 use Prim.Native.Nat.{ℕ, _+_, _*_, _/_}
 use Rattle.tableau_layout.specs.Layout.{tableau-atoms}
 
@@ -8,3 +8,11 @@ fact-words = tableau-atoms / 64 + 1
 
 abbrev pub fact-end : ℕ
 fact-end = fact-words * 64
+
+-- the places where a value of a view's columns may stand
+abbrev pub keys : ℕ
+keys = 256
+
+-- the first of the values that slots cannot have, for slots that share a place
+abbrev pub firsts : ℕ
+firsts = 64

@@ -8,10 +8,9 @@ use query_layout::FACT_NUMBERS;
 use query_layout::HEAD_AT;
 use query_layout::MADE_UP;
 use query_layout::NAMES;
-use search_nogoods::MEMORY_NUMBERS;
+use search_nogoods::MOST_VALUES;
 use search_slots::SET_WORDS;
 use sheet_format::MOST_ATOMS;
-use sheet_format::MOST_ROWS;
 use sheet_format::MOST_VIEWS;
 use tableau_layout::BLOCKS_AT;
 use tableau_layout::MOST_BLOCKS;
@@ -38,17 +37,15 @@ pub const MOST_KEPT: usize = 512;
 
 pub const HASHES: usize = 512;
 
-// The numbers: the facts, first; kept rows; where they may be found; what a view's head takes from its atoms; each view's listed rows; the names of each
-// block's atoms and of its head; for a slot its atom, and the place whose value it takes when its facts are left out; the question's head; counters.
+// The numbers: the facts, first; kept rows; where they may be found; what a view's head takes from its atoms; the names of each block's atoms and of its
+// head; for a slot its atom, and the place whose value it takes when its facts are left out; the question's head; counters.
 pub const KEPT_AT: usize = TABLEAU_NUMBERS;
 
 pub const HASH_AT: usize = KEPT_AT + MOST_KEPT;
 
 const HEADS_AT: usize = HASH_AT + HASHES;
 
-const RANGES_AT: usize = HEADS_AT + MOST_VIEWS * COLUMNS;
-
-const NAMES_AT: usize = RANGES_AT + MOST_VIEWS * 2;
+const NAMES_AT: usize = HEADS_AT + MOST_VIEWS * COLUMNS;
 
 const HEAD_NAMES_AT: usize = NAMES_AT + MOST_BLOCKS * MOST_ATOMS;
 
@@ -78,7 +75,33 @@ pub const LEAST: usize = KEPT_COUNT + 8;
 
 pub const BEST: usize = KEPT_COUNT + 9;
 
-pub const BOARD: usize = KEPT_COUNT + 10;
+// Why a trial failed: a list, one more than its number, and its facts; 0 where it was the row of the found entry.
+pub const BY_LIST: usize = KEPT_COUNT + 10;
+
+pub const BY_AT: usize = KEPT_COUNT + 11;
+
+// Where trials stand: the listed row that fell last, one more than its number; how many listed rows the kept rows fit that are tried, and the kept row.
+pub const FELL_ROW: usize = BY_AT + MOST_ATOMS;
+
+pub const TRY_COUNT: usize = FELL_ROW + 1;
+
+pub const TRY_KEPT: usize = FELL_ROW + 2;
+
+// How many listed rows each kept row fits.
+pub const COUNTS_AT: usize = FELL_ROW + 3;
+
+// Values of a view's columns, where each may be found by what it is; of the values that slots cannot have, the first for a slot, and the next.
+pub const KEYS: usize = BYTE;
+
+pub const KEYS_AT: usize = COUNTS_AT + MOST_KEPT;
+
+pub const FIRSTS: usize = 64;
+
+pub const FIRST_AT: usize = KEYS_AT + KEYS;
+
+pub const NEXT_AT: usize = FIRST_AT + FIRSTS;
+
+pub const BOARD: usize = NEXT_AT + MOST_VALUES;
 
 // The sets: facts that count; facts that were left out as others; facts that changed; the facts of each relation; slots with a value that they cannot
 // have; and the listed rows to try first.
@@ -90,11 +113,33 @@ pub const CHANGED: usize = FACT_WORDS * 2;
 
 const FACTS_OF: usize = FACT_WORDS * 3;
 
-const STRUCK: usize = FACTS_OF + RELATIONS * FACT_WORDS;
+pub const STRUCK: usize = FACTS_OF + RELATIONS * FACT_WORDS;
 
 pub const HINT: usize = STRUCK + SET_WORDS;
 
-pub const BITS: usize = HINT + 1;
+// The listed rows that were tried with a kept row: those that may stand, and those that cannot.
+pub const STOOD: usize = HINT + 1;
+
+pub const FELL: usize = HINT + 2;
+
+// The listed rows of a view; those that have a value in a column; those with one value in two columns.
+pub const ROWS_OF_AT: usize = FELL + 1;
+
+pub const WITH_ZERO_AT: usize = ROWS_OF_AT + MOST_VIEWS;
+
+pub const WITH_VALUE_AT: usize = WITH_ZERO_AT + MOST_VIEWS * COLUMNS;
+
+pub const TWINS_AT: usize = WITH_VALUE_AT + KEYS;
+
+// The facts by a column's value, so many sets for a column.
+const SHARES: usize = 32;
+
+const SHARES_AT: usize = TWINS_AT + MOST_VIEWS * COLUMN_PAIRS;
+
+pub const BITS: usize = SHARES_AT + COLUMNS * SHARES * FACT_WORDS;
+
+// The pairs of two columns.
+pub const COLUMN_PAIRS: usize = 6;
 
 // A view, a list or a fact is a number below this: an entry has eight digits for each.
 pub const BYTE: usize = 256;
@@ -104,10 +149,12 @@ const HEAD_CONSTANT: usize = BYTE;
 
 // ---- numbers
 
+// A number of the board as it is read.
 fn wide(x: u32) -> usize {
     x as usize
 }
 
+// A number as the board holds it: its last 32 digits.
 fn narrow(x: usize) -> u32 {
     (x % 4294967296) as u32
 }
@@ -170,16 +217,48 @@ pub fn fact_row(bd: &[u32; BOARD], i: usize) -> [usize; 4] {
     ]
 }
 
+// Where the facts stand whose value x in column c they share.
+fn share_of(c: usize, x: usize) -> usize {
+    SHARES_AT + (c % COLUMNS * SHARES + x % SHARES) * FACT_WORDS
+}
+
+// The facts that may have the value x in column c.
+pub fn sharing(bits: &[u64; BITS], c: usize, x: usize) -> [u64; FACT_WORDS] {
+    facts_at(bits, share_of(c, x))
+}
+
+// Sets the value of fact i in column c.
+fn put_value(
+    bd: &mut [u32; BOARD],
+    bits: &mut [u64; BITS],
+    i: usize,
+    c: usize,
+    old: usize,
+    x: usize,
+) {
+    if old == x {
+        return;
+    }
+    put(bd, i % TABLEAU_ATOMS * FACT_NUMBERS + 1 + c % COLUMNS, x);
+    clear_bit(bits, share_of(c, old), i);
+    set_bit(bits, share_of(c, x), i);
+}
+
 // Sets the values of fact i.
-pub fn put_fact_row(bd: &mut [u32; BOARD], i: usize, row: &[usize; 4]) {
+pub fn put_fact_row(
+    bd: &mut [u32; BOARD],
+    bits: &mut [u64; BITS],
+    i: usize,
+    old: &[usize; 4],
+    row: &[usize; 4],
+) {
     if TABLEAU_ATOMS <= i {
         return;
     }
-    let at = i * FACT_NUMBERS;
-    bd[at + 1] = narrow(row[0]);
-    bd[at + 2] = narrow(row[1]);
-    bd[at + 3] = narrow(row[2]);
-    bd[at + 4] = narrow(row[3]);
+    put_value(bd, bits, i, 0, old[0], row[0]);
+    put_value(bd, bits, i, 1, old[1], row[1]);
+    put_value(bd, bits, i, 2, old[2], row[2]);
+    put_value(bd, bits, i, 3, old[3], row[3]);
 }
 
 // Whether two rows are the same.
@@ -467,13 +546,14 @@ fn refresh_fact(
     ws: &[usize; SLOTS],
     i: usize,
     bd: &mut [u32; BOARD],
+    bits: &mut [u64; BITS],
 ) -> bool {
     let new = atom_row(p, ws, i);
     let old = fact_row(bd, i);
     if same_row(&old, &new) {
         return false;
     }
-    put_fact_row(bd, i, &new);
+    put_fact_row(bd, bits, i, &old, &new);
     true
 }
 
@@ -489,7 +569,7 @@ pub fn refresh(
     let n = tableau_size(p);
     let mut i = from;
     while i < n {
-        if refresh_fact(p, ws, i, bd) {
+        if refresh_fact(p, ws, i, bd, bits) {
             set_bit(bits, CHANGED, i);
         }
         i += 1;
@@ -502,11 +582,13 @@ pub fn restore(
     ws: &[usize; SLOTS],
     set: &[u64; FACT_WORDS],
     bd: &mut [u32; BOARD],
+    bits: &mut [u64; BITS],
 ) {
     let mut i = next_fact(set, 0);
     while i < FACT_END {
+        let old = fact_row(bd, i);
         let row = atom_row(p, ws, i);
-        put_fact_row(bd, i, &row);
+        put_fact_row(bd, bits, i, &old, &row);
         i = next_fact(set, i + 1);
     }
 }
@@ -541,26 +623,49 @@ pub fn moved_row(u: &[usize; 4], to: &[usize; 4], row: &[usize; 4]) -> [usize; 4
     ]
 }
 
+// The facts that one of the sets has.
+fn either(a: [u64; FACT_WORDS], b: [u64; FACT_WORDS]) -> [u64; FACT_WORDS] {
+    let mut set = [0u64; FACT_WORDS];
+    let mut w = 0;
+    while w < FACT_WORDS {
+        set[w] = a[w] | b[w];
+        w += 1;
+    }
+    set
+}
+
+// Those in the set, and the facts that may have the value v, where it is made up.
+fn with_those(bits: &[u64; BITS], v: usize, set: [u64; FACT_WORDS]) -> [u64; FACT_WORDS] {
+    if v < MADE_UP {
+        return set;
+    }
+    let a = either(set, sharing(bits, 0, v));
+    let b = either(a, sharing(bits, 1, v));
+    let c = either(b, sharing(bits, 2, v));
+    either(c, sharing(bits, 3, v))
+}
+
+// The facts that may have a made-up value of the row.
+fn facts_with(bits: &[u64; BITS], row: &[usize; 4]) -> [u64; FACT_WORDS] {
+    let a = with_those(bits, row[0], [0; FACT_WORDS]);
+    let b = with_those(bits, row[1], a);
+    let c = with_those(bits, row[2], b);
+    with_those(bits, row[3], c)
+}
+
 // Lets the facts be those where the row becomes the other, and tells which changed.
-pub fn suppose(
-    p: &[usize; PLAN_NUMBERS],
-    from: usize,
-    row: &[usize; 4],
-    to: &[usize; 4],
-    bd: &mut [u32; BOARD],
-    bits: &mut [u64; BITS],
-) {
+pub fn suppose(row: &[usize; 4], to: &[usize; 4], bd: &mut [u32; BOARD], bits: &mut [u64; BITS]) {
     clear(bits, CHANGED, FACT_WORDS);
-    let n = tableau_size(p);
-    let mut i = from;
-    while i < n {
+    let set = facts_with(bits, row);
+    let mut i = next_fact(&set, 0);
+    while i < FACT_END {
         let old = fact_row(bd, i);
         let new = moved_row(row, to, &old);
         if !same_row(&old, &new) {
-            put_fact_row(bd, i, &new);
+            put_fact_row(bd, bits, i, &old, &new);
             set_bit(bits, CHANGED, i);
         }
-        i += 1;
+        i = next_fact(&set, i + 1);
     }
 }
 
@@ -584,16 +689,34 @@ fn same_values(bd: &[u32; BOARD], i: usize, k: usize) -> bool {
     bd[i * FACT_NUMBERS + 4] == bd[k * FACT_NUMBERS + 4]
 }
 
-// Whether another fact of the set has the values of fact i.
-fn is_twice(bd: &[u32; BOARD], set: &[u64; FACT_WORDS], i: usize) -> bool {
-    let mut k = next_fact(set, 0);
-    while k < FACT_END {
+// Whether another fact has the values of fact i, of those whose digits x has in word w of a set. The digits go one by one from the lowest on.
+fn is_twice_in(bd: &[u32; BOARD], i: usize, w: usize, digits: u64) -> bool {
+    let mut x = digits;
+    let mut left: usize = 64;
+    while 0 < left {
+        left -= 1;
+        if x == 0 {
+            return false;
+        }
+        let k = w % FACT_WORDS * 64 + first_digit(x);
+        x = x & (x - 1);
         if k != i {
             if same_values(bd, i, k) {
                 return true;
             }
         }
-        k = next_fact(set, k + 1);
+    }
+    false
+}
+
+// Whether another fact of the set has the values of fact i.
+fn is_twice(bd: &[u32; BOARD], set: &[u64; FACT_WORDS], i: usize) -> bool {
+    let mut w = 0;
+    while w < FACT_WORDS {
+        if is_twice_in(bd, i, w, set[w]) {
+            return true;
+        }
+        w += 1;
     }
     false
 }
@@ -675,6 +798,7 @@ pub fn is_folded(bd: &[u32; BOARD], bits: &[u64; BITS], row: &[usize; 4]) -> boo
 
 // ---- rows of views: an entry has the view in its lowest eight digits, and then eight digits for the fact that each atom is
 
+// The view of an entry.
 pub fn entry_view(e: usize) -> usize {
     e % BYTE
 }
@@ -689,6 +813,7 @@ pub fn entry_with(e: usize, j: usize, i: usize) -> usize {
     e | ((i % BYTE) << (8 * (j % 7) + 8))
 }
 
+// The value that an entry's facts give a column of its view's head; h tells where it comes from.
 fn entry_value(bd: &[u32; BOARD], e: usize, h: usize) -> usize {
     if HEAD_CONSTANT <= h {
         return h - HEAD_CONSTANT;
@@ -708,195 +833,6 @@ pub fn entry_row(bd: &[u32; BOARD], e: usize) -> [usize; 4] {
     let c = entry_value(bd, e, wide(bd[at + 2]));
     let d = entry_value(bd, e, wide(bd[at + 3]));
     [a, b, c, d]
-}
-
-// ---- which listed rows fit a row
-
-pub struct Fitting {
-    pub set: u64,
-    pub listed: bool,
-}
-
-// Whether x cannot become the constant y.
-fn clash(x: usize, y: usize) -> bool {
-    if MADE_UP <= x {
-        return false;
-    }
-    x != y
-}
-
-// Whether a value of the row cannot become that of listed row i. Row i is checked to be there before its values are read, so that each of them is read
-// only where those before it are no reason.
-fn do_clash(p: &[usize; PLAN_NUMBERS], row: &[usize; 4], i: usize) -> bool {
-    if MOST_ROWS <= i {
-        return true;
-    }
-    let to = tableau_parts::values_at(p, i);
-    if clash(row[0], to[0]) {
-        return true;
-    }
-    if clash(row[1], to[1]) {
-        return true;
-    }
-    if clash(row[2], to[2]) {
-        return true;
-    }
-    clash(row[3], to[3])
-}
-
-// Whether v is made up, and one of the other three.
-fn is_one_of(v: usize, x: usize, y: usize, z: usize) -> bool {
-    (MADE_UP <= v) & ((v == x) | (v == y) | (v == z))
-}
-
-// Whether a row has a made-up value twice.
-fn has_twice(u: &[usize; 4]) -> bool {
-    is_one_of(u[0], u[1], u[2], u[3]) | is_one_of(u[1], u[2], u[3], 0) | is_one_of(u[2], u[3], 0, 0)
-}
-
-// Whether x and y are one where v and w are.
-fn stays_one(v: usize, w: usize, x: usize, y: usize) -> bool {
-    (v != w) | (x == y)
-}
-
-// Whether values that are one in a row are one in the other.
-fn stay_one(u: &[usize; 4], r: &[usize; 4]) -> bool {
-    if !(stays_one(u[0], u[1], r[0], r[1]) & stays_one(u[0], u[2], r[0], r[2])) {
-        return false;
-    }
-    if !(stays_one(u[0], u[3], r[0], r[3]) & stays_one(u[1], u[2], r[1], r[2])) {
-        return false;
-    }
-    stays_one(u[1], u[3], r[1], r[3]) & stays_one(u[2], u[3], r[2], r[3])
-}
-
-// Whether v is made up, and there is a value that its slot cannot have.
-fn is_marked(bits: &[u64; BITS], v: usize) -> bool {
-    if v < MADE_UP {
-        return false;
-    }
-    is_in(bits, STRUCK, v - MADE_UP)
-}
-
-// Whether v cannot become y.
-fn is_struck(sl: &[usize; MEMORY_NUMBERS], bits: &[u64; BITS], v: usize, y: usize) -> bool {
-    if !is_marked(bits, v) {
-        return false;
-    }
-    if v < MADE_UP {
-        return false;
-    }
-    search_nogoods::find(sl, v - MADE_UP, y) < search_nogoods::count(sl)
-}
-
-// Whether a value of the row has one that it cannot become in the other.
-fn is_row_struck(
-    sl: &[usize; MEMORY_NUMBERS],
-    bits: &[u64; BITS],
-    u: &[usize; 4],
-    r: &[usize; 4],
-) -> bool {
-    if is_struck(sl, bits, u[0], r[0]) {
-        return true;
-    }
-    if is_struck(sl, bits, u[1], r[1]) {
-        return true;
-    }
-    if is_struck(sl, bits, u[2], r[2]) {
-        return true;
-    }
-    is_struck(sl, bits, u[3], r[3])
-}
-
-// The listed rows from i to end that the row can become, as far as their values tell.
-fn rows_like(p: &[usize; PLAN_NUMBERS], row: &[usize; 4], from: usize, end: usize) -> u64 {
-    let u = *row;
-    let mut set: u64 = 0;
-    let mut i = from;
-    while i < end {
-        if !do_clash(p, &u, i) {
-            set = set | bit(i);
-        }
-        i += 1;
-    }
-    set
-}
-
-// Those of the listed rows in the set in which values of the row that are one stay so, and no value becomes one that it cannot.
-fn rows_kept(
-    p: &[usize; PLAN_NUMBERS],
-    row: &[usize; 4],
-    sl: &[usize; MEMORY_NUMBERS],
-    bits: &[u64; BITS],
-    rows: u64,
-) -> u64 {
-    let mut set: u64 = 0;
-    let mut i = next_digit(rows, 0);
-    while i < 64 {
-        let to = tableau_parts::values_at(p, i);
-        if stay_one(row, &to) {
-            if !is_row_struck(sl, bits, row, &to) {
-                set = set | bit(i);
-            }
-        }
-        i = next_digit(rows, i + 1);
-    }
-    set
-}
-
-// The listed rows that a row of view v can become, and whether it is one of them.
-pub fn fits(
-    p: &[usize; PLAN_NUMBERS],
-    v: usize,
-    row: &[usize; 4],
-    sl: &[usize; MEMORY_NUMBERS],
-    bd: &[u32; BOARD],
-    bits: &[u64; BITS],
-) -> Fitting {
-    if MOST_VIEWS <= v {
-        return Fitting {
-            set: 0,
-            listed: false,
-        };
-    }
-    let mut set = rows_like(
-        p,
-        row,
-        wide(bd[RANGES_AT + v * 2]),
-        wide(bd[RANGES_AT + v * 2 + 1]),
-    );
-    if set == 0 {
-        return Fitting {
-            set: 0,
-            listed: false,
-        };
-    }
-    if (row[0] < MADE_UP) & (row[1] < MADE_UP) & (row[2] < MADE_UP) & (row[3] < MADE_UP) {
-        return Fitting { set, listed: true };
-    }
-    if has_twice(row)
-        | is_marked(bits, row[0])
-        | is_marked(bits, row[1])
-        | is_marked(bits, row[2])
-        | is_marked(bits, row[3])
-    {
-        set = rows_kept(p, row, sl, bits, set);
-    }
-    Fitting { set, listed: false }
-}
-
-// Marks the slots that have a value that they cannot have.
-pub fn mark_struck(sl: &[usize; MEMORY_NUMBERS], bits: &mut [u64; BITS]) {
-    clear(bits, STRUCK, SET_WORDS);
-    let n = search_nogoods::count(sl);
-    let mut e = 0;
-    while e < n {
-        let slot = sl[e * 2];
-        if slot < SLOTS {
-            set_bit(bits, STRUCK, slot);
-        }
-        e += 1;
-    }
 }
 
 // ---- the start
@@ -987,6 +923,10 @@ fn note_atom(
         return;
     }
     put(bd, i * FACT_NUMBERS, r);
+    set_bit(bits, share_of(0, 0), i);
+    set_bit(bits, share_of(1, 0), i);
+    set_bit(bits, share_of(2, 0), i);
+    set_bit(bits, share_of(3, 0), i);
     if r < RELATIONS {
         set_bit(bits, FACTS_OF + r * FACT_WORDS, i);
     }
@@ -999,6 +939,7 @@ fn note_atom(
     note_slot(tableau_term(p, i, 4), i, bd);
 }
 
+// Notes the tableau's atoms; those from one on count.
 fn note_atoms(
     p: &[usize; PLAN_NUMBERS],
     from: usize,
@@ -1050,6 +991,7 @@ fn head_way(p: &[usize; PLAN_NUMBERS], b: usize, t: usize) -> usize {
     place_of(p, b, tableau_parts::size_at(p, b), t)
 }
 
+// Notes where each view's head gets its values from.
 fn note_head_ways(p: &[usize; PLAN_NUMBERS], bd: &mut [u32; BOARD]) {
     let mut v = 0;
     while v < MOST_VIEWS {
@@ -1063,31 +1005,6 @@ fn note_head_ways(p: &[usize; PLAN_NUMBERS], bd: &mut [u32; BOARD]) {
     }
 }
 
-// Notes that listed row i is the last one of view v so far.
-fn note_row(v: usize, i: usize, bd: &mut [u32; BOARD]) {
-    if MOST_VIEWS <= v {
-        return;
-    }
-    if MOST_ROWS <= i {
-        return;
-    }
-    let at = RANGES_AT + v * 2;
-    if get(bd, at + 1) == 0 {
-        put(bd, at, i);
-    }
-    put(bd, at + 1, i + 1);
-}
-
-// Notes which listed rows are each view's: they stand together.
-fn note_rows(p: &[usize; PLAN_NUMBERS], bd: &mut [u32; BOARD]) {
-    let n = tableau_parts::row_count(p);
-    let mut i = 0;
-    while i < n {
-        note_row(tableau_parts::view_at(p, i), i, bd);
-        i += 1;
-    }
-}
-
 // Fills a board of zeros for a search in the tableau's atoms from one on.
 pub fn begin(
     p: &[usize; PLAN_NUMBERS],
@@ -1098,5 +1015,4 @@ pub fn begin(
     note_names(p, bd);
     note_atoms(p, from, bd, bits);
     note_head_ways(p, bd);
-    note_rows(p, bd);
 }

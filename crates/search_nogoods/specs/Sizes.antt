@@ -4,7 +4,7 @@ use Rattle.search_slots.specs.Slots.{set-words}
 
 -- the entries: a slot and a value each, then how many there are; and the words of the set that each rests on
 abbrev pub most-values : ℕ
-most-values = 120
+most-values = 240
 
 abbrev pub memory-count-at : ℕ
 memory-count-at = most-values * 2

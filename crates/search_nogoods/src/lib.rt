@@ -13,7 +13,7 @@ ghost use Rattle.search_nogoods.specs.Memory.{MemoryMore, NotedValue, Se
 ghost use Rattle.search_nogoods.specs.Parts.{NoValueTo, SetStored, ValueMoved, ApartBefore, KeptApart, SetJoinedBy};
 
 // The table holds at most this many entries: a slot and a value each, then how many there are; and the words of the set that each rests on.
-pub const MOST_VALUES: usize = 120;
+pub const MOST_VALUES: usize = 240;
 
 const MEMORY_COUNT_AT: usize = MOST_VALUES * 2;
 
@@ -69,7 +69,7 @@ pub fn note(
 }
 
 // The first entry for slot n and value w; the count if there is none.
-pub fn find(sl: &[usize; MEMORY_NUMBERS], n: usize, w: usize) -> usize
+fn find(sl: &[usize; MEMORY_NUMBERS], n: usize, w: usize) -> usize
     ensures { λ r. ⌜ (r < memoryCount (now (sl .entry)) → (memorySlot (now (sl .entry)) r ≡ n) × (memoryValue (now (sl .entry)) r ≡ w)) ⌝ }
     ensures { λ r. ⌜ r ≤ most-values ⌝ }
     ensures { λ r. ⌜ NoValueTo (now (sl .entry)) n w r ⌝ }

@@ -5,10 +5,10 @@ use Rattle.search_advice.proofs.survey.Statement.{statement}
 use Rattle.search_advice.proofs.survey.Tie as tie
 
 abbrev Inv-loop : tie.InvT-loop
-Inv-loop p sl n counts₀ bd bits best₀ few₀ k₀ counts best few k = k ≤ n
+Inv-loop sl n bd₀ bits best₀ few₀ k₀ bd best few k = k ≤ n
 
 abbrev μ-loop : tie.MeasureT-loop
-μ-loop p sl n counts₀ bd bits best₀ few₀ k₀ counts best few k = n - k
+μ-loop sl n bd₀ bits best₀ few₀ k₀ bd best few k = n - k
 
 loop-holds : tie.Need-loop-holds Inv-loop μ-loop
 loop-holds c = search needs

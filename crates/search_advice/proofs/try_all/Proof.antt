@@ -1,14 +1,17 @@
 -- `try_all` is safe and ends.
 use borrow.Author.Needs.{needs}
-use Prim.Native.Nat.{_≤_, _-_}
+use Prim.Native.Nat.{_-_}
 use Rattle.search_advice.proofs.try_all.Statement.{statement}
 use Rattle.search_advice.proofs.try_all.Tie as tie
 
 abbrev Inv-loop : tie.InvT-loop
-Inv-loop p ws asked from sl n counts bd₀ bits₀ m₀ bd bits m = m ≤ 65
+Inv-loop p ws asked sl n bd₀ bits₀ m₀ bd bits m = Unit {0}
 
 abbrev μ-loop : tie.MeasureT-loop
-μ-loop p ws asked from sl n counts bd₀ bits₀ m₀ bd bits m = 65 - m
+μ-loop p ws asked sl n bd₀ bits₀ m₀ bd bits m = 65 - m
+
+get-requires : tie.Need-get-requires Inv-loop μ-loop
+get-requires c κs = search needs
 
 loop-holds : tie.Need-loop-holds Inv-loop μ-loop
 loop-holds c = search needs
@@ -21,6 +24,9 @@ returns c = search needs
 
 add-m : tie.Need-add-m Inv-loop μ-loop
 add-m c = search needs
+
+put-requires : tie.Need-put-requires Inv-loop μ-loop
+put-requires c κs = search needs
 
 loop-less : tie.Need-loop-less Inv-loop μ-loop
 loop-less c = search needs
@@ -37,10 +43,12 @@ try-all-spec =
     (tie.spec
     Inv-loop
     μ-loop
+    get-requires
     loop-holds
     try-those-requires
     returns
     add-m
+    put-requires
     loop-less
     loop-again
     returns-2)

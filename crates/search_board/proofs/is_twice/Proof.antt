@@ -1,33 +1,33 @@
 -- `is_twice` is safe and ends.
 use borrow.Author.Needs.{needs}
 use Prim.Native.Nat.{_≤_, _-_}
-use Rattle.search_board.specs.Sizes.{fact-end}
+use Rattle.search_board.specs.Sizes.{fact-words}
 use Rattle.search_board.proofs.is_twice.Statement.{statement}
 use Rattle.search_board.proofs.is_twice.Tie as tie
 
 abbrev Inv-loop : tie.InvT-loop
-Inv-loop bd set i k₀ k = k ≤ fact-end
+Inv-loop bd set i w₀ w = w ≤ fact-words
 
 abbrev μ-loop : tie.MeasureT-loop
-μ-loop bd set i k₀ k = fact-end - k
-
-next-fact-requires : tie.Need-next-fact-requires Inv-loop μ-loop
-next-fact-requires c κs = search needs
+μ-loop bd set i w₀ w = fact-words - w
 
 loop-holds : tie.Need-loop-holds Inv-loop μ-loop
 loop-holds c = search needs
 
-same-values-requires : tie.Need-same-values-requires Inv-loop μ-loop
-same-values-requires c κs = search needs
+mul-is-twice-in : tie.Need-mul-is-twice-in Inv-loop μ-loop
+mul-is-twice-in c = search needs
+
+element-copy-out-is-twice-in : tie.Need-element-copy-out-is-twice-in Inv-loop μ-loop
+element-copy-out-is-twice-in c = search needs
+
+is-twice-in-requires : tie.Need-is-twice-in-requires Inv-loop μ-loop
+is-twice-in-requires c κs = search needs
 
 returns : tie.Need-returns Inv-loop μ-loop
 returns c = search needs
 
-add-next-fact : tie.Need-add-next-fact Inv-loop μ-loop
-add-next-fact c = search needs
-
-next-fact-requires-2 : tie.Need-next-fact-requires-2 Inv-loop μ-loop
-next-fact-requires-2 c κs = search needs
+add-w : tie.Need-add-w Inv-loop μ-loop
+add-w c = search needs
 
 loop-less : tie.Need-loop-less Inv-loop μ-loop
 loop-less c = search needs
@@ -44,12 +44,12 @@ is-twice-spec =
     (tie.spec
     Inv-loop
     μ-loop
-    next-fact-requires
     loop-holds
-    same-values-requires
+    mul-is-twice-in
+    element-copy-out-is-twice-in
+    is-twice-in-requires
     returns
-    add-next-fact
-    next-fact-requires-2
+    add-w
     loop-less
     loop-again
     returns-2)

@@ -6,16 +6,19 @@ use Rattle.search_board.proofs.restore.Statement.{statement}
 use Rattle.search_board.proofs.restore.Tie as tie
 
 abbrev Inv-loop : tie.InvT-loop
-Inv-loop p ws set bd₀ i₀ bd i = i ≤ fact-end
+Inv-loop p ws set bd₀ bits₀ i₀ bd bits i = i ≤ fact-end
 
 abbrev μ-loop : tie.MeasureT-loop
-μ-loop p ws set bd₀ i₀ bd i = fact-end - i
+μ-loop p ws set bd₀ bits₀ i₀ bd bits i = fact-end - i
 
 next-fact-requires : tie.Need-next-fact-requires Inv-loop μ-loop
 next-fact-requires c κs = search needs
 
 loop-holds : tie.Need-loop-holds Inv-loop μ-loop
 loop-holds c = search needs
+
+fact-row-requires : tie.Need-fact-row-requires Inv-loop μ-loop
+fact-row-requires c κs = search needs
 
 atom-row-requires : tie.Need-atom-row-requires Inv-loop μ-loop
 atom-row-requires c κs = search needs
@@ -46,6 +49,7 @@ restore-spec =
     μ-loop
     next-fact-requires
     loop-holds
+    fact-row-requires
     atom-row-requires
     put-fact-row-requires
     add-next-fact

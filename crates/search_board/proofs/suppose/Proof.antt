@@ -1,21 +1,24 @@
 -- `suppose` is safe and ends.
 use borrow.Author.Needs.{needs}
 use Prim.Native.Nat.{_≤_, _-_}
-use Rattle.tableau_layout.specs.Layout.{tableau-atoms}
+use Rattle.search_board.specs.Sizes.{fact-end}
 use Rattle.search_board.proofs.suppose.Statement.{statement}
 use Rattle.search_board.proofs.suppose.Tie as tie
 
 abbrev Inv-loop : tie.InvT-loop
-Inv-loop p from row to bd₀ bits₀ n i₀ bd bits i = n ≤ tableau-atoms
+Inv-loop row to bd₀ bits₀ set i₀ bd bits i = i ≤ fact-end
 
 abbrev μ-loop : tie.MeasureT-loop
-μ-loop p from row to bd₀ bits₀ n i₀ bd bits i = n - i
+μ-loop row to bd₀ bits₀ set i₀ bd bits i = fact-end - i
 
 clear-requires : tie.Need-clear-requires Inv-loop μ-loop
 clear-requires c κs = search needs
 
-tableau-size-requires : tie.Need-tableau-size-requires Inv-loop μ-loop
-tableau-size-requires c κs = search needs
+facts-with-requires : tie.Need-facts-with-requires Inv-loop μ-loop
+facts-with-requires c κs = search needs
+
+next-fact-requires : tie.Need-next-fact-requires Inv-loop μ-loop
+next-fact-requires c κs = search needs
 
 loop-holds : tie.Need-loop-holds Inv-loop μ-loop
 loop-holds c = search needs
@@ -35,8 +38,11 @@ put-fact-row-requires c κs = search needs
 set-bit-requires : tie.Need-set-bit-requires Inv-loop μ-loop
 set-bit-requires c κs = search needs
 
-add-i : tie.Need-add-i Inv-loop μ-loop
-add-i c = search needs
+add-next-fact : tie.Need-add-next-fact Inv-loop μ-loop
+add-next-fact c = search needs
+
+next-fact-requires-2 : tie.Need-next-fact-requires-2 Inv-loop μ-loop
+next-fact-requires-2 c κs = search needs
 
 loop-less : tie.Need-loop-less Inv-loop μ-loop
 loop-less c = search needs
@@ -54,14 +60,16 @@ suppose-spec =
     Inv-loop
     μ-loop
     clear-requires
-    tableau-size-requires
+    facts-with-requires
+    next-fact-requires
     loop-holds
     fact-row-requires
     moved-row-requires
     same-row-requires
     put-fact-row-requires
     set-bit-requires
-    add-i
+    add-next-fact
+    next-fact-requires-2
     loop-less
     loop-again
     returns)

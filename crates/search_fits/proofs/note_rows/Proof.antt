@@ -1,20 +1,23 @@
 -- `note_rows` is safe and ends.
 use borrow.Author.Needs.{needs}
 use Prim.Native.Nat.{_≤_, _-_}
-use Rattle.search_board.proofs.note_rows.Statement.{statement}
-use Rattle.search_board.proofs.note_rows.Tie as tie
+use Rattle.search_fits.proofs.note_rows.Statement.{statement}
+use Rattle.search_fits.proofs.note_rows.Tie as tie
 
 abbrev Inv-loop : tie.InvT-loop
-Inv-loop p bd₀ n i₀ bd i = i ≤ n
+Inv-loop p bd₀ bits₀ n i₀ bd bits i = i ≤ n
 
 abbrev μ-loop : tie.MeasureT-loop
-μ-loop p bd₀ n i₀ bd i = n - i
+μ-loop p bd₀ bits₀ n i₀ bd bits i = n - i
 
 row-count-requires : tie.Need-row-count-requires Inv-loop μ-loop
 row-count-requires c κs = search needs
 
 loop-holds : tie.Need-loop-holds Inv-loop μ-loop
 loop-holds c = search needs
+
+values-at-requires : tie.Need-values-at-requires Inv-loop μ-loop
+values-at-requires c κs = search needs
 
 view-at-requires : tie.Need-view-at-requires Inv-loop μ-loop
 view-at-requires c κs = search needs
@@ -42,6 +45,7 @@ note-rows-spec =
     μ-loop
     row-count-requires
     loop-holds
+    values-at-requires
     view-at-requires
     note-row-requires
     add-i
