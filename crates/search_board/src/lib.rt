@@ -2,23 +2,19 @@
 //
 // Nothing here is believed: a proposal that is made of it is checked before the search follows it. So no function asks for anything; a place that is not
 // there reads as 0, and nothing is written to it.
-use query_layout::BLOCK_NUMBERS;
 use query_layout::COLUMNS;
 use query_layout::FACT_NUMBERS;
-use query_layout::HEAD_AT;
 use query_layout::MADE_UP;
 use query_layout::NAMES;
 use search_nogoods::MOST_VALUES;
 use search_slots::SET_WORDS;
 use sheet_format::MOST_ATOMS;
 use sheet_format::MOST_VIEWS;
-use tableau_layout::BLOCKS_AT;
 use tableau_layout::MOST_BLOCKS;
 use tableau_layout::PLAN_NUMBERS;
 use tableau_layout::SLOTS;
 use tableau_layout::TABLEAU_ATOMS;
 use tableau_layout::TABLEAU_NUMBERS;
-use tableau_layout::TABLEAU_SIZE_AT;
 use tableau_layout::VIEW_BLOCKS;
 ghost use Prim.Native.Nat.{_*_, _≤_};
 ghost use Rattle.tableau_layout.specs.Layout.{tableau-atoms};
@@ -275,70 +271,6 @@ pub fn same_row(a: &[usize; 4], b: &[usize; 4]) -> bool {
     a[3] == b[3]
 }
 
-// ---- the plan
-
-// How many atoms the tableau has.
-pub fn tableau_size(p: &[usize; PLAN_NUMBERS]) -> usize
-    ensures { λ r. ⌜ r ≤ tableau-atoms ⌝ }
-{
-    let n = p[TABLEAU_SIZE_AT];
-    if TABLEAU_ATOMS < n {
-        return TABLEAU_ATOMS;
-    }
-    n
-}
-
-// Number c of the tableau's atom i: its relation, then its terms.
-pub fn tableau_term(p: &[usize; PLAN_NUMBERS], i: usize, c: usize) -> usize {
-    if TABLEAU_ATOMS <= i {
-        return 0;
-    }
-    if FACT_NUMBERS <= c {
-        return 0;
-    }
-    p[i * FACT_NUMBERS + c]
-}
-
-// Number k of block b.
-pub fn block_number(p: &[usize; PLAN_NUMBERS], b: usize, k: usize) -> usize {
-    if MOST_BLOCKS <= b {
-        return 0;
-    }
-    if BLOCK_NUMBERS <= k {
-        return 0;
-    }
-    p[BLOCKS_AT + b * BLOCK_NUMBERS + k]
-}
-
-// The relation of atom j of block b.
-pub fn atom_relation(p: &[usize; PLAN_NUMBERS], b: usize, j: usize) -> usize {
-    if MOST_ATOMS <= j {
-        return 0;
-    }
-    block_number(p, b, j * FACT_NUMBERS)
-}
-
-// The terms of atom j of block b.
-pub fn atom_terms(p: &[usize; PLAN_NUMBERS], b: usize, j: usize) -> [usize; 4] {
-    if MOST_BLOCKS <= b {
-        return [0; 4];
-    }
-    if MOST_ATOMS <= j {
-        return [0; 4];
-    }
-    let at = BLOCKS_AT + b * BLOCK_NUMBERS + j * FACT_NUMBERS;
-    [p[at + 1], p[at + 2], p[at + 3], p[at + 4]]
-}
-
-// The head of block b.
-pub fn head_terms(p: &[usize; PLAN_NUMBERS], b: usize) -> [usize; 4] {
-    if MOST_BLOCKS <= b {
-        return [0; 4];
-    }
-    let at = BLOCKS_AT + b * BLOCK_NUMBERS + HEAD_AT;
-    [p[at], p[at + 1], p[at + 2], p[at + 3]]
-}
-
 // ---- sets
 
 // The word whose one digit is digit i of a word.
@@ -529,14 +461,11 @@ pub fn next_fact(set: &[u64; FACT_WORDS], i: usize) -> usize
 
 // The values that a row of the tableau's terms has.
 pub fn atom_row(p: &[usize; PLAN_NUMBERS], ws: &[usize; SLOTS], i: usize) -> [usize; 4] {
-    if TABLEAU_ATOMS <= i {
-        return [0; 4];
-    }
-    let at = i * FACT_NUMBERS;
-    let a = search_links::place_value(ws, p[at + 1]);
-    let b = search_links::place_value(ws, p[at + 2]);
-    let c = search_links::place_value(ws, p[at + 3]);
-    let d = search_links::place_value(ws, p[at + 4]);
+    let t = tableau_parts::tableau_terms(p, i);
+    let a = search_links::place_value(ws, t[0]);
+    let b = search_links::place_value(ws, t[1]);
+    let c = search_links::place_value(ws, t[2]);
+    let d = search_links::place_value(ws, t[3]);
     [a, b, c, d]
 }
 
@@ -566,7 +495,7 @@ pub fn refresh(
     bits: &mut [u64; BITS],
 ) {
     clear(bits, CHANGED, FACT_WORDS);
-    let n = tableau_size(p);
+    let n = tableau_parts::tableau_size(p);
     let mut i = from;
     while i < n {
         if refresh_fact(p, ws, i, bd, bits) {
@@ -744,7 +673,7 @@ fn head_value(ws: &[usize; SLOTS], t: usize) -> usize {
 
 // The question's head.
 pub fn asked_head(p: &[usize; PLAN_NUMBERS], ws: &[usize; SLOTS]) -> [usize; 4] {
-    let t = head_terms(p, 0);
+    let t = tableau_parts::head_terms(p, 0);
     let a = head_value(ws, t[0]);
     let b = head_value(ws, t[1]);
     let c = head_value(ws, t[2]);
@@ -877,7 +806,7 @@ fn note_names_of(p: &[usize; PLAN_NUMBERS], b: usize, j: usize, bd: &mut [u32; B
     if MOST_ATOMS <= j {
         return;
     }
-    let t = atom_terms(p, b, j);
+    let t = tableau_parts::atom_terms(p, b, j);
     let x = names_of(&t);
     put(bd, NAMES_AT + b * MOST_ATOMS + j, x as usize);
 }
@@ -896,7 +825,7 @@ fn note_names(p: &[usize; PLAN_NUMBERS], bd: &mut [u32; BOARD]) {
     let mut b = 0;
     while b < MOST_BLOCKS {
         note_atom_names(p, b, bd);
-        let t = head_terms(p, b);
+        let t = tableau_parts::head_terms(p, b);
         let x = names_of(&t);
         put(bd, HEAD_NAMES_AT + b, x as usize);
         b += 1;
@@ -918,7 +847,7 @@ fn note_atom(
     bd: &mut [u32; BOARD],
     bits: &mut [u64; BITS],
 ) {
-    let r = tableau_term(p, i, 0);
+    let r = tableau_parts::tableau_number(p, i, 0);
     if TABLEAU_ATOMS <= i {
         return;
     }
@@ -933,10 +862,10 @@ fn note_atom(
     if from <= i {
         set_bit(bits, ALIVE, i);
     }
-    note_slot(tableau_term(p, i, 1), i, bd);
-    note_slot(tableau_term(p, i, 2), i, bd);
-    note_slot(tableau_term(p, i, 3), i, bd);
-    note_slot(tableau_term(p, i, 4), i, bd);
+    note_slot(tableau_parts::tableau_number(p, i, 1), i, bd);
+    note_slot(tableau_parts::tableau_number(p, i, 2), i, bd);
+    note_slot(tableau_parts::tableau_number(p, i, 3), i, bd);
+    note_slot(tableau_parts::tableau_number(p, i, 4), i, bd);
 }
 
 // Notes the tableau's atoms; those from one on count.
@@ -946,7 +875,7 @@ fn note_atoms(
     bd: &mut [u32; BOARD],
     bits: &mut [u64; BITS],
 ) {
-    let n = tableau_size(p);
+    let n = tableau_parts::tableau_size(p);
     let mut i = 0;
     while i < n {
         note_atom(p, from, i, bd, bits);
@@ -961,7 +890,7 @@ fn place_of(p: &[usize; PLAN_NUMBERS], b: usize, n: usize, t: usize) -> usize {
         if MOST_ATOMS <= j {
             return 0;
         }
-        let u = atom_terms(p, b, j);
+        let u = tableau_parts::atom_terms(p, b, j);
         if u[0] == t {
             return j * 8 + 1;
         }
@@ -995,7 +924,7 @@ fn head_way(p: &[usize; PLAN_NUMBERS], b: usize, t: usize) -> usize {
 fn note_head_ways(p: &[usize; PLAN_NUMBERS], bd: &mut [u32; BOARD]) {
     let mut v = 0;
     while v < MOST_VIEWS {
-        let t = head_terms(p, VIEW_BLOCKS + v);
+        let t = tableau_parts::head_terms(p, VIEW_BLOCKS + v);
         let at = HEADS_AT + v * COLUMNS;
         put(bd, at, head_way(p, VIEW_BLOCKS + v, t[0]));
         put(bd, at + 1, head_way(p, VIEW_BLOCKS + v, t[1]));
