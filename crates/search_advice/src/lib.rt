@@ -11,11 +11,9 @@ use search_board::BYTE;
 use search_board::CHANGED;
 use search_board::COUNTS_AT;
 use search_board::FACT_END;
-use search_board::FACT_WORDS;
 use search_board::FAILURES;
 use search_board::FELL;
 use search_board::FELL_ROW;
-use search_board::FOLDED;
 use search_board::FOUND_ENTRY;
 use search_board::HINT;
 use search_board::KEPT_AT;
@@ -61,12 +59,9 @@ pub struct Advice {
     pub hint: u64,
 }
 
-// What is to be as it was when a step is undone.
-pub struct Stand {
-    pub kept: usize,
-    pub alive: [u64; FACT_WORDS],
-    pub folded: [u64; FACT_WORDS],
-}
+// What is to be as it was when a step is undone: the words of the board's first two sets, the facts alive and those folded, and how many entries are
+// kept.
+pub const STAND: usize = CHANGED + 1;
 
 // No advice.
 fn nothing() -> Advice {
@@ -665,12 +660,15 @@ pub fn failed(bd: &mut [u32; BOARD]) {
 }
 
 // How the board stands after an advice.
-pub fn standing(bd: &[u32; BOARD], bits: &[u64; BITS]) -> Stand {
-    Stand {
-        kept: search_board::get(bd, KEPT_COUNT),
-        alive: search_board::facts_at(bits, ALIVE),
-        folded: search_board::facts_at(bits, FOLDED),
+pub fn standing(bd: &[u32; BOARD], bits: &[u64; BITS]) -> [u64; STAND] {
+    let mut stand = [0u64; STAND];
+    let mut w = 0;
+    while w < CHANGED {
+        stand[w] = search_board::word(bits, w);
+        w += 1;
     }
+    stand[CHANGED] = search_board::get(bd, KEPT_COUNT) as u64;
+    stand
 }
 
 // Lets the board stand as it did, once the words are as they were.
@@ -678,18 +676,19 @@ pub fn back(
     p: &[usize; PLAN_NUMBERS],
     ws: &[usize; SLOTS],
     from: usize,
-    then: Stand,
+    stand: &[u64; STAND],
     bd: &mut [u32; BOARD],
     bits: &mut [u64; BITS],
 ) {
     search_board::refresh(p, ws, from, bd, bits);
     let head = search_board::asked_head(p, ws);
     search_board::note_head(bd, &head);
-    let alive = then.alive;
-    let folded = then.folded;
-    search_board::put(bd, KEPT_COUNT, then.kept);
-    search_board::put_facts(bits, ALIVE, alive);
-    search_board::put_facts(bits, FOLDED, folded);
+    search_board::put(bd, KEPT_COUNT, stand[CHANGED] as usize);
+    let mut w = 0;
+    while w < CHANGED {
+        search_board::put_word(bits, w, stand[w]);
+        w += 1;
+    }
 }
 
 // Writes the value of each slot where the facts that are left out are the others that they can be.

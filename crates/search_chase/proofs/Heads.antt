@@ -39,7 +39,7 @@ use Rattle.search_task.proofs.Padded.{same-met}
 use Rattle.search_node.specs.Node.{Fits, Wordly, StateFound, NodeBy}
 use Rattle.search_node.proofs.Open.{fits-padded}
 use Rattle.search_chase.specs.Run.{Remembers, Begun, FoundOrLost, Heads, HeadsBy, LookedBy, FoundBy}
-use Rattle.search_chase.proofs.Steps.{constant-roots, stood-step}
+use Rattle.search_chase.proofs.Steps.{constant-roots, constant-fits, stood-step}
 
 module _ (p : List ℕ) (x : Sheet) (r : ReadyPlan p x) where
   -- ---- before the first row
@@ -112,7 +112,7 @@ module _ (p : List ℕ) (x : Sheet) (r : ReadyPlan p x) where
     settled-row four out q = record {
       size = q .same ∙ h .size;
       linked = q .linked (h .linked);
-      stood = stood-step x ws out (padded head) (rowValues p i) (h .size) (h .linked) head-roots (row-constants p x r i lt) four refl q fits (h .stood);
+      stood = stood-step x ws out (padded head) (rowValues p i) (h .size) (h .linked) head-roots row-roots four refl q fits (constant-fits x (rowValues p i) (padded head) refl (row-constants p x r i lt)) (h .stood);
       heads = λ c m le. go c m le (less? i (c .number));
       back = λ none. refuted-back (unified (q .unifier) (subst (Refuted top (sheetBy goal x)) (q .state) none));
     }
@@ -148,15 +148,14 @@ module _ (p : List ℕ) (x y : Sheet) (ws : List ℕ) where
   rests-all : (set : List ℕ) → RestsOn (Good y) ws set → RestsOn (Good y) ws []
   rests-all set f = rests-more (λ k e. past [] k (omega arith)) f
 
-  pub looked-done : (done good : Bool) (set : List ℕ) (view : ℕ) (u out : List ℕ) → done ≡ true → NodeBy done good p x y ws set view u out → LookedBy good x y ws out
-  looked-done true true set view u out e said = said
-  looked-done true false set view u out e said = rests-all set said
-  looked-done false good set view u out e said = absurd (true≢false (sym e))
+  pub looked-found : (good : Bool) (set node out : List ℕ) → good ≡ true → NodeBy good p x y ws set node out → LookedBy true x y ws out
+  looked-found true set node out e said = said
+  looked-found false set node out e said = absurd (true≢false (sym e))
 
-  pub looked-begun : (done good : Bool) (set : List ℕ) (view : ℕ) (u out sl sm : List ℕ) → done ≡ false → Wordly x y ws → Remembers (Good y) ws sl sm → NodeBy done good p x y ws set view u out
-      → Begun p x y ws (slot-end + 1) set view u sl sm
-  looked-begun true good set view u out sl sm e w m said = absurd (true≢false e)
-  looked-begun false good set view u out sl sm e w m said =
+  pub looked-begun : (good : Bool) (set node out sl sm : List ℕ) → good ≡ false → Wordly x y ws → Remembers (Good y) ws sl sm → NodeBy good p x y ws set node out
+      → Begun p x y ws (slot-end + 1) set node sl sm
+  looked-begun true set node out sl sm e w m said = absurd (true≢false e)
+  looked-begun false set node out sl sm e w m said =
       record { wordly = w; room = (let a = roots-few top ws in let b = w .size in omega arith); opened = said; memory = m }
 
   pub looked-by : (b : Bool) (end set sl sm out : List ℕ) → FoundOrLost b x y ws end set sl sm out → LookedBy b x y ws out

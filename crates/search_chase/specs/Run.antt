@@ -1,9 +1,9 @@
--- What the search's contracts cite: where it stands with a row that has to become a listed one. No promise to a caller rests on these.
+-- What the search's contracts cite: where it stands with a node. No promise to a caller rests on these.
 use mathlib.Core.Path.{_≡_}
 use mathlib.Core.Bool.{Bool, true, false, cond, not}
 use mathlib.Core.List.{List, [], _∷_}
 use mathlib.Core.Logic.{_⊎_}
-use Prim.Native.Nat.{ℕ, _-_, _<_, _≤_}
+use Prim.Native.Nat.{ℕ, _+_, _-_, _*_, _<_, _≤_}
 use lib.Dec.{ltb}
 use lib.ListN.{length, getD}
 use Rattle.tableau_layout.specs.Layout.{slot-end}
@@ -12,17 +12,18 @@ use Rattle.case_verdicts.specs.Verdict.{Sheet}
 use Rattle.case_verdicts.specs.Sheets.{top}
 use Rattle.case_verdicts.specs.Tableau.{State, Copy, jobs, numbered, copy, Meets, Good}
 use Rattle.case_verdicts.specs.Search.{free, Refuted}
-use Rattle.tableau_plan.specs.Plan.{rowAt, rowValues, rowCount}
 use Rattle.search_slots.specs.Slots.{inSet, SetWithin}
 use Rattle.search_links.specs.Links.{Linked, linkedState, roots}
+use Rattle.search_links.specs.Steps.{RootValues, Equated}
 use Rattle.search_reasons.specs.Reasons.{RestsOn, AlternativeFails, ValueFails}
 use Rattle.search_nogoods.specs.Memory.{EachValue, RowExcluded}
 use Rattle.search_symmetry.specs.Symmetry.{Alike}
+use Rattle.search_node.specs.Choices.{rows-kind, nodeKind, nodeHint, leftOf, rightOf, howMany, LiveAt}
 use Rattle.search_node.specs.Node.{Standing, Wordly, StateFound, OpenState}
 
 -- the values that slots cannot have: what the table says is so
 abbrev pub Remembers : (State → Type 0) → List ℕ → List ℕ → List ℕ → Type 0
-Remembers G ws sl sm = EachValue (λ n w set. ValueFails G ws set n w) sl sm
+Remembers G ws sl sm = EachValue (λ n w set. (w < top) × ValueFails G ws set n w) sl sm
 
 -- no good state obeys the words of the set; the words are as they were, and what the table says is so
 pub record Lost (G : State → Type 0) (ws out set sl sm : List ℕ) : Type 0 where
@@ -34,48 +35,58 @@ abbrev pub FoundOrLost : Bool → Sheet → Sheet → List ℕ → List ℕ → 
 FoundOrLost true x y ws end set sl sm out = StateFound x y out
 FoundOrLost false x y ws end set sl sm out = Lost (Good y) ws end set sl sm
 
--- where a search begins: words from which it may go on, with fewer made-up values that are their own roots than steps left, and an open row
-pub record Begun (p : List ℕ) (x y : Sheet) (ws : List ℕ) (left : ℕ) (set : List ℕ) (view : ℕ) (u sl sm : List ℕ) : Type 0 where
+-- where a search begins: words from which it may go on, with fewer made-up values that are their own roots than steps left, and an open node
+pub record Begun (p : List ℕ) (x y : Sheet) (ws : List ℕ) (left : ℕ) (set node sl sm : List ℕ) : Type 0 where
   pub wordly : Wordly x y ws
   pub room : roots top ws < left
-  pub opened : OpenState p x (Good y) ws set view u
+  pub opened : OpenState p x (Good y) ws set node
   pub memory : Remembers (Good y) ws sl sm
 
 -- ---- turns
 
--- each row has two turns, one in each round: the hinted rows are tried in the first, the others in the second
+-- each alternative has two turns, one in each round: the hinted ones are tried in the first, the others in the second
 unfoldable pub turnOf : ℕ → ℕ → ℕ
-turnOf rows i = cond (ltb i rows) i (i - rows)
+turnOf count i = cond (ltb i count) i (i - count)
 
 unfoldable pub isTurn : ℕ → ℕ → ℕ → Bool
-isTurn hint rows i = cond (ltb i rows) (inSet (hint ∷ []) (turnOf rows i)) (not (inSet (hint ∷ []) (turnOf rows i)))
+isTurn hint count i = cond (ltb i count) (inSet (hint ∷ []) (turnOf count i)) (not (inSet (hint ∷ []) (turnOf count i)))
 
--- a row of the view that had its turn fails, whatever the words of slots that are not in the set
-pub record TriedRows (p : List ℕ) (G : State → Type 0) (ws set : List ℕ) (view : ℕ) (u : List ℕ) (hint rows n : ℕ) : Type 0 where
-  pub each : (s : List ℕ) → SetWithin set s → (i : ℕ) → i < n → isTurn hint rows i ≡ true → rowAt p (turnOf rows i) 0 ≡ view
-      → AlternativeFails G ws s u (rowValues p (turnOf rows i))
+-- the alternative of a node's turn i, and whether it is tried then
+abbrev pub turnAt : List ℕ → List ℕ → ℕ → ℕ
+turnAt p node i = turnOf (howMany p node) i
 
--- the last row that was tried in vain
-pub record Failed (p : List ℕ) (G : State → Type 0) (ws set below u : List ℕ) (last : ℕ) : Type 0 where
-  pub fails : AlternativeFails G ws below u (rowValues p last)
+abbrev pub isTurnAt : List ℕ → List ℕ → ℕ → Bool
+isTurnAt p node i = isTurn (nodeHint node) (howMany p node) i
+
+-- alternative k fails, by the words of the set
+abbrev pub FailsAt : List ℕ → (State → Type 0) → List ℕ → List ℕ → List ℕ → ℕ → Type 0
+FailsAt p G ws set node k = AlternativeFails G ws set (leftOf node k) (rightOf p node k)
+
+-- a live alternative that had its turn fails, whatever the words of slots that are not in the set
+pub record TriedTurns (p : List ℕ) (G : State → Type 0) (ws set node : List ℕ) (n : ℕ) : Type 0 where
+  pub each : (s : List ℕ) → SetWithin set s → (i : ℕ) → i < n → isTurnAt p node i ≡ true → LiveAt p node (turnAt p node i) → FailsAt p G ws s node (turnAt p node i)
+
+-- the last alternative that was tried in vain
+pub record Failed (p : List ℕ) (G : State → Type 0) (ws set below node : List ℕ) (last : ℕ) : Type 0 where
+  pub fails : FailsAt p G ws below node last
   pub within : SetWithin below set
 
--- where a search stands with an open row after n turns
-pub record Going (p : List ℕ) (x : Sheet) (G : State → Type 0) (ws st set : List ℕ) (view : ℕ) (u : List ℕ) (hint rows n : ℕ) (below : List ℕ) (last : ℕ) (sl sm : List ℕ) : Type 0 where
+-- where a search stands with a node after n turns
+pub record Going (p : List ℕ) (x : Sheet) (G : State → Type 0) (ws st set node : List ℕ) (n : ℕ) (below : List ℕ) (last : ℕ) (sl sm : List ℕ) : Type 0 where
   pub same : st ≡ ws
-  pub opened : OpenState p x G ws set view u
-  pub tried : TriedRows p G ws set view u hint rows n
-  pub failed : last < rowCount p → Failed p G ws set below u last
+  pub opened : OpenState p x G ws set node
+  pub tried : TriedTurns p G ws set node n
+  pub failed : last < howMany p node → Failed p G ws set below node last
   pub memory : Remembers G ws sl sm
 
--- row k need not be tried: it is another view's, it is like the last one that failed, or the table excludes it
-abbrev pub RefutedAs : Bool → List ℕ → List ℕ → ℕ → List ℕ → ℕ → ℕ → List ℕ → List ℕ → List ℕ → List ℕ → List ℕ → Type 0
-RefutedAs true p ws view u last k below sl sm old set =
-    ((rowAt p k 0 ≡ view → ⊥) × (set ≡ old)) ⊎ ((Alike p ws below u last k × (set ≡ old)) ⊎ RowExcluded u (rowValues p k) sl sm old set)
-RefutedAs false p ws view u last k below sl sm old set = (rowAt p k 0 ≡ view) × (set ≡ old)
+-- alternative k need not be tried: it is not live, it is a listed row like the last one that failed, or the table excludes it
+abbrev pub RefutedAs : Bool → List ℕ → List ℕ → List ℕ → ℕ → ℕ → List ℕ → List ℕ → List ℕ → List ℕ → List ℕ → Type 0
+RefutedAs true p ws node last k below sl sm old set =
+    ((LiveAt p node k → ⊥) × (set ≡ old)) ⊎ (((nodeKind node ≡ rows-kind) × Alike p ws below (leftOf node k) last k × (set ≡ old)) ⊎ RowExcluded (leftOf node k) (rightOf p node k) sl sm old set)
+RefutedAs false p ws node last k below sl sm old set = LiveAt p node k × (set ≡ old)
 
--- what a failure after the step of a row says before it: a failure that does not rest on the step, or a failure of the row, and its slots are in
--- the set
+-- what a failure after the step of two rows says before it: a failure that does not rest on the step, or a failure of the two rows, and its slots are
+-- in the set
 pub record RowLeft (G : State → Type 0) (ws out u r below old set sl sm : List ℕ) : Type 0 where
   pub kept : out ≡ ws
   pub fails : AlternativeFails G ws below u r
@@ -86,6 +97,35 @@ pub record RowLeft (G : State → Type 0) (ws out u r below old set sl sm : List
 abbrev pub LeftBy : Bool → (State → Type 0) → List ℕ → List ℕ → List ℕ → List ℕ → List ℕ → List ℕ → List ℕ → List ℕ → List ℕ → Type 0
 LeftBy true G ws out u r below old set sl sm = Lost G ws out set sl sm
 LeftBy false G ws out u r below old set sl sm = RowLeft G ws out u r below old set sl sm
+
+-- so it is for the words and the table before any step that made two rows one, and every sheet
+abbrev pub UndoneBy : Bool → List ℕ → List ℕ → List ℕ → List ℕ → List ℕ → List ℕ → List ℕ → List ℕ → List ℕ → List ℕ → List ℕ → List ℕ → Type 0
+UndoneBy jump u r ws below sl sm out less old set nl nm =
+    (y : Sheet) (was : List ℕ) → length was ≡ slot-end → Linked top was → RootValues top was u → RootValues top was r → Equated top was ws u r
+    → RestsOn (Good y) ws below → Remembers (Good y) ws sl sm → LeftBy jump (Good y) was out u r less old set nl nm
+
+-- ---- from one alternative to the next
+
+-- from the words ws the alternative of the turn before i was taken, which led to the words out
+pub record Taken (p : List ℕ) (x : Sheet) (G : State → Type 0) (ws set node : List ℕ) (i : ℕ) (out sl sm : List ℕ) : Type 0 where
+  pub turn : ℕ
+  pub after : i ≡ turn + 1
+  pub few : turn < 2 * howMany p node
+  pub opened : OpenState p x G ws set node
+  pub tried : TriedTurns p G ws set node turn
+  pub live : LiveAt p node (turnAt p node turn)
+  pub step : Equated top ws out (leftOf node (turnAt p node turn)) (rightOf p node (turnAt p node turn))
+  pub memory : Remembers G out sl sm
+
+-- the next one was taken; 0: none is left
+pub record Advanced (p : List ℕ) (x : Sheet) (G : State → Type 0) (ws set node : List ℕ) (i : ℕ) (out sl sm : List ℕ) : Type 0 where
+  pub on : 0 < i → Taken p x G ws set node i out sl sm
+  pub over : i ≡ 0 → Lost G ws out set sl sm
+
+-- none was taken yet, or one has failed by the words of the slots below
+pub record Behind (p : List ℕ) (x : Sheet) (G : State → Type 0) (ws set node : List ℕ) (i : ℕ) (out below sl sm : List ℕ) : Type 0 where
+  pub first : i ≡ 0 → (out ≡ ws) × OpenState p x G ws set node × Remembers G ws sl sm
+  pub later : 0 < i → Taken p x G ws set node i out sl sm × RestsOn G out below
 
 -- ---- the heads of the copies
 

@@ -2,10 +2,10 @@
 use query_layout::BLOCK_NUMBERS;
 use query_layout::HEAD_AT;
 use query_layout::NAMES;
-use search_advice::Stand;
+use search_advice::STAND;
 use search_board::BITS;
 use search_board::BOARD;
-use search_node::Finding;
+use search_node::NODE_NUMBERS;
 use search_nogoods::MEMORY_NUMBERS;
 use search_nogoods::MEMORY_WORDS;
 use search_slots::SET_WORDS;
@@ -19,7 +19,7 @@ use tableau_layout::VIEW_BLOCKS;
 ghost use mathlib.Core.Path.{_≡_};
 ghost use mathlib.Core.Bool.{true, false};
 ghost use mathlib.Core.List.{List};
-ghost use Prim.Native.Nat.{ℕ, _+_, _*_, _-_, _<_};
+ghost use Prim.Native.Nat.{ℕ, _+_, _*_, _-_, _<_, _≤_};
 ghost use lib.ListN.{length, getD};
 ghost use Rattle.query_layout.specs.Layout.{block-head, names};
 ghost use Rattle.sheet_format.specs.Limits.{most-rows};
@@ -33,46 +33,65 @@ ghost use Rattle.case_verdicts.specs.Words.{stateOf};
 ghost use Rattle.tableau_plan.specs.Plan.{blockNumbers, rowValues, rowCount};
 ghost use Rattle.search_slots.specs.Slots.{set-words};
 ghost use Rattle.search_nogoods.specs.Sizes.{memory-numbers, memory-words};
-ghost use Rattle.search_links.specs.Links.{Linked, linkedState};
-ghost use Rattle.search_links.specs.Steps.{RootValues, Equated, EquatedBy};
+ghost use Rattle.search_links.specs.Links.{linkedState};
+ghost use Rattle.search_links.specs.Steps.{RootValues, EquatedBy};
 ghost use Rattle.search_reasons.specs.Reasons.{RestsOn};
 ghost use Rattle.search_task.specs.Task.{ReadyPlan, sheetBy};
+ghost use Rattle.search_symmetry.specs.Symmetry.{Alike};
+ghost use Rattle.search_node.specs.Choices.{rows-kind, nodeKind, leftOf, rightOf, howMany};
 ghost use Rattle.search_node.specs.Node.{Wordly};
-ghost use Rattle.search_chase.specs.Run.{turnOf, isTurn, Remembers, Begun, FoundOrLost, RefutedAs, LeftBy, Heads, HeadsBy, LookedBy, FoundBy};
+ghost use Rattle.search_chase.specs.Run.{turnOf, isTurn, Remembers, Begun, FoundOrLost, RefutedAs, UndoneBy, Going, Advanced, Behind, Heads, HeadsBy, LookedBy, FoundBy};
 ghost use Rattle.search_task.specs.declared.Goal.{Goal};
 
 // A search goes no deeper than there are slots.
 const DEPTH: usize = SLOTS + 1;
 
-// The row that may be tried in turn i: each row has one turn in each of two rounds.
-fn turn(rows: usize, i: usize) -> usize
-    requires { ⌜ i < 2 * rows ⌝ }
-    ensures { λ r. ⌜ (r ≡ turnOf rows i) × (r < rows) ⌝ }
+// The alternative that may be tried in turn n: each has one turn in each of two rounds.
+fn turn(count: usize, n: usize) -> usize
+    ensures { λ r. ⌜ (r ≡ turnOf count n) × (n < 2 * count → r < count) ⌝ }
 {
-    if i < rows {
-        return i;
+    if n < count {
+        return n;
     }
-    i - rows
+    n - count
 }
 
-// Whether row k is tried in turn i: the hinted rows in the first round, the others in the second.
-fn is_turn(hint: u64, rows: usize, i: usize, k: usize) -> bool
-    ensures { λ r. ⌜ (k ≡ turnOf rows i → r ≡ isTurn hint rows i) ⌝ }
+// Whether alternative k is tried in turn i: the hinted ones in the first round, the others in the second.
+fn is_turn(hint: u64, count: usize, i: usize, k: usize) -> bool
+    ensures { λ r. ⌜ (k ≡ turnOf count i → r ≡ isTurn hint count i) ⌝ }
 {
     let hinted = search_slots::has(&[hint], k);
-    if i < rows {
+    if i < count {
         return hinted;
     }
     !hinted
 }
 
-// Whether listed row k need not be tried for the row u of a view: it is another view's, like the last one that failed, or excluded; in the last case
-// what that rests on is put into the set.
+// Whether alternative k, a listed row, is like the last one that failed.
+fn is_like_last(
+    p: &[usize; PLAN_NUMBERS],
+    ws: &[usize; SLOTS],
+    node: &[usize; NODE_NUMBERS],
+    u: &[usize; 4],
+    last: usize,
+    k: usize,
+    below: &[u64; SET_WORDS],
+    to: &mut [usize; MOST_ROWS],
+) -> bool
+    ensures { λ r. ⌜ (r ≡ true → (nodeKind (now (node .entry)) ≡ rows-kind) × Alike (now (p .entry)) (now (ws .entry)) (now (below .entry)) (now (u .entry)) last k) ⌝ }
+{
+    if !search_node::is_of_rows(node) {
+        return false;
+    }
+    search_symmetry::are_alike(p, ws, below, u, last, k, to)
+}
+
+// Whether alternative k of a node need not be tried: it is not live, like the last one that failed, or excluded; in the last case what that rests on
+// is put into the set.
 fn is_refuted(
     p: &[usize; PLAN_NUMBERS],
     ws: &[usize; SLOTS],
-    view: usize,
-    u: &[usize; 4],
+    node: &[usize; NODE_NUMBERS],
     last: usize,
     k: usize,
     below: &[u64; SET_WORDS],
@@ -81,51 +100,54 @@ fn is_refuted(
     set: &mut [u64; SET_WORDS],
     to: &mut [usize; MOST_ROWS],
 ) -> bool
-    requires { ⌜ k < most-rows ⌝ }
-    ensures { λ r. ⌜ RefutedAs r (now (p .entry)) (now (ws .entry)) view (now (u .entry)) last k (now (below .entry)) (now (sl .entry)) (now (sm .entry)) (now (set .entry)) (now (set .exit)) ⌝ }
+    ensures { λ r. ⌜ (k < most-rows → k < howMany (now (p .entry)) (now (node .entry)) → RefutedAs r (now (p .entry)) (now (ws .entry)) (now (node .entry)) last k (now (below .entry)) (now (sl .entry)) (now (sm .entry)) (now (set .entry)) (now (set .exit))) ⌝ }
     ensures { λ r. ⌜ length (now (set .exit)) ≡ length (now (set .entry)) ⌝ }
 {
-    if tableau_parts::view_at(p, k) != view {
+    if !search_node::is_live(p, node, k) {
         return true;
     }
-    if search_symmetry::are_alike(p, ws, below, u, last, k, to) {
+    let u = search_node::left_row(node, k);
+    if is_like_last(p, ws, node, &u, last, k, below, to) {
         return true;
     }
-    let row = tableau_parts::values_at(p, k);
-    search_nogoods::is_excluded(u, &row, sl, sm, set)
+    let row = search_node::right_row(p, node, k);
+    search_nogoods::is_excluded(&u, &row, sl, sm, set)
 }
 
-// Lets the row u become listed row k. False if constants clash, and then the words stay.
-fn take(p: &[usize; PLAN_NUMBERS], ws: &mut [usize; SLOTS], u: &[usize; 4], k: usize) -> bool
-    requires { ⌜ (k < most-rows) × (length (now u) ≡ 4) ⌝ }
-    ensures { λ r. ⌜ (RootValues top (now (ws .entry)) (now (u .entry)) → RootValues top (now (ws .entry)) (rowValues (now (p .entry)) k) → EquatedBy r top (now (ws .entry)) (now (ws .exit)) (now (u .entry)) (rowValues (now (p .entry)) k)) ⌝ }
-    ensures { λ r. ⌜ length (now (ws .exit)) ≡ length (now (ws .entry)) ⌝ }
-{
-    let row = tableau_parts::values_at(p, k);
-    search_links::equate(ws, u, &row)
-}
-
-// Takes back the step by which the row u became listed row k, after a failure that rests on the slots `below`. True: the failure does not rest on the
-// step, and the set has its slots. False: those of `below` that the step did not write are left there, and put into the set.
-fn leave(
+// Makes the rows of alternative k one. False if constants clash, and then the words stay.
+fn take(
     p: &[usize; PLAN_NUMBERS],
     ws: &mut [usize; SLOTS],
-    u: &[usize; 4],
+    node: &[usize; NODE_NUMBERS],
     k: usize,
+) -> bool
+    ensures { λ r. ⌜ (k < most-rows → k < howMany (now (p .entry)) (now (node .entry)) → RootValues top (now (ws .entry)) (leftOf (now (node .entry)) k) → RootValues top (now (ws .entry)) (rightOf (now (p .entry)) (now (node .entry)) k) → EquatedBy r top (now (ws .entry)) (now (ws .exit)) (leftOf (now (node .entry)) k) (rightOf (now (p .entry)) (now (node .entry)) k)) ⌝ }
+    ensures { λ r. ⌜ length (now (ws .exit)) ≡ length (now (ws .entry)) ⌝ }
+{
+    let u = search_node::left_row(node, k);
+    let row = search_node::right_row(p, node, k);
+    search_links::equate(ws, &u, &row)
+}
+
+// Takes back the step by which two rows became one, after a failure that rests on the slots `below`. True: the failure does not rest on the step, and
+// the set has its slots. False: those of `below` that the step did not write are left there, and put into the set.
+fn undo(
+    ws: &mut [usize; SLOTS],
+    u: &[usize; 4],
+    row: &[usize; 4],
     below: &mut [u64; SET_WORDS],
     set: &mut [u64; SET_WORDS],
     sl: &mut [usize; MEMORY_NUMBERS],
     sm: &mut [u64; MEMORY_WORDS],
 ) -> bool
-    requires { ⌜ (k < most-rows) × (length (now u) ≡ 4) × (length (now below) ≡ set-words) × (length (now sl) ≡ memory-numbers) × (length (now sm) ≡ memory-words) ⌝ }
-    ensures { λ r. ⌜ ((y : Sheet) → (old : List ℕ) → length old ≡ slot-end → Linked top old → RootValues top old (now (u .entry)) → RootValues top old (rowValues (now (p .entry)) k) → Equated top old (now (ws .entry)) (now (u .entry)) (rowValues (now (p .entry)) k) → RestsOn (Good y) (now (ws .entry)) (now (below .entry)) → Remembers (Good y) (now (ws .entry)) (now (sl .entry)) (now (sm .entry)) → LeftBy r (Good y) old (now (ws .exit)) (now (u .entry)) (rowValues (now (p .entry)) k) (now (below .exit)) (now (set .entry)) (now (set .exit)) (now (sl .exit)) (now (sm .exit))) ⌝ }
+    requires { ⌜ (length (now u) ≡ 4) × (length (now row) ≡ 4) × (length (now below) ≡ set-words) × (length (now sl) ≡ memory-numbers) × (length (now sm) ≡ memory-words) ⌝ }
+    ensures { λ r. ⌜ UndoneBy r (now (u .entry)) (now (row .entry)) (now (ws .entry)) (now (below .entry)) (now (sl .entry)) (now (sm .entry)) (now (ws .exit)) (now (below .exit)) (now (set .entry)) (now (set .exit)) (now (sl .exit)) (now (sm .exit)) ⌝ }
     ensures { λ r. ⌜ (length (now (ws .exit)) ≡ length (now (ws .entry))) × (length (now (below .exit)) ≡ length (now (below .entry))) × (length (now (sl .exit)) ≡ length (now (sl .entry))) × (length (now (sm .exit)) ≡ length (now (sm .entry))) × (length (now (set .exit)) ≡ length (now (set .entry))) ⌝ }
 {
-    let row = tableau_parts::values_at(p, k);
-    let changed = search_reasons::slots_of(u, &row);
+    let changed = search_reasons::slots_of(u, row);
     search_nogoods::learn(ws, below, &changed, u, sl, sm);
     search_nogoods::forget(sl, sm, &changed);
-    search_links::release(ws, u, &row);
+    search_links::release(ws, u, row);
     if !search_slots::meet(below, &changed) {
         search_slots::put(set, below);
         return true;
@@ -135,12 +157,32 @@ fn leave(
     false
 }
 
+// Takes back the step of alternative k, after a failure that rests on the slots `below`.
+fn leave(
+    p: &[usize; PLAN_NUMBERS],
+    ws: &mut [usize; SLOTS],
+    node: &[usize; NODE_NUMBERS],
+    k: usize,
+    below: &mut [u64; SET_WORDS],
+    set: &mut [u64; SET_WORDS],
+    sl: &mut [usize; MEMORY_NUMBERS],
+    sm: &mut [u64; MEMORY_WORDS],
+) -> bool
+    requires { ⌜ (length (now below) ≡ set-words) × (length (now sl) ≡ memory-numbers) × (length (now sm) ≡ memory-words) ⌝ }
+    ensures { λ r. ⌜ (k < most-rows → k < howMany (now (p .entry)) (now (node .entry)) → UndoneBy r (leftOf (now (node .entry)) k) (rightOf (now (p .entry)) (now (node .entry)) k) (now (ws .entry)) (now (below .entry)) (now (sl .entry)) (now (sm .entry)) (now (ws .exit)) (now (below .exit)) (now (set .entry)) (now (set .exit)) (now (sl .exit)) (now (sm .exit))) ⌝ }
+    ensures { λ r. ⌜ (length (now (ws .exit)) ≡ length (now (ws .entry))) × (length (now (below .exit)) ≡ length (now (below .entry))) × (length (now (sl .exit)) ≡ length (now (sl .entry))) × (length (now (sm .exit)) ≡ length (now (sm .entry))) × (length (now (set .exit)) ≡ length (now (set .entry))) ⌝ }
+{
+    let u = search_node::left_row(node, k);
+    let row = search_node::right_row(p, node, k);
+    undo(ws, &u, &row, below, set, sl, sm)
+}
+
 // Lets advice know of a failure, and stand as it did before the step.
 fn go_back(
     p: &[usize; PLAN_NUMBERS],
     ws: &[usize; SLOTS],
     goal: Goal,
-    stand: Stand,
+    stand: &[u64; STAND],
     bd: &mut [u32; BOARD],
     bits: &mut [u64; BITS],
 ) {
@@ -148,77 +190,153 @@ fn go_back(
     search_advice::back(p, ws, search_task::start(p, goal), stand, bd, bits);
 }
 
-// Looks for a good state below the words, where an open row has to become one of its view's listed rows, at most so many steps deep. True: its values
-// stand in `out`. False: there is none, the words are as they were, and the set has the slots that this rests on. Values that were refuted on the way
-// are kept in a table. The numbers `to` are for looking only.
+// Takes the first alternative from a turn on that has to be tried: the number of the turn after its own, or 0 where none is left. The alternative
+// `last` has failed by the slots `below`, if there is such a one.
+fn next(
+    p: &[usize; PLAN_NUMBERS],
+    ws: &mut [usize; SLOTS],
+    node: &[usize; NODE_NUMBERS],
+    from: usize,
+    last: usize,
+    below: &[u64; SET_WORDS],
+    set: &mut [u64; SET_WORDS],
+    sl: &[usize; MEMORY_NUMBERS],
+    sm: &[u64; MEMORY_WORDS],
+) -> usize
+    ensures { λ r. ⌜ ((x : Sheet) → ReadyPlan (now (p .entry)) x → (goal : Goal) → Wordly x (sheetBy goal x) (now (ws .entry)) → Going (now (p .entry)) x (Good (sheetBy goal x)) (now (ws .entry)) (now (ws .entry)) (now (set .entry)) (now (node .entry)) from (now (below .entry)) last (now (sl .entry)) (now (sm .entry)) → Advanced (now (p .entry)) x (Good (sheetBy goal x)) (now (ws .entry)) (now (set .exit)) (now (node .entry)) r (now (ws .exit)) (now (sl .entry)) (now (sm .entry))) ⌝ }
+    ensures { λ r. ⌜ (0 < r → (from < r) × (r ≤ 2 * most-rows)) × (length (now (ws .exit)) ≡ length (now (ws .entry))) × (length (now (set .exit)) ≡ length (now (set .entry))) ⌝ }
+{
+    let mut to = [0; MOST_ROWS];
+    let count = search_node::alternatives(p, node);
+    let hint = search_node::hint_of(node);
+    let mut i = from;
+    while i < 2 * count {
+        let k = turn(count, i);
+        let now = is_turn(hint, count, i, k);
+        i += 1;
+        if !now {
+            continue;
+        }
+        if is_refuted(p, ws, node, last, k, below, sl, sm, set, &mut to) {
+            continue;
+        }
+        if take(p, ws, node, k) {
+            return i;
+        }
+    }
+    0
+}
+
+// Goes on to the next alternative. The one of the turn before i, if there is one, has failed by the slots `below`: it is taken back. Then i is the turn
+// after that of the alternative that is taken. 0: none is, and the set has the slots that this rests on.
+fn advance(
+    p: &[usize; PLAN_NUMBERS],
+    ws: &mut [usize; SLOTS],
+    goal: Goal,
+    node: &[usize; NODE_NUMBERS],
+    i: &mut usize,
+    stand: &[u64; STAND],
+    below: &mut [u64; SET_WORDS],
+    set: &mut [u64; SET_WORDS],
+    sl: &mut [usize; MEMORY_NUMBERS],
+    sm: &mut [u64; MEMORY_WORDS],
+    bd: &mut [u32; BOARD],
+    bits: &mut [u64; BITS],
+)
+    requires { ⌜ (length (now below) ≡ set-words) × (length (now sl) ≡ memory-numbers) × (length (now sm) ≡ memory-words) ⌝ }
+    ensures { λ r. ⌜ ((x : Sheet) → ReadyPlan (now (p .entry)) x → (old : List ℕ) → Wordly x (sheetBy goal x) old → Behind (now (p .entry)) x (Good (sheetBy goal x)) old (now (set .entry)) (now (node .entry)) (now (i .entry)) (now (ws .entry)) (now (below .entry)) (now (sl .entry)) (now (sm .entry)) → Advanced (now (p .entry)) x (Good (sheetBy goal x)) old (now (set .exit)) (now (node .entry)) (now (i .exit)) (now (ws .exit)) (now (sl .exit)) (now (sm .exit))) ⌝ }
+    ensures { λ r. ⌜ (0 < now (i .exit) → (now (i .entry) < now (i .exit)) × (now (i .exit) ≤ 2 * most-rows)) ⌝ }
+    ensures { λ r. ⌜ (length (now (ws .exit)) ≡ length (now (ws .entry))) × (length (now (below .exit)) ≡ length (now (below .entry))) × (length (now (sl .exit)) ≡ length (now (sl .entry))) × (length (now (sm .exit)) ≡ length (now (sm .entry))) × (length (now (set .exit)) ≡ length (now (set .entry))) ⌝ }
+{
+    let from = *i;
+    if from == 0 {
+        *i = next(p, ws, node, 0, MOST_ROWS, below, set, sl, sm);
+        return;
+    }
+    let k = turn(search_node::alternatives(p, node), from - 1);
+    let jump = leave(p, ws, node, k, below, set, sl, sm);
+    go_back(p, ws, goal, stand, bd, bits);
+    if jump {
+        *i = 0;
+        return;
+    }
+    *i = next(p, ws, node, from, k, below, set, sl, sm);
+}
+
+// Looks for a good state below the words, where one of a node's alternatives has to hold, at most so many steps deep. True: its values stand in `out`.
+// False: there is none, the words are as they were, and the set has the slots that this rests on. Values that were refuted on the way are kept in a
+// table. What a step needs stands in few words here, since steps can be many.
 fn seek(
     p: &[usize; PLAN_NUMBERS],
     ws: &mut [usize; SLOTS],
     goal: Goal,
-    f: Finding,
+    node: &[usize; NODE_NUMBERS],
     left: usize,
     set: &mut [u64; SET_WORDS],
     sl: &mut [usize; MEMORY_NUMBERS],
     sm: &mut [u64; MEMORY_WORDS],
     bd: &mut [u32; BOARD],
     bits: &mut [u64; BITS],
-    to: &mut [usize; MOST_ROWS],
     out: &mut [usize; SLOTS],
 ) -> bool
     requires { ⌜ (length (now ws) ≡ slot-end) × (length (now sl) ≡ memory-numbers) × (length (now sm) ≡ memory-words) × (length (now out) ≡ slot-end) × (length (now set) ≡ set-words) ⌝ }
-    ensures { λ r. ⌜ ((x : Sheet) → ReadyPlan (now (p .entry)) x → Begun (now (p .entry)) x (sheetBy goal x) (now (ws .entry)) left (now (set .entry)) (f .view) (f .values) (now (sl .entry)) (now (sm .entry)) → FoundOrLost r x (sheetBy goal x) (now (ws .entry)) (now (ws .exit)) (now (set .exit)) (now (sl .exit)) (now (sm .exit)) (now (out .exit))) ⌝ }
+    ensures { λ r. ⌜ ((x : Sheet) → ReadyPlan (now (p .entry)) x → Begun (now (p .entry)) x (sheetBy goal x) (now (ws .entry)) left (now (set .entry)) (now (node .entry)) (now (sl .entry)) (now (sm .entry)) → FoundOrLost r x (sheetBy goal x) (now (ws .entry)) (now (ws .exit)) (now (set .exit)) (now (sl .exit)) (now (sm .exit)) (now (out .exit))) ⌝ }
     ensures { λ r. ⌜ (length (now (ws .exit)) ≡ slot-end) × (length (now (sl .exit)) ≡ memory-numbers) × (length (now (sm .exit)) ≡ memory-words) × (length (now (out .exit)) ≡ slot-end) × (length (now (set .exit)) ≡ set-words) ⌝ }
 {
     if left == 0 {
         return false;
     }
-    let values = f.values;
-    let rows = tableau_parts::row_count(p);
     let stand = search_advice::standing(bd, bits);
     let mut below = search_slots::none();
-    let mut last = MOST_ROWS;
+    let mut child = [0; NODE_NUMBERS];
     let mut i = 0;
-    while i < 2 * rows {
-        let k = turn(rows, i);
-        let now = is_turn(f.hint, rows, i, k);
-        i += 1;
-        if !now {
-            continue;
-        }
-        if is_refuted(p, ws, f.view, &values, last, k, &below, sl, sm, set, to) {
-            continue;
-        }
-        if !take(p, ws, &values, k) {
-            continue;
-        }
-        let g = search_node::judge_state(p, ws, goal, sl, &mut below, bd, bits, out);
-        let found = if g.done {
-            g.good
-        } else {
-            seek(
-                p,
-                ws,
-                goal,
-                g,
-                left - 1,
-                &mut below,
-                sl,
-                sm,
-                bd,
-                bits,
-                to,
-                out,
-            )
-        };
-        if found {
+    advance(
+        p,
+        ws,
+        goal,
+        node,
+        &mut i,
+        &stand,
+        &mut below,
+        set,
+        sl,
+        sm,
+        bd,
+        bits,
+    );
+    while 0 < i {
+        if search_node::judge_state(p, ws, goal, sl, &mut below, bd, bits, &mut child, out) {
             return true;
         }
-        let jump = leave(p, ws, &values, k, &mut below, set, sl, sm);
-        go_back(p, ws, goal, stand, bd, bits);
-        if jump {
-            return false;
+        if seek(
+            p,
+            ws,
+            goal,
+            &child,
+            left - 1,
+            &mut below,
+            sl,
+            sm,
+            bd,
+            bits,
+            out,
+        ) {
+            return true;
         }
-        last = k;
+        advance(
+            p,
+            ws,
+            goal,
+            node,
+            &mut i,
+            &stand,
+            &mut below,
+            set,
+            sl,
+            sm,
+            bd,
+            bits,
+        );
     }
     false
 }
@@ -308,25 +426,33 @@ fn look(
     let mut sm = [0u64; MEMORY_WORDS];
     let mut bd = [0u32; BOARD];
     let mut bits = [0u64; BITS];
-    let mut to = [0; MOST_ROWS];
+    let mut node = [0; NODE_NUMBERS];
     let mut set = search_slots::none();
     search_advice::begin(p, search_task::start(p, goal), &mut bd, &mut bits);
-    let f = search_node::judge_state(p, ws, goal, &sl, &mut set, &mut bd, &mut bits, out);
-    if f.done {
-        return f.good;
+    if search_node::judge_state(
+        p,
+        ws,
+        goal,
+        &sl,
+        &mut set,
+        &mut bd,
+        &mut bits,
+        &mut node,
+        out,
+    ) {
+        return true;
     }
     seek(
         p,
         ws,
         goal,
-        f,
+        &node,
         DEPTH,
         &mut set,
         &mut sl,
         &mut sm,
         &mut bd,
         &mut bits,
-        &mut to,
         out,
     )
 }

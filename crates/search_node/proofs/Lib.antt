@@ -1,3 +1,4 @@
+pub mod Choices
 pub mod Roots
 pub mod Answers
 pub mod Open

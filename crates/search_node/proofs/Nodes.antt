@@ -19,30 +19,9 @@ use Rattle.search_task.proofs.ReadyLaws.{ready-facts}
 use Rattle.search_slots.specs.Slots.{inSet}
 use Rattle.search_links.specs.Links.{linkedState}
 use Rattle.search_reasons.specs.Reasons.{RestsOn}
-use Rattle.search_node.specs.Node.{Standing, Wordly, StateFound, OpenState, NodeBy}
+use Rattle.search_node.specs.Node.{Standing, Wordly, StateFound}
 use Rattle.search_node.proofs.Roots.{slot-stands, read-state}
 use Rattle.search_node.proofs.Shut.{walk-shut}
-
--- ---- by how a finding is done
-
-module _ (p : List ℕ) (x y : Sheet) (ws set : List ℕ) (view : ℕ) (u out : List ℕ) where
-  pub node-good : (done good : Bool) → done ≡ true → good ≡ true → StateFound x y out → NodeBy done good p x y ws set view u out
-  node-good true true d g s = s
-  node-good true false d g s = absurd (true≢false (sym g))
-  node-good false good d g s = absurd (true≢false (sym d))
-
-  pub node-refuted : (done good : Bool) → done ≡ true → good ≡ false → RestsOn (Good y) ws set → NodeBy done good p x y ws set view u out
-  node-refuted true true d g s = absurd (true≢false g)
-  node-refuted true false d g s = s
-  node-refuted false good d g s = absurd (true≢false (sym d))
-
-  pub node-open : (done good : Bool) → done ≡ false → OpenState p x (Good y) ws set view u → NodeBy done good p x y ws set view u out
-  node-open true good d s = absurd (true≢false d)
-  node-open false good d s = s
-
--- the same row by other names
-pub open-same : {p : List ℕ} {x : Sheet} {G : State → Type 0} {ws set u v : List ℕ} {view other : ℕ} → other ≡ view → v ≡ u → OpenState p x G ws set view u → OpenState p x G ws set other v
-open-same {p} {x} {G} {ws} {set} {u} {v} {view} {other} e f s = subst (λ k. OpenState p x G ws set k v) (sym e) (subst (λ l. OpenState p x G ws set view l) (sym f) s)
 
 -- ---- a list is given the head, where the question is asked
 

@@ -36,7 +36,7 @@ use Rattle.search_links.proofs.Under.{under-constant}
 use Rattle.search_reasons.specs.Reasons.{AlternativeFails}
 use Rattle.search_reasons.proofs.Laws.{obeys-less}
 use Rattle.search_witness.specs.Witness.{RowShown}
-use Rattle.search_node.specs.Node.{Fits, OpenState}
+use Rattle.search_node.specs.Node.{Fits, RowOpen}
 use Rattle.search_node.proofs.Roots.{obeyed-below, below-obeys, below-root}
 use Rattle.search_node.proofs.Answers.{padded-values}
 
@@ -44,7 +44,7 @@ use Rattle.search_node.proofs.Answers.{padded-values}
 
 -- a made-up value of a row with unused columns stands in a column that is used
 pub fits-padded : (x : Sheet) (u r a b : List ℕ) → u ≡ padded a → r ≡ padded b → length a ≡ length b → ((n : ℕ) → In n b → Stands x n) → Fits x u r
-fits-padded x u r a b eu er same stands c few made = subst (Stands x) (sym right) (stands (getD b c 0) (at-in b c used))
+fits-padded x u r a b eu er same stands c few made = inl (subst (Stands x) (sym right) (stands (getD b c 0) (at-in b c used)))
   where
     left : getD u c 0 ≡ getD a c 0
     left = ap (λ (l : List ℕ). getD l c 0) eu ∙ pad-at a (4 - length a) c
@@ -103,7 +103,7 @@ module _ (p : List ℕ) (x : Sheet) (r : ReadyPlan p x) (goal : Goal) (v : ℕ) 
 
   -- a row that facts show by the words of a set
   pub shown-open : {ws u old set : List ℕ} (from b : ℕ) → from ≡ fromBy goal p → b ≡ view-block v → Linked top ws → length ws ≡ slot-end → RowShown p ws from b u old set → (ListedRow p v u → ⊥)
-      → OpenState p x (Good (sheetBy goal x)) ws set v u
+      → RowOpen p x (Good (sheetBy goal x)) ws set v u
   shown-open {ws} {u} {old} {set} from b e f linked whole s stray = record {
     size = s .size;
     roots = s .roots linked whole;
@@ -132,7 +132,7 @@ module _ (p : List ℕ) (x : Sheet) (r : ReadyPlan p x) (goal : Goal) (v : ℕ) 
 
   -- a row that the facts of the whole state give
   pub walk-open : (ws u set : List ℕ) → Linked top ws → length ws ≡ slot-end → ((n : ℕ) → inSet set n ≡ true) → StrayAt p (numbersOf goal p (linkedState top ws)) v u
-      → OpenState p x (Good (sheetBy goal x)) ws set v u
+      → RowOpen p x (Good (sheetBy goal x)) ws set v u
   walk-open ws u set linked whole full st = record {
     size = sym (ap length (st .given .gives));
     roots = roots;

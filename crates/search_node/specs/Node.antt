@@ -17,6 +17,7 @@ use Rattle.search_slots.specs.Slots.{SetWithin}
 use Rattle.search_links.specs.Links.{Linked, linkedState}
 use Rattle.search_links.specs.Steps.{RootValues}
 use Rattle.search_reasons.specs.Reasons.{RestsOn, AlternativeFails}
+use Rattle.search_node.specs.Choices.{leftOf, rightOf, LiveAt}
 
 -- a number of the sheet, or made up
 abbrev pub Standing : Sheet → ℕ → Type 0
@@ -46,21 +47,33 @@ pub record StateFound (x y : Sheet) (out : List ℕ) : Type 0 where
   pub size : length out ≡ slot-end
   pub stood : (n : ℕ) → n < slot-end → Standing x (getD out n 0)
 
--- where u has a made-up value, the row's value is a number of the sheet
+-- where u has a made-up value, that of the row is a number of the sheet or made up
 abbrev pub Fits : Sheet → List ℕ → List ℕ → Type 0
-Fits x u r = (c : ℕ) → c < 4 → top ≤ getD u c 0 → Stands x (getD r c 0)
+Fits x u r = (c : ℕ) → c < 4 → top ≤ getD u c 0 → Standing x (getD r c 0)
 
 -- a row that a view is given and that is not listed: its alternatives, the view's listed rows, decide, whatever the words of slots that are not in
 -- the set
-pub record OpenState (p : List ℕ) (x : Sheet) (G : State → Type 0) (ws set : List ℕ) (view : ℕ) (u : List ℕ) : Type 0 where
+pub record RowOpen (p : List ℕ) (x : Sheet) (G : State → Type 0) (ws set : List ℕ) (view : ℕ) (u : List ℕ) : Type 0 where
   pub size : length u ≡ 4
   pub roots : RootValues top ws u
   pub fits : (i : ℕ) → i < rowCount p → rowAt p i 0 ≡ view → Fits x u (rowValues p i)
   pub other : (i : ℕ) → i < rowCount p → rowAt p i 0 ≡ view → u ≡ rowValues p i → ⊥
   pub decide : (s : List ℕ) → SetWithin set s → ((i : ℕ) → i < rowCount p → rowAt p i 0 ≡ view → AlternativeFails G ws s u (rowValues p i)) → RestsOn G ws s
 
--- done and good, done and refuted, or open
-abbrev pub NodeBy : Bool → Bool → List ℕ → Sheet → Sheet → List ℕ → List ℕ → ℕ → List ℕ → List ℕ → Type 0
-NodeBy true true p x y ws set view u out = StateFound x y out
-NodeBy true false p x y ws set view u out = RestsOn (Good y) ws set
-NodeBy false good p x y ws set view u out = OpenState p x (Good y) ws set view u
+-- two rows of roots that a step can make one: they differ, and what it writes stands
+pub record Joinable (x : Sheet) (ws u r : List ℕ) : Type 0 where
+  pub left : RootValues top ws u
+  pub right : RootValues top ws r
+  pub fits : Fits x u r
+  pub back : Fits x r u
+  pub other : u ≡ r → ⊥
+
+-- a node whose alternatives decide, whatever the words of slots that are not in the set
+pub record OpenState (p : List ℕ) (x : Sheet) (G : State → Type 0) (ws set node : List ℕ) : Type 0 where
+  pub joinable : (k : ℕ) → LiveAt p node k → Joinable x ws (leftOf node k) (rightOf p node k)
+  pub decide : (s : List ℕ) → SetWithin set s → ((k : ℕ) → LiveAt p node k → AlternativeFails G ws s (leftOf node k) (rightOf p node k)) → RestsOn G ws s
+
+-- a good state, or a node; a node with no alternatives is refuted
+abbrev pub NodeBy : Bool → List ℕ → Sheet → Sheet → List ℕ → List ℕ → List ℕ → List ℕ → Type 0
+NodeBy true p x y ws set node out = StateFound x y out
+NodeBy false p x y ws set node out = OpenState p x (Good y) ws set node

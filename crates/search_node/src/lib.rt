@@ -1,4 +1,4 @@
-// What a state of the search is found to be: good, refuted, or open at a row that has to become a listed one.
+// What a state of the search is found to be: good, or a node, whose alternatives are left; refuted, if it has none.
 //
 // What to look at comes from advice, which is believed in nothing: each proposal is checked against the words. Where none is left, the state is looked
 // at whole.
@@ -23,27 +23,151 @@ use tableau_layout::TABLEAU_SIZE_AT;
 use tableau_layout::VIEW_BLOCKS;
 ghost use mathlib.Core.Path.{_≡_};
 ghost use mathlib.Core.Bool.{true, false};
-ghost use Prim.Native.Nat.{ℕ, _<_};
+ghost use mathlib.Core.List.{List};
+ghost use Prim.Native.Nat.{ℕ, _<_, _≤_};
 ghost use lib.ListN.{length, getD};
+ghost use Rattle.sheet_format.specs.Limits.{most-rows};
 ghost use Rattle.tableau_layout.specs.Layout.{slot-end, tableau-atoms};
 ghost use Rattle.case_verdicts.specs.Verdict.{Sheet};
 ghost use Rattle.case_verdicts.specs.Sheets.{top};
 ghost use Rattle.case_verdicts.specs.Tableau.{Good};
 ghost use Rattle.search_task.specs.Task.{ReadyPlan, sheetBy, numbersOf};
 ghost use Rattle.tableau_parts.specs.Views.{StrayAt};
+ghost use Rattle.tableau_parts.specs.Walks.{Limited};
 ghost use Rattle.search_links.specs.Links.{linkedState};
 ghost use Rattle.search_reasons.specs.Reasons.{RestsOn};
 ghost use Rattle.search_slots.specs.Slots.{inSet};
-ghost use Rattle.search_node.specs.Node.{Standing, Wordly, WordOf, TermAt, TermOf, StateFound, OpenState, NodeBy};
+ghost use Rattle.search_node.specs.Choices.{rows-kind, pair-kind, each-kind, right-at, nodeKind, nodeHint, oneValue, nodeBy, partOf, leftOf, rightOf, howMany, LiveBy};
+ghost use Rattle.search_node.specs.Node.{Standing, Wordly, WordOf, TermAt, TermOf, StateFound, RowOpen, OpenState, NodeBy};
 
-// Good and done, refuted and done, or open: a row of a view, and as digits the listed rows to try first.
-pub struct Finding {
-    pub values: [usize; 4],
-    pub hint: u64,
-    pub view: usize,
-    pub done: bool,
-    pub good: bool,
+// ---- nodes
+
+// A node of the search: alternatives, each a pair of rows of four values, of which one has to become one. Its numbers are a kind, a view or a count, and
+// two rows.
+pub const NODE_NUMBERS: usize = RIGHT_AT + COLUMNS;
+
+const KIND_AT: usize = 0;
+
+const NUMBER_AT: usize = 1;
+
+const LEFT_AT: usize = 2;
+
+const RIGHT_AT: usize = LEFT_AT + COLUMNS;
+
+// The left row has to become one of a view's listed rows.
+const ROWS: usize = 0;
+
+// The two rows have to become one.
+const PAIR: usize = 1;
+
+// In one of so many columns the values of the two rows have to become one.
+const EACH: usize = 2;
+
+// A node by its parts.
+fn node_by(kind: usize, number: usize, a: [usize; 4], b: [usize; 4]) -> [usize; NODE_NUMBERS]
+    ensures { λ r. ⌜ r ≡ nodeBy kind number a b ⌝ }
+{
+    [kind, number, a[0], a[1], a[2], a[3], b[0], b[1], b[2], b[3]]
 }
+
+// A node where a row has to become one of a view's listed rows. The right row is free: as digits, it has the listed rows to try first.
+pub fn rows_node(view: usize, u: [usize; 4], hint: u64) -> [usize; NODE_NUMBERS]
+    ensures { λ r. ⌜ r ≡ nodeBy rows-kind view u (oneValue hint) ⌝ }
+{
+    node_by(ROWS, view, u, [hint as usize, 0, 0, 0])
+}
+
+// A node where two rows have to become one.
+pub fn pair_node(a: [usize; 4], b: [usize; 4]) -> [usize; NODE_NUMBERS]
+    ensures { λ r. ⌜ r ≡ nodeBy pair-kind 0 a b ⌝ }
+{
+    node_by(PAIR, 0, a, b)
+}
+
+// A node where two rows have to have the same value in one of the first columns.
+pub fn each_node(count: usize, a: [usize; 4], b: [usize; 4]) -> [usize; NODE_NUMBERS]
+    ensures { λ r. ⌜ r ≡ nodeBy each-kind count a b ⌝ }
+{
+    node_by(EACH, count, a, b)
+}
+
+// How many alternatives a node has, live or not.
+pub fn alternatives(p: &[usize; PLAN_NUMBERS], node: &[usize; NODE_NUMBERS]) -> usize
+    ensures { λ r. ⌜ Limited (howMany (now (p .entry)) (now (node .entry))) most-rows r ⌝ }
+{
+    let kind = node[KIND_AT];
+    if kind == ROWS {
+        return tableau_parts::row_count(p);
+    }
+    if kind != EACH {
+        return 1;
+    }
+    let count = node[NUMBER_AT];
+    if count < COLUMNS {
+        return count;
+    }
+    COLUMNS
+}
+
+// As digits, the alternatives to try first.
+pub fn hint_of(node: &[usize; NODE_NUMBERS]) -> u64
+    ensures { λ r. ⌜ r ≡ nodeHint (now (node .entry)) ⌝ }
+{
+    if node[KIND_AT] == ROWS {
+        return node[RIGHT_AT] as u64;
+    }
+    0
+}
+
+// Whether the alternatives are listed rows.
+pub fn is_of_rows(node: &[usize; NODE_NUMBERS]) -> bool
+    ensures { λ r. ⌜ (r ≡ true → nodeKind (now (node .entry)) ≡ rows-kind) ⌝ }
+{
+    node[KIND_AT] == ROWS
+}
+
+// Whether alternative k has to be tried, as its view tells.
+pub fn is_live(p: &[usize; PLAN_NUMBERS], node: &[usize; NODE_NUMBERS], k: usize) -> bool
+    ensures { λ r. ⌜ (k < most-rows → LiveBy r (now (p .entry)) (now (node .entry)) k) ⌝ }
+{
+    if node[KIND_AT] != ROWS {
+        return true;
+    }
+    tableau_parts::view_at(p, k) == node[NUMBER_AT]
+}
+
+// A row of alternative k: the whole of it, or its column k alone.
+fn part_of(node: &[usize; NODE_NUMBERS], at: usize, k: usize) -> [usize; 4]
+    requires { ⌜ at ≤ right-at ⌝ }
+    ensures { λ r. ⌜ (k < 4 → r ≡ partOf (now (node .entry)) at k) × ((nodeKind (now (node .entry)) ≡ each-kind → ⊥) → r ≡ partOf (now (node .entry)) at k) ⌝ }
+{
+    if node[KIND_AT] != EACH {
+        return [node[at], node[at + 1], node[at + 2], node[at + 3]];
+    }
+    if k < COLUMNS {
+        return [node[at + k], 0, 0, 0];
+    }
+    [0; 4]
+}
+
+// The left row of alternative k.
+pub fn left_row(node: &[usize; NODE_NUMBERS], k: usize) -> [usize; 4]
+    ensures { λ r. ⌜ ((p : List ℕ) → k < howMany p (now (node .entry)) → r ≡ leftOf (now (node .entry)) k) × (length r ≡ 4) ⌝ }
+{
+    part_of(node, LEFT_AT, k)
+}
+
+// The right row of alternative k.
+pub fn right_row(p: &[usize; PLAN_NUMBERS], node: &[usize; NODE_NUMBERS], k: usize) -> [usize; 4]
+    ensures { λ r. ⌜ (k < most-rows → k < howMany (now (p .entry)) (now (node .entry)) → r ≡ rightOf (now (p .entry)) (now (node .entry)) k) × (length r ≡ 4) ⌝ }
+{
+    if node[KIND_AT] == ROWS {
+        return tableau_parts::values_at(p, k);
+    }
+    part_of(node, RIGHT_AT, k)
+}
+
+// ---- what a state is found to be
 
 // A row of a view that is not listed, if there is one.
 struct OpenRow {
@@ -52,17 +176,11 @@ struct OpenRow {
     values: [usize; 4],
 }
 
-// A state that is done.
-fn ended(good: bool) -> Finding
-    ensures { λ r. ⌜ (r .done ≡ true) × (r .good ≡ good) ⌝ }
+// A node with no alternatives: what has none of them is refuted.
+fn refute(node: &mut [usize; NODE_NUMBERS])
+    ensures { λ r. ⌜ now (node .exit) ≡ nodeBy each-kind 0 (oneValue 0) (oneValue 0) ⌝ }
 {
-    Finding {
-        values: [0; 4],
-        hint: 0,
-        view: 0,
-        done: true,
-        good,
-    }
+    *node = each_node(0, [0; 4], [0; 4]);
 }
 
 // The values of the slots.
@@ -128,7 +246,7 @@ fn open_row(
     at: &[usize; MOST_ATOMS],
     set: &mut [u64; SET_WORDS],
 ) -> OpenRow
-    ensures { λ r. ⌜ ((x : Sheet) → ReadyPlan (now (p .entry)) x → Wordly x (sheetBy goal x) (now (ws .entry)) → r .some ≡ true → OpenState (now (p .entry)) x (Good (sheetBy goal x)) (now (ws .entry)) (now (set .exit)) (r .view) (r .values)) ⌝ }
+    ensures { λ r. ⌜ ((x : Sheet) → ReadyPlan (now (p .entry)) x → Wordly x (sheetBy goal x) (now (ws .entry)) → r .some ≡ true → RowOpen (now (p .entry)) x (Good (sheetBy goal x)) (now (ws .entry)) (now (set .exit)) (r .view) (r .values)) ⌝ }
     ensures { λ r. ⌜ length (now (set .exit)) ≡ length (now (set .entry)) ⌝ }
 {
     if b < VIEW_BLOCKS {
@@ -150,19 +268,6 @@ fn open_row(
         some: true,
         view,
         values,
-    }
-}
-
-// A state open at a row.
-fn opened(view: usize, values: [usize; 4], hint: u64) -> Finding
-    ensures { λ r. ⌜ (r .done ≡ false) × (r .view ≡ view) × (r .values ≡ values) ⌝ }
-{
-    Finding {
-        values,
-        hint,
-        view,
-        done: false,
-        good: false,
     }
 }
 
@@ -278,13 +383,18 @@ fn take_values(
     true
 }
 
-// A state open at a row, by all words.
-fn by_all(view: usize, values: [usize; 4], set: &mut [u64; SET_WORDS]) -> Finding
-    ensures { λ r. ⌜ (r .done ≡ false) × (r .view ≡ view) × (r .values ≡ values) ⌝ }
+// A node where a row has to become a listed one, by all words.
+fn by_all(
+    view: usize,
+    values: [usize; 4],
+    set: &mut [u64; SET_WORDS],
+    node: &mut [usize; NODE_NUMBERS],
+)
+    ensures { λ r. ⌜ now (node .exit) ≡ nodeBy rows-kind view values (oneValue 0) ⌝ }
     ensures { λ r. ⌜ ((n : ℕ) → inSet (now (set .exit)) n ≡ true) × (length (now (set .exit)) ≡ length (now (set .entry))) ⌝ }
 {
     fill(set);
-    opened(view, values, 0)
+    *node = rows_node(view, values, 0);
 }
 
 // The row that the facts of the whole state give a view: by the words that show it where its facts do, else by all words.
@@ -294,25 +404,27 @@ fn by_row(
     goal: Goal,
     stray: Stray,
     set: &mut [u64; SET_WORDS],
-) -> Finding
-    ensures { λ r. ⌜ ((x : Sheet) → ReadyPlan (now (p .entry)) x → Wordly x (sheetBy goal x) (now (ws .entry)) → StrayAt (now (p .entry)) (numbersOf goal (now (p .entry)) (linkedState top (now (ws .entry)))) (stray .view) (stray .values) → OpenState (now (p .entry)) x (Good (sheetBy goal x)) (now (ws .entry)) (now (set .exit)) (r .view) (r .values)) ⌝ }
-    ensures { λ r. ⌜ r .done ≡ false ⌝ }
+    node: &mut [usize; NODE_NUMBERS],
+)
+    ensures { λ r. ⌜ ((x : Sheet) → ReadyPlan (now (p .entry)) x → Wordly x (sheetBy goal x) (now (ws .entry)) → StrayAt (now (p .entry)) (numbersOf goal (now (p .entry)) (linkedState top (now (ws .entry)))) (stray .view) (stray .values) → OpenState (now (p .entry)) x (Good (sheetBy goal x)) (now (ws .entry)) (now (set .exit)) (now (node .exit))) ⌝ }
     ensures { λ r. ⌜ length (now (set .exit)) ≡ length (now (set .entry)) ⌝ }
 {
     let at = stray.at;
     let view = stray.view;
     let values = stray.values;
     if MOST_VIEWS <= view {
-        return by_all(view, values, set);
+        by_all(view, values, set, node);
+        return;
     }
     let atoms = atoms_of(&at, search_task::start(p, goal));
     search_slots::clear(set);
     let o = open_row(p, ws, goal, VIEW_BLOCKS + view, &atoms, set);
     if o.some {
         let row = o.values;
-        return opened(o.view, row, 0);
+        *node = rows_node(o.view, row, 0);
+        return;
     }
-    by_all(view, values, set)
+    by_all(view, values, set, node);
 }
 
 // A state looked at whole: good, and then its values stand in `out`; refuted, by a list that is given the question's head; or open at the first row
@@ -322,21 +434,24 @@ fn by_walk(
     ws: &[usize; SLOTS],
     goal: Goal,
     set: &mut [u64; SET_WORDS],
+    node: &mut [usize; NODE_NUMBERS],
     out: &mut [usize; SLOTS],
-) -> Finding
-    ensures { λ r. ⌜ ((x : Sheet) → ReadyPlan (now (p .entry)) x → Wordly x (sheetBy goal x) (now (ws .entry)) → length (now (out .entry)) ≡ slot-end → NodeBy (r .done) (r .good) (now (p .entry)) x (sheetBy goal x) (now (ws .entry)) (now (set .exit)) (r .view) (r .values) (now (out .exit))) ⌝ }
+) -> bool
+    ensures { λ r. ⌜ ((x : Sheet) → ReadyPlan (now (p .entry)) x → Wordly x (sheetBy goal x) (now (ws .entry)) → length (now (out .entry)) ≡ slot-end → NodeBy r (now (p .entry)) x (sheetBy goal x) (now (ws .entry)) (now (set .exit)) (now (node .exit)) (now (out .exit))) ⌝ }
     ensures { λ r. ⌜ (length (now (set .exit)) ≡ length (now (set .entry))) × (length (now (out .exit)) ≡ length (now (out .entry))) ⌝ }
 {
     read_all(ws, out);
     if search_leaf::is_given(p, goal, out) {
         fill(set);
-        return ended(false);
+        refute(node);
+        return false;
     }
     let stray = search_leaf::first_stray(p, goal, out);
     if stray.some {
-        return by_row(p, ws, goal, stray, set);
+        by_row(p, ws, goal, stray, set, node);
+        return false;
     }
-    ended(true)
+    true
 }
 
 // Whether the state is good where the facts that advice leaves out are read as others; if so, its values stand in `out`.
@@ -367,18 +482,20 @@ fn by_list(
     block: usize,
     at: &[usize; MOST_ATOMS],
     set: &mut [u64; SET_WORDS],
+    node: &mut [usize; NODE_NUMBERS],
     out: &mut [usize; SLOTS],
-) -> Finding
-    ensures { λ r. ⌜ ((x : Sheet) → ReadyPlan (now (p .entry)) x → Wordly x (sheetBy goal x) (now (ws .entry)) → length (now (out .entry)) ≡ slot-end → NodeBy (r .done) (r .good) (now (p .entry)) x (sheetBy goal x) (now (ws .entry)) (now (set .exit)) (r .view) (r .values) (now (out .exit))) ⌝ }
+) -> bool
+    ensures { λ r. ⌜ ((x : Sheet) → ReadyPlan (now (p .entry)) x → Wordly x (sheetBy goal x) (now (ws .entry)) → length (now (out .entry)) ≡ slot-end → NodeBy r (now (p .entry)) x (sheetBy goal x) (now (ws .entry)) (now (set .exit)) (now (node .exit)) (now (out .exit))) ⌝ }
     ensures { λ r. ⌜ (length (now (set .exit)) ≡ length (now (set .entry))) × (length (now (out .exit)) ≡ length (now (out .entry))) ⌝ }
 {
     if !search_task::asks(goal) {
-        return by_walk(p, ws, goal, set, out);
+        return by_walk(p, ws, goal, set, node, out);
     }
     if is_shut(p, ws, block, at, set) {
-        return ended(false);
+        refute(node);
+        return false;
     }
-    by_walk(p, ws, goal, set, out)
+    by_walk(p, ws, goal, set, node, out)
 }
 
 // The state where a view is said to be given a row by facts of the tableau.
@@ -390,17 +507,19 @@ fn by_view(
     at: &[usize; MOST_ATOMS],
     hint: u64,
     set: &mut [u64; SET_WORDS],
+    node: &mut [usize; NODE_NUMBERS],
     out: &mut [usize; SLOTS],
-) -> Finding
-    ensures { λ r. ⌜ ((x : Sheet) → ReadyPlan (now (p .entry)) x → Wordly x (sheetBy goal x) (now (ws .entry)) → length (now (out .entry)) ≡ slot-end → NodeBy (r .done) (r .good) (now (p .entry)) x (sheetBy goal x) (now (ws .entry)) (now (set .exit)) (r .view) (r .values) (now (out .exit))) ⌝ }
+) -> bool
+    ensures { λ r. ⌜ ((x : Sheet) → ReadyPlan (now (p .entry)) x → Wordly x (sheetBy goal x) (now (ws .entry)) → length (now (out .entry)) ≡ slot-end → NodeBy r (now (p .entry)) x (sheetBy goal x) (now (ws .entry)) (now (set .exit)) (now (node .exit)) (now (out .exit))) ⌝ }
     ensures { λ r. ⌜ (length (now (set .exit)) ≡ length (now (set .entry))) × (length (now (out .exit)) ≡ length (now (out .entry))) ⌝ }
 {
     let o = open_row(p, ws, goal, block, at, set);
     if o.some {
         let row = o.values;
-        return opened(o.view, row, hint);
+        *node = rows_node(o.view, row, hint);
+        return false;
     }
-    by_walk(p, ws, goal, set, out)
+    by_walk(p, ws, goal, set, node, out)
 }
 
 // The state where nothing is said to be left.
@@ -411,15 +530,16 @@ fn by_values(
     bd: &[u32; BOARD],
     bits: &[u64; BITS],
     set: &mut [u64; SET_WORDS],
+    node: &mut [usize; NODE_NUMBERS],
     out: &mut [usize; SLOTS],
-) -> Finding
-    ensures { λ r. ⌜ ((x : Sheet) → ReadyPlan (now (p .entry)) x → Wordly x (sheetBy goal x) (now (ws .entry)) → length (now (out .entry)) ≡ slot-end → NodeBy (r .done) (r .good) (now (p .entry)) x (sheetBy goal x) (now (ws .entry)) (now (set .exit)) (r .view) (r .values) (now (out .exit))) ⌝ }
+) -> bool
+    ensures { λ r. ⌜ ((x : Sheet) → ReadyPlan (now (p .entry)) x → Wordly x (sheetBy goal x) (now (ws .entry)) → length (now (out .entry)) ≡ slot-end → NodeBy r (now (p .entry)) x (sheetBy goal x) (now (ws .entry)) (now (set .exit)) (now (node .exit)) (now (out .exit))) ⌝ }
     ensures { λ r. ⌜ (length (now (set .exit)) ≡ length (now (set .entry))) × (length (now (out .exit)) ≡ length (now (out .entry))) ⌝ }
 {
     if is_resolved(p, ws, goal, bd, bits, out) {
-        return ended(true);
+        return true;
     }
-    by_walk(p, ws, goal, set, out)
+    by_walk(p, ws, goal, set, node, out)
 }
 
 // What a state is found to be. Good: the values of a good state stand in `out`. Refuted or open: the set has the slots that this rests on.
@@ -431,9 +551,10 @@ pub fn judge_state(
     set: &mut [u64; SET_WORDS],
     bd: &mut [u32; BOARD],
     bits: &mut [u64; BITS],
+    node: &mut [usize; NODE_NUMBERS],
     out: &mut [usize; SLOTS],
-) -> Finding
-    ensures { λ r. ⌜ ((x : Sheet) → ReadyPlan (now (p .entry)) x → Wordly x (sheetBy goal x) (now (ws .entry)) → length (now (out .entry)) ≡ slot-end → NodeBy (r .done) (r .good) (now (p .entry)) x (sheetBy goal x) (now (ws .entry)) (now (set .exit)) (r .view) (r .values) (now (out .exit))) ⌝ }
+) -> bool
+    ensures { λ r. ⌜ ((x : Sheet) → ReadyPlan (now (p .entry)) x → Wordly x (sheetBy goal x) (now (ws .entry)) → length (now (out .entry)) ≡ slot-end → NodeBy r (now (p .entry)) x (sheetBy goal x) (now (ws .entry)) (now (set .exit)) (now (node .exit)) (now (out .exit))) ⌝ }
     ensures { λ r. ⌜ (length (now (set .exit)) ≡ length (now (set .entry))) × (length (now (out .exit)) ≡ length (now (out .entry))) ⌝ }
 {
     search_slots::clear(set);
@@ -448,10 +569,10 @@ pub fn judge_state(
     );
     let at = a.at;
     if a.kind == LIST_GIVEN {
-        return by_list(p, ws, goal, a.block, &at, set, out);
+        return by_list(p, ws, goal, a.block, &at, set, node, out);
     }
     if a.kind == ROW_GIVEN {
-        return by_view(p, ws, goal, a.block, &at, a.hint, set, out);
+        return by_view(p, ws, goal, a.block, &at, a.hint, set, node, out);
     }
-    by_values(p, ws, goal, bd, bits, set, out)
+    by_values(p, ws, goal, bd, bits, set, node, out)
 }

@@ -1,122 +1,30 @@
 use mathlib.Core.List.{List}
-use Rattle.case_verdicts.specs.Sheets.{top}
-use Rattle.search_links.specs.Steps.{RootValues, Others}
-use Rattle.search_reasons.specs.Reasons.{SlotsOf}
-use Rattle.search_chase.proofs.Steps.{left-jump, left-row}
-use mathlib.Core.Path.{_≡_, refl, sym, ap, _∙_, subst}
-use Prim.Native.Nat.{ℕ, _-_}
+use Prim.Native.Nat.{ℕ}
+use Rattle.search_chase.specs.Run.{UndoneBy}
+use Rattle.search_chase.proofs.Tries.{by-rows}
 use borrow.Author.Needs.{needs}
-use borrow.Author.Tests.{not-true}
-use lib.ListN.{length}
+use borrow.Author.Needs.{needs}
 use Rattle.search_chase.proofs.leave.Statement.{statement}
 use Rattle.search_chase.proofs.leave.Tie as tie
 
-values-at-requires : tie.Need-values-at-requires
-values-at-requires c κs = search needs
+left-row-requires : tie.Need-left-row-requires
+left-row-requires c κs = search needs
 
-slots-of-requires : tie.Need-slots-of-requires
-slots-of-requires c κs = search needs
+right-row-requires : tie.Need-right-row-requires
+right-row-requires c κs = search needs
 
-learn-requires : tie.Need-learn-requires
-learn-requires c κs = search needs
-
-forget-requires : tie.Need-forget-requires
-forget-requires c κs = search needs
-
-release-requires : tie.Need-release-requires
-release-requires c κs = search needs
-
-slice-aggregate-meet : tie.Need-slice-aggregate-meet
-slice-aggregate-meet c = search needs
-
-meet-requires : tie.Need-meet-requires
-meet-requires c κs = search needs
-
-put-requires : tie.Need-put-requires
-put-requires c κs = search needs
+undo-requires : tie.Need-undo-requires
+undo-requires c κs = search needs
 
 returns : tie.Need-returns
-returns c = let at-then1 = c .before .before .before .before in
-    let at-meet = at-then1 .before in
-    let at-release = at-meet .before .before .before .before in
-    let at-forget = at-release .before .before .before in
-    let at-learn = at-forget .before .before .before .before in
-    let at-slots-of = at-learn .before .before .before .before .before .before .before in
-    let at-values-at = at-slots-of .before .before in
-    let start = at-values-at .before in
-    let a = start .args in
-    let e = at-values-at .values-at .ensures (start .pre .0) in
-    let four = start .pre .1 in
-    let made = at-slots-of .slots-of in
-    let changed = made .result in
-    let l = at-learn .learn in
-    let f = at-forget .forget in
-    let b = at-release .release in
-    let tl = l .last .1 .1 .1 .1 .0 in
-    let tm = l .last .1 .1 .1 .1 .1 .0 in
-    let learned = l .ensures .0 (start .pre .3) (start .pre .4) in
-    let forgot = f .ensures .0 (l .ensures .1 .0 ∙ start .pre .3) (l .ensures .1 .1 ∙ start .pre .4) in (
-      λ y old size linked us rs q rests memory.
-          let slots = subst (λ (r : List ℕ). SlotsOf (a .u .now) r changed) e (made .ensures .0 four (ap length e)) in
-          let back = subst (λ (r : List ℕ). RootValues top old r → length old ≡ length (a .ws .now) → Others top old (a .ws .now) (a .u .now) r → b .last .0 ≡ old) e
-          (λ g h i. b .ensures four (ap length e) old us g h i) rs (sym (q .same)) (q .others) in
-          left-jump size linked us rs q changed slots (a .below .now) (start .pre .2) rests (a .sl .now) (a .sm .now) tl tm (f .last .0) (f .last .1 .0) memory learned forgot (b .last .0) back
-          (at-meet .meet .result) (not-true _ (at-then1 .if1 .taken)) (at-meet .meet .ensures) (a .set .now) (c .put .last .0) (c .put .ensures),
-      (b .kept .0, refl, f .ensures .1 .0 ∙ l .ensures .1 .0, f .ensures .1 .1 ∙ l .ensures .1 .1, c .put .ensures .same),
-    )
-
-slice-aggregate-subtract : tie.Need-slice-aggregate-subtract
-slice-aggregate-subtract c = search needs
-
-subtract-requires : tie.Need-subtract-requires
-subtract-requires c κs = search needs
-
-join-requires : tie.Need-join-requires
-join-requires c κs = search needs
-
-returns-2 : tie.Need-returns-2
-returns-2 c = let at-subtract = c .before .before .before .before in
-    let at-release = at-subtract .before .before .before .before .before .before .before .before in
-    let at-forget = at-release .before .before .before in
-    let at-learn = at-forget .before .before .before .before in
-    let at-slots-of = at-learn .before .before .before .before .before .before .before in
-    let at-values-at = at-slots-of .before .before in
-    let start = at-values-at .before in
-    let a = start .args in
-    let e = at-values-at .values-at .ensures (start .pre .0) in
-    let four = start .pre .1 in
-    let made = at-slots-of .slots-of in
-    let changed = made .result in
-    let l = at-learn .learn in
-    let f = at-forget .forget in
-    let b = at-release .release in
-    let tl = l .last .1 .1 .1 .1 .0 in
-    let tm = l .last .1 .1 .1 .1 .1 .0 in
-    let learned = l .ensures .0 (start .pre .3) (start .pre .4) in
-    let forgot = f .ensures .0 (l .ensures .1 .0 ∙ start .pre .3) (l .ensures .1 .1 ∙ start .pre .4) in (
-      λ y old size linked us rs q rests memory.
-          let slots = subst (λ (r : List ℕ). SlotsOf (a .u .now) r changed) e (made .ensures .0 four (ap length e)) in
-          let back = subst (λ (r : List ℕ). RootValues top old r → length old ≡ length (a .ws .now) → Others top old (a .ws .now) (a .u .now) r → b .last .0 ≡ old) e
-          (λ g h i. b .ensures four (ap length e) old us g h i) rs (sym (q .same)) (q .others) in
-          left-row size linked us rs q changed slots (a .below .now) (start .pre .2) rests (a .sl .now) (a .sm .now) tl tm (f .last .0) (f .last .1 .0) memory learned forgot (b .last .0) back
-          (at-subtract .subtract .last .0) (at-subtract .subtract .ensures) (a .set .now) (c .join .last .0) (c .join .ensures),
-      (b .kept .0, at-subtract .subtract .ensures .same, f .ensures .1 .0 ∙ l .ensures .1 .0, f .ensures .1 .1 ∙ l .ensures .1 .1, c .join .ensures .same),
+returns c = let a = c .before .before .before .before .before .before .before .before .before .before .args in
+    let u = c .before .before .before .before .before .before .before .before .before .left-row in
+    let v = c .before .before .before .before .before .before .before .before .right-row in
+    let d = c .undo in (
+      λ few lt. by-rows (λ (m n : List ℕ). UndoneBy (d .result) m n (a .ws .now) (a .below .now) (a .sl .now) (a .sm .now) (d .last .0) (d .last .1 .1 .1 .0) (a .set .now) (d .last .1 .1 .1 .1 .0) (d .last .1 .1 .1 .1 .1 .0) (d .last .1 .1 .1 .1 .1 .1 .0))
+          (u .ensures .0 (a .p .now) lt) (v .ensures .0 few lt) (d .ensures .0),
+      d .ensures .1,
     )
 
 pub leave-spec : {M : Type 1} → statement M
-leave-spec =
-    tie.close
-    (tie.spec
-    values-at-requires
-    slots-of-requires
-    learn-requires
-    forget-requires
-    release-requires
-    slice-aggregate-meet
-    meet-requires
-    put-requires
-    returns
-    slice-aggregate-subtract
-    subtract-requires
-    join-requires
-    returns-2)
+leave-spec = tie.close (tie.spec left-row-requires right-row-requires undo-requires returns)

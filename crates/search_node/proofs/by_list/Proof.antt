@@ -1,8 +1,15 @@
 -- `search_node::by_list` meets its contract. Assumes nothing.
-use mathlib.Core.Path.{refl, sym, _∙_}
-use borrow.Author.Needs.{needs}
+use mathlib.Core.List.{List}
+use mathlib.Core.Path.{refl, sym, _∙_, subst}
+use Prim.Native.Nat.{ℕ}
 use borrow.Author.Tests.{not-false}
-use Rattle.search_node.proofs.Nodes.{node-refuted, asked-rests}
+use Rattle.case_verdicts.specs.Tableau.{Good}
+use Rattle.search_task.specs.Task.{sheetBy}
+use Rattle.search_node.specs.Choices.{oneValue}
+use Rattle.search_node.specs.Node.{OpenState}
+use Rattle.search_node.proofs.Choices.{shut-open}
+use Rattle.search_node.proofs.Nodes.{asked-rests}
+use borrow.Author.Needs.{needs}
 use Rattle.search_node.proofs.by_list.Statement.{statement}
 use Rattle.search_node.proofs.by_list.Tie as tie
 
@@ -18,18 +25,18 @@ returns c = c .by-walk .ensures
 is-shut-requires : tie.Need-is-shut-requires
 is-shut-requires c κs = search needs
 
-ended-requires : tie.Need-ended-requires
-ended-requires c κs = search needs
+refute-requires : tie.Need-refute-requires
+refute-requires c κs = search needs
 
 returns-2 : tie.Need-returns-2
 returns-2 c =
-    let k = c .ended in
-    let s = c .before .before .is-shut in
-    let d = c .before .before .before .before in
-    let q = d .before .asks in
-    let a = d .before .before .args in (
-      λ x r w whole. node-refuted _ _ _ _ _ _ _ _ (k .result .done) (k .result .good) (k .ensures .0) (k .ensures .1)
-          (asked-rests (a .goal) (sym (q .ensures) ∙ not-false (q .result) (d .if1 .left)) (s .ensures .0 x r (c .before .if2 .taken))),
+    let k = c .refute in
+    let s = c .before .before .before .is-shut in
+    let q = c .before .before .before .before .before .before .asks in
+    let a = c .before .before .before .before .before .before .before .args in (
+      λ x r w whole. subst (λ (n : List ℕ). OpenState (a .p .now) x (Good (sheetBy (a .goal) x)) (a .ws .now) (s .last .1 .1 .1 .1 .0) n) (sym (k .ensures))
+          (shut-open (a .p .now) x (Good (sheetBy (a .goal) x)) (a .ws .now) (s .last .1 .1 .1 .1 .0) (oneValue 0) (oneValue 0)
+          (asked-rests (a .goal) (sym (q .ensures) ∙ not-false (q .result) (c .before .before .before .before .before .if1 .left)) (s .ensures .0 x r (c .before .before .if2 .taken)))),
       (s .ensures .1, refl),
     )
 
@@ -39,7 +46,7 @@ by-walk-requires-2 c κs = search needs
 returns-3 : tie.Need-returns-3
 returns-3 c =
     let k = c .by-walk2 in
-    let s = c .before .before .before .before .is-shut in
+    let s = c .before .before .before .before .before .is-shut in
     (k .ensures .0, (k .ensures .1 .0 ∙ s .ensures .1, k .ensures .1 .1))
 
 pub by-list-spec : {M : Type 1} → statement M
@@ -50,7 +57,7 @@ by-list-spec =
     by-walk-requires
     returns
     is-shut-requires
-    ended-requires
+    refute-requires
     returns-2
     by-walk-requires-2
     returns-3)

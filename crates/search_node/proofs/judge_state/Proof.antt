@@ -21,8 +21,10 @@ by-list-requires c κs = search needs
 
 returns : tie.Need-returns
 returns c =
+    let way = c .before .before .before .before .before .before .before .before .before .before in
+    let at-clear = way .before .before .before in
     let k = c .by-list in
-    let z = c .before .before .before .before .before .before .before .before .before .before .before .before .clear in
+    let z = at-clear .clear in
     (k .ensures .0, (k .ensures .1 .0 ∙ z .ensures .same, k .ensures .1 .1))
 
 by-view-requires : tie.Need-by-view-requires
@@ -30,8 +32,10 @@ by-view-requires c κs = search needs
 
 returns-2 : tie.Need-returns-2
 returns-2 c =
+    let way = c .before .before .before .before .before .before .before .before .before .before in
+    let at-clear = way .before .before .before .before .before in
     let k = c .by-view in
-    let z = c .before .before .before .before .before .before .before .before .before .before .before .before .before .before .clear in
+    let z = at-clear .clear in
     (k .ensures .0, (k .ensures .1 .0 ∙ z .ensures .same, k .ensures .1 .1))
 
 by-values-requires : tie.Need-by-values-requires
@@ -39,8 +43,10 @@ by-values-requires c κs = search needs
 
 returns-3 : tie.Need-returns-3
 returns-3 c =
+    let way = c .before .before .before .before .before .before .before .before .before .before in
+    let at-clear = way .before .before .before .before .before .before in
     let k = c .by-values in
-    let z = c .before .before .before .before .before .before .before .before .before .before .before .before .before .before .before .clear in
+    let z = at-clear .clear in
     (k .ensures .0, (k .ensures .1 .0 ∙ z .ensures .same, k .ensures .1 .1))
 
 pub judge-state-spec : {M : Type 1} → statement M
