@@ -1,3 +1,4 @@
+pub mod Ahead
 pub mod Steps
 pub mod Turns
 pub mod Tries

@@ -19,7 +19,7 @@ use Rattle.search_reasons.specs.Reasons.{RestsOn, AlternativeFails, ValueFails}
 use Rattle.search_nogoods.specs.Memory.{EachValue, RowExcluded}
 use Rattle.search_symmetry.specs.Symmetry.{Alike}
 use Rattle.search_node.specs.Choices.{rows-kind, nodeKind, nodeHint, leftOf, rightOf, howMany, LiveAt}
-use Rattle.search_node.specs.Node.{Standing, Wordly, StateFound, OpenState}
+use Rattle.search_node.specs.Node.{Standing, Wordly, StateFound, OpenState, NodeBy}
 
 -- the values that slots cannot have: what the table says is so
 abbrev pub Remembers : (State → Type 0) → List ℕ → List ℕ → List ℕ → Type 0
@@ -126,6 +126,25 @@ pub record Advanced (p : List ℕ) (x : Sheet) (G : State → Type 0) (ws set no
 pub record Behind (p : List ℕ) (x : Sheet) (G : State → Type 0) (ws set node : List ℕ) (i : ℕ) (out below sl sm : List ℕ) : Type 0 where
   pub first : i ≡ 0 → (out ≡ ws) × OpenState p x G ws set node × Remembers G ws sl sm
   pub later : 0 < i → Taken p x G ws set node i out sl sm × RestsOn G out below
+
+-- ---- what is seen one step ahead
+
+-- what was looked into leaves the words; where it is so, no good state obeys those of the set
+pub record LookedInto (G : State → Type 0) (so : Bool) (ws out set : List ℕ) : Type 0 where
+  pub kept : out ≡ ws
+  pub rests : so ≡ true → RestsOn G ws set
+
+-- and what the table says then is so
+pub record LearntAhead (G : State → Type 0) (so : Bool) (ws out set sl sm : List ℕ) : Type 0 where
+  pub kept : out ≡ ws
+  pub rests : so ≡ true → RestsOn G ws set
+  pub memory : Remembers G ws sl sm
+
+-- what a state is found to be; the words stay, and what the table says is so
+pub record JudgedState (good : Bool) (p : List ℕ) (x y : Sheet) (ws out set node found sl sm : List ℕ) : Type 0 where
+  pub kept : out ≡ ws
+  pub judged : NodeBy good p x y ws set node found
+  pub memory : Remembers (Good y) ws sl sm
 
 -- ---- the heads of the copies
 

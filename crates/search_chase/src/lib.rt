@@ -2,6 +2,8 @@
 use query_layout::BLOCK_NUMBERS;
 use query_layout::HEAD_AT;
 use query_layout::NAMES;
+use search_advice::Advice;
+use search_advice::ROW_FAILS;
 use search_advice::STAND;
 use search_board::BITS;
 use search_board::BOARD;
@@ -34,17 +36,20 @@ ghost use Rattle.tableau_plan.specs.Plan.{blockNumbers, rowValues, rowCount};
 ghost use Rattle.search_slots.specs.Slots.{set-words};
 ghost use Rattle.search_nogoods.specs.Sizes.{memory-numbers, memory-words};
 ghost use Rattle.search_links.specs.Links.{linkedState};
-ghost use Rattle.search_links.specs.Steps.{RootValues, EquatedBy};
+ghost use Rattle.search_links.specs.Steps.{RootValues, Equated, EquatedBy};
 ghost use Rattle.search_reasons.specs.Reasons.{RestsOn};
 ghost use Rattle.search_task.specs.Task.{ReadyPlan, sheetBy};
 ghost use Rattle.search_symmetry.specs.Symmetry.{Alike};
 ghost use Rattle.search_node.specs.Choices.{rows-kind, nodeKind, leftOf, rightOf, howMany};
-ghost use Rattle.search_node.specs.Node.{Wordly};
-ghost use Rattle.search_chase.specs.Run.{turnOf, isTurn, Remembers, Begun, FoundOrLost, RefutedAs, UndoneBy, Going, Advanced, Behind, Heads, HeadsBy, LookedBy, FoundBy};
+ghost use Rattle.search_node.specs.Node.{Wordly, OpenState};
+ghost use Rattle.search_chase.specs.Run.{turnOf, isTurn, Remembers, Begun, FoundOrLost, RefutedAs, UndoneBy, Going, Advanced, Behind, LookedInto, LearntAhead, JudgedState, Heads, HeadsBy, LookedBy, FoundBy};
 ghost use Rattle.search_task.specs.declared.Goal.{Goal};
 
 // A search goes no deeper than there are slots.
 const DEPTH: usize = SLOTS + 1;
+
+// So many listed rows that fail ahead are looked into in one state.
+const LESSONS: usize = 10000;
 
 // The alternative that may be tried in turn n: each has one turn in each of two rounds.
 fn turn(count: usize, n: usize) -> usize
@@ -127,6 +132,21 @@ fn take(
     let u = search_node::left_row(node, k);
     let row = search_node::right_row(p, node, k);
     search_links::equate(ws, &u, &row)
+}
+
+// Takes back the step by which the rows of alternative k became one, of which nothing is learnt.
+fn untake(
+    p: &[usize; PLAN_NUMBERS],
+    ws: &mut [usize; SLOTS],
+    node: &[usize; NODE_NUMBERS],
+    k: usize,
+)
+    ensures { λ r. ⌜ (k < most-rows → k < howMany (now (p .entry)) (now (node .entry)) → (was : List ℕ) → RootValues top was (leftOf (now (node .entry)) k) → RootValues top was (rightOf (now (p .entry)) (now (node .entry)) k) → Equated top was (now (ws .entry)) (leftOf (now (node .entry)) k) (rightOf (now (p .entry)) (now (node .entry)) k) → now (ws .exit) ≡ was) ⌝ }
+    ensures { λ r. ⌜ length (now (ws .exit)) ≡ length (now (ws .entry)) ⌝ }
+{
+    let u = search_node::left_row(node, k);
+    let row = search_node::right_row(p, node, k);
+    search_links::release(ws, &u, &row);
 }
 
 // Takes back the step by which two rows became one, after a failure that rests on the slots `below`. True: the failure does not rest on the step, and
@@ -263,6 +283,123 @@ fn advance(
     *i = next(p, ws, node, from, k, below, set, sl, sm);
 }
 
+// Whether no alternative of a node is left to be tried. The words stay. True: the set has the slots that this rests on.
+fn is_closed(
+    p: &[usize; PLAN_NUMBERS],
+    ws: &mut [usize; SLOTS],
+    node: &[usize; NODE_NUMBERS],
+    set: &mut [u64; SET_WORDS],
+    sl: &[usize; MEMORY_NUMBERS],
+    sm: &[u64; MEMORY_WORDS],
+) -> bool
+    ensures { λ r. ⌜ ((x : Sheet) → ReadyPlan (now (p .entry)) x → (goal : Goal) → Wordly x (sheetBy goal x) (now (ws .entry)) → OpenState (now (p .entry)) x (Good (sheetBy goal x)) (now (ws .entry)) (now (set .entry)) (now (node .entry)) → Remembers (Good (sheetBy goal x)) (now (ws .entry)) (now (sl .entry)) (now (sm .entry)) → LookedInto (Good (sheetBy goal x)) r (now (ws .entry)) (now (ws .exit)) (now (set .exit))) ⌝ }
+    ensures { λ r. ⌜ (length (now (ws .exit)) ≡ length (now (ws .entry))) × (length (now (set .exit)) ≡ length (now (set .entry))) ⌝ }
+{
+    let none = search_slots::none();
+    let i = next(p, ws, node, 0, MOST_ROWS, &none, set, sl, sm);
+    if i == 0 {
+        return true;
+    }
+    let k = turn(search_node::alternatives(p, node), i - 1);
+    untake(p, ws, node, k);
+    false
+}
+
+// Whether what advice names leaves nothing to be tried in a state. The words stay. True: the set has the slots that this rests on.
+fn is_ended(
+    p: &[usize; PLAN_NUMBERS],
+    ws: &mut [usize; SLOTS],
+    goal: Goal,
+    a: Advice,
+    set: &mut [u64; SET_WORDS],
+    sl: &[usize; MEMORY_NUMBERS],
+    sm: &[u64; MEMORY_WORDS],
+) -> bool
+    ensures { λ r. ⌜ ((x : Sheet) → ReadyPlan (now (p .entry)) x → Wordly x (sheetBy goal x) (now (ws .entry)) → Remembers (Good (sheetBy goal x)) (now (ws .entry)) (now (sl .entry)) (now (sm .entry)) → LookedInto (Good (sheetBy goal x)) r (now (ws .entry)) (now (ws .exit)) (now (set .exit))) ⌝ }
+    ensures { λ r. ⌜ (length (now (ws .exit)) ≡ length (now (ws .entry))) × (length (now (set .exit)) ≡ length (now (set .entry))) ⌝ }
+{
+    let mut node = [0; NODE_NUMBERS];
+    if !search_node::show_node(p, ws, goal, a, set, &mut node) {
+        return false;
+    }
+    is_closed(p, ws, &node, set, sl, sm)
+}
+
+// Looks into it that alternative k of the node which advice names fails, for the reason that is named: what is learnt of it goes into the table. The
+// words stay. True: the failure does not rest on the alternative, and the set has the slots that it rests on.
+fn learn_ahead(
+    p: &[usize; PLAN_NUMBERS],
+    ws: &mut [usize; SLOTS],
+    goal: Goal,
+    a: Advice,
+    why: Advice,
+    set: &mut [u64; SET_WORDS],
+    sl: &mut [usize; MEMORY_NUMBERS],
+    sm: &mut [u64; MEMORY_WORDS],
+) -> bool
+    requires { ⌜ (length (now sl) ≡ memory-numbers) × (length (now sm) ≡ memory-words) ⌝ }
+    ensures { λ r. ⌜ ((x : Sheet) → ReadyPlan (now (p .entry)) x → Wordly x (sheetBy goal x) (now (ws .entry)) → Remembers (Good (sheetBy goal x)) (now (ws .entry)) (now (sl .entry)) (now (sm .entry)) → LearntAhead (Good (sheetBy goal x)) r (now (ws .entry)) (now (ws .exit)) (now (set .exit)) (now (sl .exit)) (now (sm .exit))) ⌝ }
+    ensures { λ r. ⌜ (length (now (ws .exit)) ≡ length (now (ws .entry))) × (length (now (sl .exit)) ≡ length (now (sl .entry))) × (length (now (sm .exit)) ≡ length (now (sm .entry))) × (length (now (set .exit)) ≡ length (now (set .entry))) ⌝ }
+{
+    let mut node = [0; NODE_NUMBERS];
+    if !search_node::show_node(p, ws, goal, a, set, &mut node) {
+        return false;
+    }
+    let k = a.hint as usize;
+    if search_node::alternatives(p, &node) <= k {
+        return false;
+    }
+    if !search_node::is_live(p, &node, k) {
+        return false;
+    }
+    if !take(p, ws, &node, k) {
+        return false;
+    }
+    let mut below = search_slots::none();
+    if is_ended(p, ws, goal, why, &mut below, sl, sm) {
+        return leave(p, ws, &node, k, &mut below, set, sl, sm);
+    }
+    untake(p, ws, &node, k);
+    false
+}
+
+// What a state is found to be, once it was looked into which listed rows fail one step ahead, as advice says. Good: the values of a good state stand in
+// `out`. Refuted or open: the set has the slots that this rests on. The words stay.
+fn judge_state(
+    p: &[usize; PLAN_NUMBERS],
+    ws: &mut [usize; SLOTS],
+    goal: Goal,
+    set: &mut [u64; SET_WORDS],
+    sl: &mut [usize; MEMORY_NUMBERS],
+    sm: &mut [u64; MEMORY_WORDS],
+    bd: &mut [u32; BOARD],
+    bits: &mut [u64; BITS],
+    node: &mut [usize; NODE_NUMBERS],
+    out: &mut [usize; SLOTS],
+) -> bool
+    requires { ⌜ (length (now sl) ≡ memory-numbers) × (length (now sm) ≡ memory-words) ⌝ }
+    ensures { λ r. ⌜ ((x : Sheet) → ReadyPlan (now (p .entry)) x → Wordly x (sheetBy goal x) (now (ws .entry)) → Remembers (Good (sheetBy goal x)) (now (ws .entry)) (now (sl .entry)) (now (sm .entry)) → length (now (out .entry)) ≡ slot-end → JudgedState r (now (p .entry)) x (sheetBy goal x) (now (ws .entry)) (now (ws .exit)) (now (set .exit)) (now (node .exit)) (now (out .exit)) (now (sl .exit)) (now (sm .exit))) ⌝ }
+    ensures { λ r. ⌜ (length (now (ws .exit)) ≡ length (now (ws .entry))) × (length (now (sl .exit)) ≡ length (now (sl .entry))) × (length (now (sm .exit)) ≡ length (now (sm .entry))) × (length (now (set .exit)) ≡ length (now (set .entry))) × (length (now (out .exit)) ≡ length (now (out .entry))) ⌝ }
+{
+    let asked = search_task::asks(goal);
+    let from = search_task::start(p, goal);
+    let mut a = search_advice::advise(p, ws, asked, from, sl, bd, bits);
+    let mut left = LESSONS;
+    while 0 < left {
+        left -= 1;
+        if a.kind != ROW_FAILS {
+            return search_node::judge_by(p, ws, goal, a, set, bd, bits, node, out);
+        }
+        let why = search_advice::reason(bd);
+        if learn_ahead(p, ws, goal, a, why, set, sl, sm) {
+            search_node::refute(node);
+            return false;
+        }
+        a = search_advice::advise_on(p, ws, asked, sl, bd, bits);
+    }
+    search_node::judge_by(p, ws, goal, a, set, bd, bits, node, out)
+}
+
 // Looks for a good state below the words, where one of a node's alternatives has to hold, at most so many steps deep. True: its values stand in `out`.
 // False: there is none, the words are as they were, and the set has the slots that this rests on. Values that were refuted on the way are kept in a
 // table. What a step needs stands in few words here, since steps can be many.
@@ -305,7 +442,7 @@ fn seek(
         bits,
     );
     while 0 < i {
-        if search_node::judge_state(p, ws, goal, sl, &mut below, bd, bits, &mut child, out) {
+        if judge_state(p, ws, goal, &mut below, sl, sm, bd, bits, &mut child, out) {
             return true;
         }
         if seek(
@@ -429,12 +566,13 @@ fn look(
     let mut node = [0; NODE_NUMBERS];
     let mut set = search_slots::none();
     search_advice::begin(p, search_task::start(p, goal), &mut bd, &mut bits);
-    if search_node::judge_state(
+    if judge_state(
         p,
         ws,
         goal,
-        &sl,
         &mut set,
+        &mut sl,
+        &mut sm,
         &mut bd,
         &mut bits,
         &mut node,

@@ -5,11 +5,11 @@
 use query_layout::COLUMNS;
 use query_layout::FACT_NUMBERS;
 use query_layout::MADE_UP;
+use search_advice::Advice;
 use search_advice::LIST_GIVEN;
-use search_advice::ROW_GIVEN;
+use search_advice::NOTHING;
 use search_board::BITS;
 use search_board::BOARD;
-use search_nogoods::MEMORY_NUMBERS;
 use search_slots::SET_WORDS;
 use search_task::Goal;
 use search_violation::Stray;
@@ -176,8 +176,8 @@ struct OpenRow {
     values: [usize; 4],
 }
 
-// A node with no alternatives: what has none of them is refuted.
-fn refute(node: &mut [usize; NODE_NUMBERS])
+// A node with no alternatives: a state with it is refuted.
+pub fn refute(node: &mut [usize; NODE_NUMBERS])
     ensures { λ r. ⌜ now (node .exit) ≡ nodeBy each-kind 0 (oneValue 0) (oneValue 0) ⌝ }
 {
     *node = each_node(0, [0; 4], [0; 4]);
@@ -474,52 +474,70 @@ fn is_resolved(
     search_leaf::is_good(p, goal, out)
 }
 
-// The state where a list is said to be given the question's head by facts of the tableau.
-fn by_list(
+// The node that atoms show which give list block b the question's head: it has no alternatives. False: they show nothing.
+fn list_node(
     p: &[usize; PLAN_NUMBERS],
     ws: &[usize; SLOTS],
     goal: Goal,
-    block: usize,
+    b: usize,
     at: &[usize; MOST_ATOMS],
     set: &mut [u64; SET_WORDS],
     node: &mut [usize; NODE_NUMBERS],
-    out: &mut [usize; SLOTS],
 ) -> bool
-    ensures { λ r. ⌜ ((x : Sheet) → ReadyPlan (now (p .entry)) x → Wordly x (sheetBy goal x) (now (ws .entry)) → length (now (out .entry)) ≡ slot-end → NodeBy r (now (p .entry)) x (sheetBy goal x) (now (ws .entry)) (now (set .exit)) (now (node .exit)) (now (out .exit))) ⌝ }
-    ensures { λ r. ⌜ (length (now (set .exit)) ≡ length (now (set .entry))) × (length (now (out .exit)) ≡ length (now (out .entry))) ⌝ }
+    ensures { λ r. ⌜ ((x : Sheet) → ReadyPlan (now (p .entry)) x → r ≡ true → OpenState (now (p .entry)) x (Good (sheetBy goal x)) (now (ws .entry)) (now (set .exit)) (now (node .exit))) ⌝ }
+    ensures { λ r. ⌜ length (now (set .exit)) ≡ length (now (set .entry)) ⌝ }
 {
     if !search_task::asks(goal) {
-        return by_walk(p, ws, goal, set, node, out);
-    }
-    if is_shut(p, ws, block, at, set) {
-        refute(node);
         return false;
     }
-    by_walk(p, ws, goal, set, node, out)
+    if !is_shut(p, ws, b, at, set) {
+        return false;
+    }
+    refute(node);
+    true
 }
 
-// The state where a view is said to be given a row by facts of the tableau.
-fn by_view(
+// The node that atoms show which give view block b a row that is not listed. False: they show nothing.
+fn view_node(
     p: &[usize; PLAN_NUMBERS],
     ws: &[usize; SLOTS],
     goal: Goal,
-    block: usize,
+    b: usize,
     at: &[usize; MOST_ATOMS],
     hint: u64,
     set: &mut [u64; SET_WORDS],
     node: &mut [usize; NODE_NUMBERS],
-    out: &mut [usize; SLOTS],
 ) -> bool
-    ensures { λ r. ⌜ ((x : Sheet) → ReadyPlan (now (p .entry)) x → Wordly x (sheetBy goal x) (now (ws .entry)) → length (now (out .entry)) ≡ slot-end → NodeBy r (now (p .entry)) x (sheetBy goal x) (now (ws .entry)) (now (set .exit)) (now (node .exit)) (now (out .exit))) ⌝ }
-    ensures { λ r. ⌜ (length (now (set .exit)) ≡ length (now (set .entry))) × (length (now (out .exit)) ≡ length (now (out .entry))) ⌝ }
+    ensures { λ r. ⌜ ((x : Sheet) → ReadyPlan (now (p .entry)) x → Wordly x (sheetBy goal x) (now (ws .entry)) → r ≡ true → OpenState (now (p .entry)) x (Good (sheetBy goal x)) (now (ws .entry)) (now (set .exit)) (now (node .exit))) ⌝ }
+    ensures { λ r. ⌜ length (now (set .exit)) ≡ length (now (set .entry)) ⌝ }
 {
-    let o = open_row(p, ws, goal, block, at, set);
-    if o.some {
-        let row = o.values;
-        *node = rows_node(o.view, row, hint);
+    let o = open_row(p, ws, goal, b, at, set);
+    if !o.some {
         return false;
     }
-    by_walk(p, ws, goal, set, node, out)
+    let row = o.values;
+    *node = rows_node(o.view, row, hint);
+    true
+}
+
+// The node that advice names, if the words show it; then the set has the slots that it rests on.
+pub fn show_node(
+    p: &[usize; PLAN_NUMBERS],
+    ws: &[usize; SLOTS],
+    goal: Goal,
+    a: Advice,
+    set: &mut [u64; SET_WORDS],
+    node: &mut [usize; NODE_NUMBERS],
+) -> bool
+    ensures { λ r. ⌜ ((x : Sheet) → ReadyPlan (now (p .entry)) x → Wordly x (sheetBy goal x) (now (ws .entry)) → r ≡ true → OpenState (now (p .entry)) x (Good (sheetBy goal x)) (now (ws .entry)) (now (set .exit)) (now (node .exit))) ⌝ }
+    ensures { λ r. ⌜ length (now (set .exit)) ≡ length (now (set .entry)) ⌝ }
+{
+    search_slots::clear(set);
+    let at = a.at;
+    if a.kind == LIST_GIVEN {
+        return list_node(p, ws, goal, a.block, &at, set, node);
+    }
+    view_node(p, ws, goal, a.block, &at, a.hint, set, node)
 }
 
 // The state where nothing is said to be left.
@@ -542,37 +560,27 @@ fn by_values(
     by_walk(p, ws, goal, set, node, out)
 }
 
-// What a state is found to be. Good: the values of a good state stand in `out`. Refuted or open: the set has the slots that this rests on.
-pub fn judge_state(
+// What a state is found to be, by what is advised. Good: the values of a good state stand in `out`. Refuted or open: the set has the slots that this
+// rests on.
+pub fn judge_by(
     p: &[usize; PLAN_NUMBERS],
     ws: &[usize; SLOTS],
     goal: Goal,
-    sl: &[usize; MEMORY_NUMBERS],
+    a: Advice,
     set: &mut [u64; SET_WORDS],
-    bd: &mut [u32; BOARD],
-    bits: &mut [u64; BITS],
+    bd: &[u32; BOARD],
+    bits: &[u64; BITS],
     node: &mut [usize; NODE_NUMBERS],
     out: &mut [usize; SLOTS],
 ) -> bool
     ensures { λ r. ⌜ ((x : Sheet) → ReadyPlan (now (p .entry)) x → Wordly x (sheetBy goal x) (now (ws .entry)) → length (now (out .entry)) ≡ slot-end → NodeBy r (now (p .entry)) x (sheetBy goal x) (now (ws .entry)) (now (set .exit)) (now (node .exit)) (now (out .exit))) ⌝ }
     ensures { λ r. ⌜ (length (now (set .exit)) ≡ length (now (set .entry))) × (length (now (out .exit)) ≡ length (now (out .entry))) ⌝ }
 {
-    search_slots::clear(set);
-    let a = search_advice::advise(
-        p,
-        ws,
-        search_task::asks(goal),
-        search_task::start(p, goal),
-        sl,
-        bd,
-        bits,
-    );
-    let at = a.at;
-    if a.kind == LIST_GIVEN {
-        return by_list(p, ws, goal, a.block, &at, set, node, out);
+    if a.kind == NOTHING {
+        return by_values(p, ws, goal, bd, bits, set, node, out);
     }
-    if a.kind == ROW_GIVEN {
-        return by_view(p, ws, goal, a.block, &at, a.hint, set, node, out);
+    if show_node(p, ws, goal, a, set, node) {
+        return false;
     }
-    by_values(p, ws, goal, bd, bits, set, node, out)
+    by_walk(p, ws, goal, set, node, out)
 }

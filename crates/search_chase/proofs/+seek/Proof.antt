@@ -17,6 +17,7 @@ use Rattle.search_task.specs.Task.{ReadyPlan, sheetBy}
 use Rattle.search_links.specs.Links.{roots}
 use Rattle.search_node.specs.Node.{Wordly}
 use Rattle.search_chase.specs.Run.{Advanced}
+use Rattle.search_chase.proofs.Ahead.{judged-taken, judged-node}
 use Rattle.search_chase.proofs.Onward.{begun-behind, onward-wordly, onward-found, onward-begun, onward-good, onward-failed}
 use Prim.Native.Nat.{ℕ, _<_, _≤_, _-_, _+_, _*_, min}
 use borrow.Fn.Kinds.{In}
@@ -26,7 +27,7 @@ use Rattle.search_chase.proofs.seek.Kinds as seek-kinds
 use Rattle.search_chase.proofs.+seek.Lts-seek as seek-lts
 use Rattle.search_advice.proofs.standing.Reads as standing-reads
 use Rattle.search_chase.proofs.advance.Reads as advance-reads
-use Rattle.search_node.proofs.judge_state.Reads as judge-state-reads
+use Rattle.search_chase.proofs.judge_state.Reads as judge-state-reads
 use Rattle.search_slots.proofs.none.Reads as none-reads
 use Rattle.search_chase.proofs.+seek.{statement}
 use Rattle.search_chase.proofs.+seek.Tie.{close}
@@ -85,60 +86,71 @@ seek-loop-holds t c =
     )
 
 seek-judge-state-requires : (t : ℕ) → seek-lts.Need-judge-state-requires (claims t) (seek-at t) seek.Post seek-Inv-loop seek-μ-loop
-seek-judge-state-requires t c κs = search needs
+seek-judge-state-requires t c κs =
+    let at-loop = c .before .before .before .before .before .before .before .before .before in
+    (at-loop .loop .inv .1, at-loop .loop .inv .2)
 
 seek-returns-2 : (t : ℕ) → seek-lts.Need-returns-2 (claims t) (seek-at t) seek.Post seek-Inv-loop seek-μ-loop
 seek-returns-2 t c =
-    let at-loop = c .before .before .before .before .before .before .before .before .before .before in
+    let at-test = c .before .before .before .before .before .before .before .before .before .before in
+    let at-loop = at-test .before in
     let at-advance = at-loop .before in
     let at-none = at-advance .before .before .before .before .before .before .before .before .before .before in
     let start = at-none .before .before .before .before .before in
     let a = start .args in
     let l = at-loop .loop in
-    let test = c .before .before .before .before .before .before .before .before .before .loop-test .taken in
     let none = at-none .none in
     let first = at-advance .advance .ensures .0 in
+    let test = at-test .loop-test .taken in
     let j = c .before .judge-state in (
-      λ x r b. onward-found (a .p .now) x r (a .goal) (a .ws .now) (b .wordly) (l .set) (a .node .now) (l .i) (l .ws) (l .sl) (l .sm) (l .inv .7 x r (a .ws .now) (b .wordly) (b .room) (first x r (a .ws .now) (b .wordly) (begun-behind (none .result) b)) .on test) (j .result) (j .last .1 .1 .1 .1 .0) (j .last .1 .1 .1 .1 .1 .1 .1 .0) (j .last .1 .1 .1 .1 .1 .1 .1 .1 .0) (c .if2 .taken) (j .ensures .0 x r (onward-wordly (a .p .now) x r (a .goal) (a .ws .now) (b .wordly) (l .set) (a .node .now) (l .i) (l .ws) (l .sl) (l .sm) (l .inv .7 x r (a .ws .now) (b .wordly) (b .room) (first x r (a .ws .now) (b .wordly) (begun-behind (none .result) b)) .on test)) (l .inv .3)),
-      (l .inv .0, l .inv .1, l .inv .2, j .ensures .1 .1 ∙ l .inv .3, l .inv .5),
+      λ x r b.
+          let taken = l .inv .7 x r (a .ws .now) (b .wordly) (b .room) (first x r (a .ws .now) (b .wordly) (begun-behind (none .result) b)) .on test in
+          let judged = j .ensures .0 x r (onward-wordly (a .p .now) x r (a .goal) (a .ws .now) (b .wordly) (l .set) (a .node .now) (l .i) (l .ws) (l .sl) (l .sm) taken) (taken .memory) (l .inv .3) in
+          onward-found (a .p .now) x r (a .goal) (a .ws .now) (b .wordly) (l .set) (a .node .now) (l .i) (l .ws) (l .sl) (l .sm) taken (j .result) (j .last .1 .1 .1 .0) (j .last .1 .1 .1 .1 .1 .1 .1 .1 .0) (j .last .1 .1 .1 .1 .1 .1 .1 .1 .1 .0) (c .if2 .taken) (judged .judged),
+      (j .ensures .1 .0 ∙ l .inv .0, j .ensures .1 .1 ∙ l .inv .1, j .ensures .1 .2 ∙ l .inv .2, j .ensures .1 .4 ∙ l .inv .3, l .inv .5),
     )
 
 seek-sub-seek : (t : ℕ) → seek-lts.Need-sub-seek (claims t) (seek-at t) seek.Post seek-Inv-loop seek-μ-loop
 seek-sub-seek t c =
     let way = c .before .before .before .before .before .before .before .before .before .before in
     let way-2 = way .before .before .before .before .before .before .before .before .before .before in
-    let at-if1 = way-2 .before .before .before .before .before .before .before in
+    let at-if1 = way-2 .before .before .before .before .before .before .before .before in
     let z = at-if1 .if1 .left in omega arith
 
 seek-seek-requires : (t : ℕ) → seek-lts.Need-seek-requires (claims t) (seek-at t) seek.Post seek-Inv-loop seek-μ-loop
 seek-seek-requires t c κs =
     let at-judge-state = c .before .before .before .before .before .before .before .before .before in
-    let at-loop = at-judge-state .before .before .before .before .before .before .before .before .before in
+    let at-loop = at-judge-state .before .before .before .before .before .before .before .before .before .before in
     let way = at-loop .before .before .before .before .before .before .before .before .before .before in
     let at-if1 = way .before .before .before .before .before in
     let start = at-if1 .before in
     let l = at-loop .loop in
     let j = at-judge-state .judge-state in
-    (let e = start .pre .0 in let z = at-if1 .if1 .left in omega arith, (l .inv .0, l .inv .1, l .inv .2, j .ensures .1 .1 ∙ l .inv .3, j .ensures .1 .0 ∙ l .inv .4))
+    (let e = start .pre .0 in let z = at-if1 .if1 .left in omega arith, (j .ensures .1 .0 ∙ l .inv .0, j .ensures .1 .1 ∙ l .inv .1, j .ensures .1 .2 ∙ l .inv .2, j .ensures .1 .4 ∙ l .inv .3, j .ensures .1 .3 ∙ l .inv .4))
 
 seek-returns-3 : (t : ℕ) → seek-lts.Need-returns-3 (claims t) (seek-at t) seek.Post seek-Inv-loop seek-μ-loop
 seek-returns-3 t c =
     let at-if2 = c .before .before .before .before .before .before .before .before .before .before in
     let at-judge-state = at-if2 .before in
-    let at-loop-test = at-judge-state .before .before .before .before .before .before .before .before in
-    let at-loop = at-loop-test .before in
+    let at-test = at-judge-state .before .before .before .before .before .before .before .before .before in
+    let at-loop = at-test .before in
     let at-advance = at-loop .before in
     let at-none = at-advance .before .before .before .before .before .before .before .before .before .before in
     let start = at-none .before .before .before .before .before in
     let a = start .args in
     let l = at-loop .loop in
-    let test = at-loop-test .loop-test .taken in
     let none = at-none .none in
     let first = at-advance .advance .ensures .0 in
+    let test = at-test .loop-test .taken in
     let j = at-judge-state .judge-state in
     let off = at-if2 .if2 .left in
     let q = c .before .seek in (
-      λ x r b. onward-good (a .p .now) x r (a .goal) (a .ws .now) (b .wordly) (l .set) (a .node .now) (l .i) (l .ws) (l .sl) (l .sm) (l .inv .7 x r (a .ws .now) (b .wordly) (b .room) (first x r (a .ws .now) (b .wordly) (begun-behind (none .result) b)) .on test) (q .result) (q .last .1 .0) (q .last .1 .1 .1 .1 .1 .0) (q .last .1 .1 .1 .1 .1 .1 .0) (q .last .1 .1 .1 .1 .1 .1 .1 .0) (q .last .1 .1 .1 .1 .1 .1 .1 .1 .1 .1 .0) (c .if3 .taken) (q .ensures .0 x r (onward-begun (a .p .now) x r (a .goal) (a .ws .now) (b .wordly) (l .set) (a .node .now) (l .i) (l .ws) (l .sl) (l .sm) (l .inv .7 x r (a .ws .now) (b .wordly) (b .room) (first x r (a .ws .now) (b .wordly) (begun-behind (none .result) b)) .on test) (a .left) (b .room) (j .result) (j .last .1 .1 .1 .1 .0) (j .last .1 .1 .1 .1 .1 .1 .1 .0) (j .last .1 .1 .1 .1 .1 .1 .1 .1 .0) off (j .ensures .0 x r (onward-wordly (a .p .now) x r (a .goal) (a .ws .now) (b .wordly) (l .set) (a .node .now) (l .i) (l .ws) (l .sl) (l .sm) (l .inv .7 x r (a .ws .now) (b .wordly) (b .room) (first x r (a .ws .now) (b .wordly) (begun-behind (none .result) b)) .on test)) (l .inv .3)))),
+      λ x r b.
+          let taken = l .inv .7 x r (a .ws .now) (b .wordly) (b .room) (first x r (a .ws .now) (b .wordly) (begun-behind (none .result) b)) .on test in
+          let judged = j .ensures .0 x r (onward-wordly (a .p .now) x r (a .goal) (a .ws .now) (b .wordly) (l .set) (a .node .now) (l .i) (l .ws) (l .sl) (l .sm) taken) (taken .memory) (l .inv .3) in
+          let now = judged-taken taken (j .result) (j .last .1 .0) (j .last .1 .1 .1 .0) (j .last .1 .1 .1 .1 .1 .1 .1 .1 .0) (j .last .1 .1 .1 .1 .1 .1 .1 .1 .1 .0) (j .last .1 .1 .1 .1 .0) (j .last .1 .1 .1 .1 .1 .0) judged in
+          let below = q .ensures .0 x r (onward-begun (a .p .now) x r (a .goal) (a .ws .now) (b .wordly) (l .set) (a .node .now) (l .i) (j .last .1 .0) (j .last .1 .1 .1 .1 .0) (j .last .1 .1 .1 .1 .1 .0) now (a .left) (b .room) (j .result) (j .last .1 .1 .1 .0) (j .last .1 .1 .1 .1 .1 .1 .1 .1 .0) (j .last .1 .1 .1 .1 .1 .1 .1 .1 .1 .0) off (judged-node judged)) in
+          onward-good (a .p .now) x r (a .goal) (a .ws .now) (b .wordly) (l .set) (a .node .now) (l .i) (j .last .1 .0) (j .last .1 .1 .1 .1 .0) (j .last .1 .1 .1 .1 .1 .0) now (q .result) (q .last .1 .0) (q .last .1 .1 .1 .1 .1 .0) (q .last .1 .1 .1 .1 .1 .1 .0) (q .last .1 .1 .1 .1 .1 .1 .1 .0) (q .last .1 .1 .1 .1 .1 .1 .1 .1 .1 .1 .0) (c .if3 .taken) below,
       (q .ensures .1 .0, q .ensures .1 .1, q .ensures .1 .2, q .ensures .1 .3, l .inv .5),
     )
 
@@ -149,10 +161,10 @@ seek-loop-less : (t : ℕ) → seek-lts.Need-loop-less (claims t) (seek-at t) se
 seek-loop-less t c =
     let way = c .before .before .before .before .before .before .before .before .before .before in
     let way-2 = way .before .before .before .before .before .before .before .before .before .before in
-    let at-loop-test = way-2 .before .before .before .before .before .before .before .before .before in
-    let at-loop = at-loop-test .before in
+    let at-test = way-2 .before .before .before .before .before .before .before .before .before .before in
+    let at-loop = at-test .before in
     let l = at-loop .loop in
-    let test = at-loop-test .loop-test .taken in
+    let test = at-test .loop-test .taken in
     let few = l .inv .6 test in
     let v = c .advance2 in
     let i = v .last .1 .1 .1 .1 .0 in
@@ -164,16 +176,16 @@ seek-loop-again t c =
     let at-seek = at-if3 .before in
     let at-if2 = at-seek .before .before .before .before .before .before .before .before .before in
     let at-judge-state = at-if2 .before in
-    let at-loop-test = at-judge-state .before .before .before .before .before .before .before .before in
-    let at-loop = at-loop-test .before in
+    let at-test = at-judge-state .before .before .before .before .before .before .before .before .before in
+    let at-loop = at-test .before in
     let at-advance = at-loop .before in
     let at-none = at-advance .before .before .before .before .before .before .before .before .before .before in
     let start = at-none .before .before .before .before .before in
     let a = start .args in
     let l = at-loop .loop in
-    let test = at-loop-test .loop-test .taken in
     let none = at-none .none in
     let first = at-advance .advance .ensures .0 in
+    let test = at-test .loop-test .taken in
     let j = at-judge-state .judge-state in
     let off = at-if2 .if2 .left in
     let q = at-seek .seek in
@@ -185,7 +197,13 @@ seek-loop-again t c =
       v .ensures .1 .1 .1 ∙ q .ensures .1 .4,
       v .ensures .1 .1 .4 ∙ l .inv .5,
       λ some. v .ensures .1 .0 some .1,
-      λ x r old w room g. v .ensures .0 x r old w (onward-failed (a .p .now) x r (a .goal) old w (l .set) (a .node .now) (l .i) (l .ws) (l .sl) (l .sm) (l .inv .7 x r old w room g .on test) (q .result) (q .last .1 .0) (q .last .1 .1 .1 .1 .1 .0) (q .last .1 .1 .1 .1 .1 .1 .0) (q .last .1 .1 .1 .1 .1 .1 .1 .0) (q .last .1 .1 .1 .1 .1 .1 .1 .1 .1 .1 .0) (at-if3 .if3 .left) (q .ensures .0 x r (onward-begun (a .p .now) x r (a .goal) old w (l .set) (a .node .now) (l .i) (l .ws) (l .sl) (l .sm) (l .inv .7 x r old w room g .on test) (a .left) room (j .result) (j .last .1 .1 .1 .1 .0) (j .last .1 .1 .1 .1 .1 .1 .1 .0) (j .last .1 .1 .1 .1 .1 .1 .1 .1 .0) off (j .ensures .0 x r (onward-wordly (a .p .now) x r (a .goal) old w (l .set) (a .node .now) (l .i) (l .ws) (l .sl) (l .sm) (l .inv .7 x r old w room g .on test)) (l .inv .3))))),
+      λ x r old w room g.
+          let taken = l .inv .7 x r old w room g .on test in
+          let judged = j .ensures .0 x r (onward-wordly (a .p .now) x r (a .goal) old w (l .set) (a .node .now) (l .i) (l .ws) (l .sl) (l .sm) taken) (taken .memory) (l .inv .3) in
+          let now = judged-taken taken (j .result) (j .last .1 .0) (j .last .1 .1 .1 .0) (j .last .1 .1 .1 .1 .1 .1 .1 .1 .0) (j .last .1 .1 .1 .1 .1 .1 .1 .1 .1 .0) (j .last .1 .1 .1 .1 .0) (j .last .1 .1 .1 .1 .1 .0) judged in
+          let below = q .ensures .0 x r (onward-begun (a .p .now) x r (a .goal) old w (l .set) (a .node .now) (l .i) (j .last .1 .0) (j .last .1 .1 .1 .1 .0) (j .last .1 .1 .1 .1 .1 .0) now (a .left) room (j .result) (j .last .1 .1 .1 .0) (j .last .1 .1 .1 .1 .1 .1 .1 .1 .0) (j .last .1 .1 .1 .1 .1 .1 .1 .1 .1 .0) off (judged-node judged)) in
+          v .ensures .0 x r old w
+          (onward-failed (a .p .now) x r (a .goal) old w (l .set) (a .node .now) (l .i) (j .last .1 .0) (j .last .1 .1 .1 .1 .0) (j .last .1 .1 .1 .1 .1 .0) now (q .result) (q .last .1 .0) (q .last .1 .1 .1 .1 .1 .0) (q .last .1 .1 .1 .1 .1 .1 .0) (q .last .1 .1 .1 .1 .1 .1 .1 .0) (q .last .1 .1 .1 .1 .1 .1 .1 .1 .1 .1 .0) (at-if3 .if3 .left) below),
     )
 
 seek-returns-4 : (t : ℕ) → seek-lts.Need-returns-4 (claims t) (seek-at t) seek.Post seek-Inv-loop seek-μ-loop

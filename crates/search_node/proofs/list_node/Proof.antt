@@ -1,6 +1,7 @@
--- `search_node::by_list` meets its contract. Assumes nothing.
+-- `search_node::list_node` meets its contract. Assumes nothing.
 use mathlib.Core.List.{List}
 use mathlib.Core.Path.{refl, sym, _∙_, subst}
+use mathlib.Core.Bool.{true≢false}
 use Prim.Native.Nat.{ℕ}
 use borrow.Author.Tests.{not-false}
 use Rattle.case_verdicts.specs.Tableau.{Good}
@@ -10,54 +11,43 @@ use Rattle.search_node.specs.Node.{OpenState}
 use Rattle.search_node.proofs.Choices.{shut-open}
 use Rattle.search_node.proofs.Nodes.{asked-rests}
 use borrow.Author.Needs.{needs}
-use Rattle.search_node.proofs.by_list.Statement.{statement}
-use Rattle.search_node.proofs.by_list.Tie as tie
+use Rattle.search_node.proofs.list_node.Statement.{statement}
+use Rattle.search_node.proofs.list_node.Tie as tie
 
 asks-requires : tie.Need-asks-requires
 asks-requires c κs = search needs
 
-by-walk-requires : tie.Need-by-walk-requires
-by-walk-requires c κs = search needs
-
 returns : tie.Need-returns
-returns c = c .by-walk .ensures
+returns c = (λ x r e. absurd (true≢false (sym e)), refl)
 
 is-shut-requires : tie.Need-is-shut-requires
 is-shut-requires c κs = search needs
 
+returns-2 : tie.Need-returns-2
+returns-2 c = (λ x r e. absurd (true≢false (sym e)), c .before .is-shut .ensures .1)
+
 refute-requires : tie.Need-refute-requires
 refute-requires c κs = search needs
 
-returns-2 : tie.Need-returns-2
-returns-2 c =
+returns-3 : tie.Need-returns-3
+returns-3 c =
     let k = c .refute in
     let s = c .before .before .before .is-shut in
     let q = c .before .before .before .before .before .before .asks in
     let a = c .before .before .before .before .before .before .before .args in (
-      λ x r w whole. subst (λ (n : List ℕ). OpenState (a .p .now) x (Good (sheetBy (a .goal) x)) (a .ws .now) (s .last .1 .1 .1 .1 .0) n) (sym (k .ensures))
+      λ x r e. subst (λ (n : List ℕ). OpenState (a .p .now) x (Good (sheetBy (a .goal) x)) (a .ws .now) (s .last .1 .1 .1 .1 .0) n) (sym (k .ensures))
           (shut-open (a .p .now) x (Good (sheetBy (a .goal) x)) (a .ws .now) (s .last .1 .1 .1 .1 .0) (oneValue 0) (oneValue 0)
-          (asked-rests (a .goal) (sym (q .ensures) ∙ not-false (q .result) (c .before .before .before .before .before .if1 .left)) (s .ensures .0 x r (c .before .before .if2 .taken)))),
-      (s .ensures .1, refl),
+          (asked-rests (a .goal) (sym (q .ensures) ∙ not-false (q .result) (c .before .before .before .before .before .if1 .left)) (s .ensures .0 x r (not-false (s .result) (c .before .before .if2 .left))))),
+      s .ensures .1,
     )
 
-by-walk-requires-2 : tie.Need-by-walk-requires-2
-by-walk-requires-2 c κs = search needs
-
-returns-3 : tie.Need-returns-3
-returns-3 c =
-    let k = c .by-walk2 in
-    let s = c .before .before .before .before .before .is-shut in
-    (k .ensures .0, (k .ensures .1 .0 ∙ s .ensures .1, k .ensures .1 .1))
-
-pub by-list-spec : {M : Type 1} → statement M
-by-list-spec =
+pub list-node-spec : {M : Type 1} → statement M
+list-node-spec =
     tie.close
     (tie.spec
     asks-requires
-    by-walk-requires
     returns
     is-shut-requires
-    refute-requires
     returns-2
-    by-walk-requires-2
+    refute-requires
     returns-3)
