@@ -1,18 +1,19 @@
-/* Figdawesa from C: sheets read and written, their lines, evaluation, and the verdict on cover.
+/* Figdawesa from C: sheets read and written, their lines, evaluation, the verdict on cover, and the verdicts of a page's whole set.
  *
  * Link target/staticlib/libfigdawesa.a, which `rt staticlib figdawesa` writes, for x86-64 Linux. Of the C library it needs memcpy,
  * memmove and memset, and nothing else. README.md says what a sheet is, docs/PROMISES.md what each call promises.
  *
  * For every call:
  *
- *   - A pointer is followed by its length, which counts elements: bytes for uint8_t, words for int32_t. The caller sees to it that so
+ *   - A pointer is followed by its length, which counts elements: bytes for uint8_t, words for int32_t, ends for size_t. The caller sees to it that so
  *     many elements can be read there, and can be written where the pointer is not const. Where a length is 0 the pointer is not used, and
  *     may be null.
  *   - What is written to (`out`) overlaps nothing else that is passed. Inputs may overlap each other; they are never written.
  *   - No length and no content of what is passed is an error of the caller's: the answer is then a refusal.
- *   - A refusal changes nothing. Otherwise the results stand at the front of `out`, and what follows them is as it was.
+ *   - A refusal changes nothing. Otherwise the results stand at the front of `out`, and what follows them is as it was. (Of a set each sheet
+ *     has a stretch of `out`, of which this holds.)
  *   - Nothing is kept between calls, and nothing is allocated. Threads can call at the same time, each with an `out` of its own.
- *   - Stack: give the thread that calls figdawesa_judge 256 KiB or more. No proof speaks of the stack; it is measured.
+ *   - Stack: give the thread that calls figdawesa_judge or figdawesa_judge_set 256 KiB or more. No proof speaks of the stack; it is measured.
  */
 #ifndef FIGDAWESA_H
 #define FIGDAWESA_H
@@ -29,7 +30,8 @@ extern "C" {
 #define FIGDAWESA_SHEET_BYTES 8192 /* a sheet's bytes, at most */
 #define FIGDAWESA_READ_WORDS 602   /* the words that figdawesa_read wants, and the number form's words, at most */
 #define FIGDAWESA_WRITE_BYTES 4214 /* the bytes that figdawesa_write wants */
-#define FIGDAWESA_JUDGE_WORDS 640  /* the words that figdawesa_judge wants */
+#define FIGDAWESA_JUDGE_WORDS 640  /* the words that figdawesa_judge wants, and figdawesa_judge_set for each sheet */
+#define FIGDAWESA_SHEETS 16        /* sheets of a set, at most */
 #define FIGDAWESA_FACTS 128        /* facts given to figdawesa_evaluate, at most */
 #define FIGDAWESA_LINE_WORDS 7     /* a line in the number form: how many fields it has, and the fields, filled up with 0 to six */
 #define FIGDAWESA_FACT_WORDS 5     /* a fact: its relation and its values, filled up with 0 to four */
@@ -46,6 +48,7 @@ extern "C" {
 
 /* ---- Refusals, by number; the line that is returned stands behind the colon.
  *
+ * Of a set 14 comes before everything else and 13 follows it; each sheet of a set that is taken then has its own.
  * The first that holds is returned, in this order: 1; words not by sevens; for one line after the other 2 to 7, then 9; a question or a
  * list that is missing; 8, head by head; 10; the facts' word count; fact by fact 11, then 12; 13. */
 
@@ -63,7 +66,8 @@ enum {
     FIGDAWESA_NO_BLOCK = 10,     /* no such block: line 0 */
     FIGDAWESA_WRONG_FACT = 11,   /* fact words not by fives; a fact that is none by its relation, values or filling: line 0 */
     FIGDAWESA_FACT_ORDER = 12,   /* more than 128 facts, or facts that do not ascend: line 0 */
-    FIGDAWESA_NO_ROOM = 13       /* `out` is too short: line 0 */
+    FIGDAWESA_NO_ROOM = 13,      /* `out` is too short: line 0 */
+    FIGDAWESA_WRONG_ENDS = 14    /* more than 16 sheets, an end below the one before, a last end that is not the byte count: line 0 */
 };
 
 /* How a call ended. Nothing refused: number and line are 0. Refused: the number, the line from 1, or 0 where none is named, and count 0. */
@@ -98,6 +102,16 @@ struct figdawesa_outcome {
     size_t missing[4];
 };
 
+/* The judgements of a set. Taken: number and line are 0, `count` is how many sheets it has, and `sheets` has their judgements, in the
+ * sheets' order. Refused: the number, line 0, and count 0. Every place of `sheets` that no sheet has, all 16 of them after a refusal, holds
+ * verdict 9 with the set's number, 0 where it is taken, and 0 in everything else. */
+struct figdawesa_set_outcome {
+    size_t number;
+    size_t line;
+    size_t count;
+    struct figdawesa_outcome sheets[FIGDAWESA_SHEETS];
+};
+
 /* ---- The calls */
 
 /* A sheet's bytes to its number form: `count` lines of seven words at the front of `out`. At most 602 words are written.
@@ -124,6 +138,14 @@ struct figdawesa_ended figdawesa_evaluate(const uint8_t *sheet, size_t sheet_byt
  * 1,000,999.
  * Verdict 9: refused by 1 to 9, and then by 13 where out_words is below 640, whatever the verdict would be. */
 struct figdawesa_outcome figdawesa_judge(const uint8_t *sheet, size_t sheet_bytes, int32_t *out, size_t out_words);
+
+/* The judgements of a page's whole set of sheets. `bytes` holds them one after the other, and `ends` says where each ends, so the sheet at
+ * place k, counted from 0, has the bytes from ends[k - 1], or 0 for the first, up to ends[k]. Two equal ends are a sheet without bytes.
+ * Each sheet gets the judgement that figdawesa_judge gives it alone with the 640 words from word k * 640 of `out`, a refusal included; it
+ * changes no word outside these, and words past the last stretch are as they were.
+ * The set is refused by 14, and then by 13 where out_words is below 640 for each sheet. A set of no sheets and no bytes is taken. */
+struct figdawesa_set_outcome figdawesa_judge_set(const uint8_t *bytes, size_t byte_count, const size_t *ends, size_t sheets, int32_t *out,
+                                                 size_t out_words);
 
 #ifdef __cplusplus
 }

@@ -29,7 +29,7 @@
 
 /* What is lent stands between margins, and all of it holds a mark before each call. */
 #define MARGIN 16
-#define ROOM 5000
+#define ROOM 12000
 #define MARK 119
 
 static int32_t words[MARGIN + ROOM + MARGIN];
@@ -209,6 +209,61 @@ static void judging(void)
     CHECK(outcome(figdawesa_judge(of(SHEET), strlen(SHEET), NULL, 0), FIGDAWESA_REFUSED, FIGDAWESA_NO_ROOM, 0, 0, 0, 0));
 }
 
+/* Whether every place from one on is what a place without a sheet is. */
+static int empty_from(const struct figdawesa_set_outcome *r, size_t from, size_t number)
+{
+    for (size_t k = from; k < FIGDAWESA_SHEETS; k++)
+        if (!outcome(r->sheets[k], FIGDAWESA_REFUSED, number, 0, 0, 0, 0))
+            return 0;
+    return 1;
+}
+
+static int sent_back(struct figdawesa_set_outcome r, size_t number)
+{
+    return r.number == number && r.line == 0 && r.count == 0 && empty_from(&r, 0, number) && words_kept(0);
+}
+
+static struct figdawesa_set_outcome judge_set(const char *sheets, size_t n, const size_t *ends, size_t count, size_t room)
+{
+    mark();
+    return figdawesa_judge_set(of(sheets), n, ends, count, lent_words, room);
+}
+
+static void judging_sets(void)
+{
+    static const int32_t facts[] = {4, 7, 1, 0, 0, 4, 7, 2, 0, 0};
+    static const char sheets[] = SHEET NO_SUCH_RELATION QUESTION LIST VIEW CONTRARY SHEET;
+    const size_t whole = strlen(SHEET), bad = whole + strlen(NO_SUCH_RELATION), covered = bad + strlen(QUESTION LIST VIEW);
+    const size_t none = covered + strlen(CONTRARY), n = strlen(sheets);
+    const size_t ends[] = {whole, bad, bad, covered, none, n};
+    const size_t back[] = {bad, whole, n};
+    size_t many[FIGDAWESA_SHEETS + 1] = {0};
+    struct figdawesa_set_outcome r = judge_set(sheets, n, ends, 6, 6 * FIGDAWESA_JUDGE_WORDS);
+    CHECK(r.number == FIGDAWESA_DONE && r.line == 0 && r.count == 6 && empty_from(&r, 6, FIGDAWESA_DONE));
+    CHECK(outcome(r.sheets[0], FIGDAWESA_NOT_COVERED, 0, 0, 2, 7, 1) && are(facts, 10));
+    CHECK(outcome(r.sheets[1], FIGDAWESA_REFUSED, FIGDAWESA_WRONG_COLUMNS, 6, 0, 0, 0));
+    CHECK(outcome(r.sheets[2], FIGDAWESA_REFUSED, FIGDAWESA_MISPLACED, 0, 0, 0, 0));
+    CHECK(outcome(r.sheets[3], FIGDAWESA_COVERED, 0, 0, 0, 0, 0));
+    CHECK(outcome(r.sheets[4], FIGDAWESA_NO_LOG, 0, 0, 0, 0, 0));
+    CHECK(outcome(r.sheets[5], FIGDAWESA_NOT_COVERED, 0, 0, 2, 7, 1));
+    CHECK(memcmp(lent_words + 5 * FIGDAWESA_JUDGE_WORDS, facts, sizeof facts) == 0);
+    for (size_t i = 0; i < 10; i++)
+        lent_words[i] = lent_words[5 * FIGDAWESA_JUDGE_WORDS + i] = MARK;
+    CHECK(words_kept(0));
+    CHECK(sent_back(judge_set(sheets, n, ends, 6, 6 * FIGDAWESA_JUDGE_WORDS - 1), FIGDAWESA_NO_ROOM));
+    CHECK(sent_back(judge_set(sheets, n - 1, ends, 6, ROOM), FIGDAWESA_WRONG_ENDS));
+    CHECK(sent_back(judge_set(sheets, n, ends, 5, ROOM), FIGDAWESA_WRONG_ENDS));
+    CHECK(sent_back(judge_set(sheets, n, back, 3, ROOM), FIGDAWESA_WRONG_ENDS));
+    CHECK(sent_back(judge_set(sheets, n, back, 3, 0), FIGDAWESA_WRONG_ENDS));
+    CHECK(sent_back(judge_set(sheets, n, NULL, 0, ROOM), FIGDAWESA_WRONG_ENDS));
+    CHECK(sent_back(judge_set(NULL, 0, many, FIGDAWESA_SHEETS + 1, ROOM), FIGDAWESA_WRONG_ENDS));
+    CHECK(sent_back(judge_set(NULL, 0, many, FIGDAWESA_SHEETS, FIGDAWESA_SHEETS * FIGDAWESA_JUDGE_WORDS - 1), FIGDAWESA_NO_ROOM));
+    r = judge_set(NULL, 0, many, FIGDAWESA_SHEETS, FIGDAWESA_SHEETS * FIGDAWESA_JUDGE_WORDS);
+    CHECK(r.number == FIGDAWESA_DONE && r.count == FIGDAWESA_SHEETS && empty_from(&r, 0, FIGDAWESA_MISPLACED) && words_kept(0));
+    r = figdawesa_judge_set(NULL, 0, NULL, 0, NULL, 0);
+    CHECK(r.number == FIGDAWESA_DONE && r.line == 0 && r.count == 0 && empty_from(&r, 0, FIGDAWESA_DONE));
+}
+
 int main(void)
 {
     reading();
@@ -216,6 +271,7 @@ int main(void)
     lines();
     evaluation();
     judging();
+    judging_sets();
     printf("C: %d checks, %d failed\n", checks, failures);
     return failures == 0 ? EXIT_SUCCESS : EXIT_FAILURE;
 }

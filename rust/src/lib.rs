@@ -1,4 +1,5 @@
-//! Whether a saved list covers a question, judged from the rows of lists alone; with sheets read and written, their lines, and evaluation.
+//! Whether a saved list covers a question, judged from the rows of lists alone, for one sheet or a page's whole set; with sheets read and
+//! written, their lines, and evaluation.
 //!
 //! Each function is a call of the proved library, over slices that the caller lends. `docs/PROMISES.md` says what is proved of it. Every
 //! input is answered: what cannot be taken is [`Refused`], and then nothing lent is changed. Otherwise the results stand at the front
@@ -14,8 +15,10 @@ pub const SHEET_BYTES: usize = 8192;
 pub const READ_WORDS: usize = 602;
 /// The bytes that [`write`] wants.
 pub const WRITE_BYTES: usize = 4214;
-/// The words that [`judge`] wants.
+/// The words that [`judge`] wants, and [`judge_set`] for each sheet.
 pub const JUDGE_WORDS: usize = 640;
+/// The sheets of a set, at most.
+pub const SHEETS: usize = 16;
 /// The facts given to [`evaluate`], at most.
 pub const FACTS: usize = 128;
 /// A line in the number form: how many fields it has, and the fields, filled up with 0 to six.
@@ -63,6 +66,14 @@ mod c {
         pub missing: [usize; 4],
     }
 
+    #[repr(C)]
+    pub struct SetOutcome {
+        pub number: usize,
+        pub line: usize,
+        pub count: usize,
+        pub sheets: [Outcome; super::SHEETS],
+    }
+
     extern "C" {
         pub fn figdawesa_read(sheet: *const u8, sheet_bytes: usize, out: *mut i32, out_words: usize) -> Ended;
         pub fn figdawesa_write(words: *const i32, word_count: usize, out: *mut u8, out_bytes: usize) -> Ended;
@@ -77,6 +88,14 @@ mod c {
             out_words: usize,
         ) -> Ended;
         pub fn figdawesa_judge(sheet: *const u8, sheet_bytes: usize, out: *mut i32, out_words: usize) -> Outcome;
+        pub fn figdawesa_judge_set(
+            bytes: *const u8,
+            byte_count: usize,
+            ends: *const usize,
+            sheets: usize,
+            out: *mut i32,
+            out_words: usize,
+        ) -> SetOutcome;
     }
 }
 
@@ -109,11 +128,13 @@ pub enum Cause {
     FactOrder = 12,
     /// What was lent is too short.
     NoRoom = 13,
+    /// More than 16 sheets, an end below the one before, a last end that is not the byte count.
+    WrongEnds = 14,
 }
 
 impl Cause {
     /// Every cause, by its number from 1 on.
-    pub const ALL: [Cause; 13] = [
+    pub const ALL: [Cause; 14] = [
         Cause::TooLong,
         Cause::Malformed,
         Cause::Misplaced,
@@ -127,6 +148,7 @@ impl Cause {
         Cause::WrongFact,
         Cause::FactOrder,
         Cause::NoRoom,
+        Cause::WrongEnds,
     ];
 
     pub fn number(self) -> usize {
@@ -148,6 +170,7 @@ impl Cause {
             Cause::WrongFact => "a malformed fact",
             Cause::FactOrder => "too many facts, or not ascending",
             Cause::NoRoom => "too little room",
+            Cause::WrongEnds => "too many sheets, or ends that do not part the bytes",
         }
     }
 }
@@ -244,20 +267,46 @@ pub fn evaluate<'a>(sheet: &[u8], block: usize, facts: &[i32], out: &'a mut [i32
     Ok(&out[..counted(ended)? * ANSWER_WORDS])
 }
 
+/// A judgement as C has it, with the words that were lent for it.
+fn judged(outcome: c::Outcome, lent: &[i32]) -> Result<Verdict<'_>, Refused> {
+    match outcome.verdict {
+        0 => Ok(Verdict::Covered),
+        1 => Ok(Verdict::NotCovered {
+            missing: outcome.missing,
+            facts: &lent[..outcome.count * FACT_WORDS],
+        }),
+        2 => Ok(Verdict::NoLog),
+        9 => Err(refused(outcome.number, outcome.line)),
+        verdict => unreachable!("no verdict has the number {verdict}"),
+    }
+}
+
 /// Whether the sheet's list covers its question.
 ///
 /// Refused by 1 to 9, and then by 13 where fewer than [`JUDGE_WORDS`] are lent, whatever the verdict would be.
 pub fn judge<'a>(sheet: &[u8], out: &'a mut [i32]) -> Result<Verdict<'a>, Refused> {
     // SAFETY: both pointers are valid for their lengths, and the lent one is not shared.
     let outcome = unsafe { c::figdawesa_judge(sheet.as_ptr(), sheet.len(), out.as_mut_ptr(), out.len()) };
-    match outcome.verdict {
-        0 => Ok(Verdict::Covered),
-        1 => Ok(Verdict::NotCovered {
-            missing: outcome.missing,
-            facts: &out[..outcome.count * FACT_WORDS],
-        }),
-        2 => Ok(Verdict::NoLog),
-        9 => Err(refused(outcome.number, outcome.line)),
-        verdict => unreachable!("no verdict has the number {verdict}"),
+    judged(outcome, out)
+}
+
+/// The judgement of each sheet of a page's set, in their order: the sheets stand one after the other in `bytes`, and `ends` says where each
+/// ends. Each gets what [`judge`] gives it alone, a refusal included, and its facts stand in [`JUDGE_WORDS`] words of its own: those from its
+/// place, counted from 0, times [`JUDGE_WORDS`].
+///
+/// The whole set is refused by 14, and then by 13 where fewer than [`JUDGE_WORDS`] are lent for each sheet.
+pub fn judge_set<'a>(bytes: &[u8], ends: &[usize], out: &'a mut [i32]) -> Result<Vec<Result<Verdict<'a>, Refused>>, Refused> {
+    // SAFETY: each pointer is valid for its length, and the lent one is not shared.
+    let set = unsafe { c::figdawesa_judge_set(bytes.as_ptr(), bytes.len(), ends.as_ptr(), ends.len(), out.as_mut_ptr(), out.len()) };
+    if set.number != 0 {
+        return Err(refused(set.number, set.line));
     }
+    let stretches = out.chunks(JUDGE_WORDS);
+    Ok(set
+        .sheets
+        .into_iter()
+        .take(set.count)
+        .zip(stretches)
+        .map(|(outcome, lent)| judged(outcome, lent))
+        .collect())
 }

@@ -114,6 +114,54 @@ fn judges() {
 }
 
 #[test]
+fn judges_sets() {
+    let bad = sheet(&[QUESTION, LIST, NO_SUCH_RELATION]);
+    let sheets = [
+        whole(),
+        bad,
+        vec![],
+        sheet(&[QUESTION, LIST, VIEW]),
+        sheet(&[QUESTION, LIST, CONTRARY]),
+        whole(),
+    ];
+    let bytes = sheets.concat();
+    let ends: Vec<usize> = (1..=sheets.len()).map(|n| sheets[..n].concat().len()).collect();
+    let case = Verdict::NotCovered {
+        missing: [7, 1, 0, 0],
+        facts: &[4, 7, 1, 0, 0, 4, 7, 2, 0, 0],
+    };
+    let mut room = [MARK; 6 * JUDGE_WORDS + 1];
+    assert_eq!(
+        judge_set(&bytes, &ends, &mut room[..6 * JUDGE_WORDS - 1]),
+        refused(Cause::NoRoom, 0)
+    );
+    assert_eq!(judge_set(&bytes, &ends[..5], &mut room), refused(Cause::WrongEnds, 0));
+    assert_eq!(
+        judge_set(&bytes, &[ends[1], ends[0], ends[5]], &mut []),
+        refused(Cause::WrongEnds, 0)
+    );
+    assert_eq!(judge_set(&bytes[1..], &ends, &mut room), refused(Cause::WrongEnds, 0));
+    assert_eq!(judge_set(&[], &[0; SHEETS + 1], &mut room), refused(Cause::WrongEnds, 0));
+    assert_eq!(judge_set(&bytes, &[], &mut room), refused(Cause::WrongEnds, 0));
+    assert_eq!(judge_set(&[], &[], &mut []), Ok(vec![]));
+    assert_eq!(judge_set(&[], &[0; 6], &mut room), Ok(vec![refused(Cause::Misplaced, 0); 6]));
+    assert!(room.iter().all(|&word| word == MARK));
+    assert_eq!(
+        judge_set(&bytes, &ends, &mut room),
+        Ok(vec![
+            Ok(case),
+            refused(Cause::WrongColumns, 6),
+            refused(Cause::Misplaced, 0),
+            Ok(Verdict::Covered),
+            Ok(Verdict::NoLog),
+            Ok(case)
+        ])
+    );
+    assert!(room[10..5 * JUDGE_WORDS].iter().all(|&word| word == MARK));
+    assert!(room[5 * JUDGE_WORDS + 10..].iter().all(|&word| word == MARK));
+}
+
+#[test]
 fn causes_have_their_numbers() {
     for (at, cause) in Cause::ALL.iter().enumerate() {
         assert_eq!(cause.number(), at + 1);

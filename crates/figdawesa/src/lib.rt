@@ -1,6 +1,9 @@
 // The calls for programs in C and Rust. include/figdawesa.h describes them to those who call them.
+use judge::Judgement;
+use judge_set::MOST_SHEETS;
 use sheet_format::Ending;
 ghost use mathlib.Core.Path.{_≡_};
+ghost use mathlib.Core.List.{map};
 ghost use Prim.Native.Nat.{_+_, _≤_};
 ghost use lib.ListN.{length, take, drop};
 ghost use Rattle.sheet_format.specs.Line.{lineAt};
@@ -9,7 +12,8 @@ ghost use Rattle.sheet_format.specs.declared.Ending.{Ending};
 ghost use Rattle.query_meaning.specs.Evaluate.{Evaluated};
 ghost use Rattle.sheet_lines.specs.Start.{lineStart};
 ghost use Rattle.judge.specs.Judged.{Judged};
-ghost use Rattle.figdawesa.specs.Passed.{returnedOf, judgementOf};
+ghost use Rattle.judge_set.specs.Sets.{SetJudged};
+ghost use Rattle.figdawesa.specs.Passed.{returnedOf, judgementOf, setJudgementOf};
 
 // How a call ended: a refusal's number and line, both 0 where nothing is refused, and the count of what was written.
 #[repr(C)]
@@ -34,6 +38,15 @@ pub struct Outcome {
     pub line: usize,
     pub count: usize,
     pub missing: [usize; 4],
+}
+
+// A set's judgement: a refusal's number and line, both 0 where the set is taken, how many sheets were judged, and a judgement for each place.
+#[repr(C)]
+pub struct SetOutcome {
+    pub number: usize,
+    pub line: usize,
+    pub count: usize,
+    pub sheets: [Outcome; MOST_SHEETS],
 }
 
 // An ending in three numbers.
@@ -97,12 +110,10 @@ pub extern "C" fn figdawesa_evaluate(
     in_numbers(evaluate::evaluate(sheet, block, facts, out))
 }
 
-// The verdict of a sheet; where the list does not cover, a case in the lent words.
-#[no_mangle]
-pub extern "C" fn figdawesa_judge(sheet: &[u8], out: &mut [i32]) -> Outcome
-    ensures { λ r. ⌜ Judged (now (sheet .entry)) (now (out .entry)) (now (out .exit)) (judgementOf r) ⌝ }
+// A judgement as C has it.
+fn passed(j: Judgement) -> Outcome
+    ensures { λ r. ⌜ judgementOf r ≡ j ⌝ }
 {
-    let j = judge::judge(sheet, out);
     let missing = j.missing;
     Outcome {
         verdict: j.verdict,
@@ -110,5 +121,44 @@ pub extern "C" fn figdawesa_judge(sheet: &[u8], out: &mut [i32]) -> Outcome
         line: j.line,
         count: j.count,
         missing,
+    }
+}
+
+// The judgements of all places.
+fn passed_all(js: [Judgement; MOST_SHEETS]) -> [Outcome; MOST_SHEETS]
+    ensures { λ r. ⌜ map judgementOf r ≡ js ⌝ }
+{
+    let first = js[0];
+    let mut all = [passed(first); MOST_SHEETS];
+    let mut k = 1;
+    while k < MOST_SHEETS {
+        let j = js[k];
+        all[k] = passed(j);
+        k += 1;
+    }
+    all
+}
+
+// The verdict of a sheet; where the list does not cover, a case in the lent words.
+#[no_mangle]
+pub extern "C" fn figdawesa_judge(sheet: &[u8], out: &mut [i32]) -> Outcome
+    ensures { λ r. ⌜ Judged (now (sheet .entry)) (now (out .entry)) (now (out .exit)) (judgementOf r) ⌝ }
+{
+    passed(judge::judge(sheet, out))
+}
+
+// The verdict of each sheet of a set; the case of each in its own stretch of the lent words.
+#[no_mangle]
+pub extern "C" fn figdawesa_judge_set(bytes: &[u8], ends: &[usize], out: &mut [i32]) -> SetOutcome
+    ensures { λ r. ⌜ SetJudged (now (bytes .entry)) (now (ends .entry)) (now (out .entry)) (now (out .exit)) (setJudgementOf r) ⌝ }
+{
+    let s = judge_set::judge_set(bytes, ends, out);
+    let js = s.sheets;
+    let sheets = passed_all(js);
+    SetOutcome {
+        number: s.number,
+        line: s.line,
+        count: s.count,
+        sheets,
     }
 }
