@@ -1,0 +1,260 @@
+#!/usr/bin/env python3
+"""Cases for the judgement of a page's whole set of sheets, with the results it must give.
+
+This is an independent account of a set: it is written from the description in words alone, and shares nothing with the
+library. Each sheet is judged by tests/cover_cases.py, which was made in the same way. The stored results
+(crates/test_set/stdout) come from here and not from the library.
+
+    python3 tests/set_cases.py            writes crates/test_set/stdin and crates/test_set/stdout
+    python3 tests/set_cases.py --check    only says whether those files are what it would write
+
+Run it at the repository's root. It draws no chance from outside: each run writes the same bytes.
+
+A case that is handed over is free but for what is said of it. So a sheet that is not covered stands in a set only where
+there is one spare-free case, whose facts are then stored.
+"""
+import collections
+import pathlib
+import sys
+
+from cover_cases import LENT_WORDS, NO_ROOM, NOT_COVERED, REFUSED, facts_in, judged, page, parts_of, some_sheet, told
+from evaluate_cases import fact, shown_answers
+from sheet_cases import MOST_WORDS, Dice, lines_in, noted, read, sheet_of
+
+# --- Judging a set --------------------------------------------------------------------------------------------------
+
+MOST_SHEETS = 16
+WRONG_ENDS = 14
+
+# What is returned for a sheet.
+Judgement = collections.namedtuple("Judgement", "verdict number line missing facts")
+
+
+def refused(number, line=0):
+    return Judgement(REFUSED, number, line, (0,) * 4, [])
+
+
+def judged_alone(sheet, most=4000):
+    """What a sheet gets with words enough; None where it has a case and that is not the only one."""
+    number, line, lines = read(sheet, MOST_WORDS)
+    if number:
+        return refused(number, line)
+    parts = parts_of(lines)
+    found = judged(parts, most)
+    if found.number != NOT_COVERED:
+        return Judgement(found.number, 0, 0, (0,) * 4, [])
+    shown, missing, facts = told(parts, found)
+    if shown != 2:
+        return None
+    return Judgement(NOT_COVERED, 0, 0, missing + (0,) * (4 - len(missing)), facts)
+
+
+def refusal_of(count, ends, room):
+    """The number by which a set of so many bytes is sent back, with so many lent words; 0 where it is taken."""
+    too_many = len(ends) > MOST_SHEETS
+    falls_back = any(end < before for before, end in zip(ends, ends[1:]))
+    if too_many or falls_back or (ends[-1] if ends else 0) != count:
+        return WRONG_ENDS
+    return NO_ROOM if room < LENT_WORDS * len(ends) else 0
+
+
+def judged_set(data, ends, room):
+    """The number, and the judgement of each sheet of a set that is taken."""
+    number = refusal_of(len(data), ends, room)
+    if number:
+        return number, []
+    return 0, [judged_alone(data[start:end]) for start, end in zip([0] + ends, ends)]
+
+
+# --- The cases ------------------------------------------------------------------------------------------------------
+
+STDIN = pathlib.Path("crates/test_set/stdin")
+STDOUT = pathlib.Path("crates/test_set/stdout")
+
+# What the program has room for.
+HELD_WORDS = MOST_SHEETS * LENT_WORDS + 64
+HELD_ENDS = MOST_SHEETS + 3
+HELD_BYTES = 8704
+HELD_LINE = 8192
+
+given, wanted, names = [], [], set()
+tally = collections.Counter()
+
+
+def heading(text):
+    given.append("# " + text)
+    wanted.append("# " + text)
+
+
+def shown(judgement):
+    """A sheet's part of a printed line. Both marks hold."""
+    facts = shown_answers([fact(relation, *values) for relation, values in judgement.facts])
+    numbers = (judgement.verdict, judgement.number, judgement.line, *judgement.missing)
+    return "|" + " ".join(map(str, numbers)) + f" {len(judgement.facts)}|{facts}=="
+
+
+def keep(name, data, ends, want, room=None):
+    """A set by its bytes and ends. What is wanted is the number, or the verdict of each sheet and the numbers of those refused."""
+    room = LENT_WORDS * len(ends) if room is None else room
+    assert name not in names and "|" not in name and room <= HELD_WORDS and len(ends) <= HELD_ENDS and len(data) <= HELD_BYTES, name
+    names.add(name)
+    number, sheets = judged_set(data, ends, room)
+    got = number if number else [(one.verdict, one.number) if one.number else one.verdict for one in sheets]
+    if want is not None and got != want:
+        sys.exit(f"the judge gives {got} and not {want}: {name}")
+    given.append(f"{name}|{' '.join(map(str, [room] + ends))}|{noted(data)}")
+    wanted.append(f"{name}: {number} 0 {len(sheets)} ==" + "".join(map(shown, sheets)))
+    tally[f"refused by {number}" if number else f"{len(sheets)} sheets"] += 1
+
+
+def ends_of(sheets):
+    return [len(b"".join(sheets[:at + 1])) for at in range(len(sheets))]
+
+
+def taken(name, sheets, want, room=None):
+    """A set of sheets, with ends that are right."""
+    keep(name, b"".join(sheets), ends_of(sheets), want, room)
+
+
+WORKED = sheet_of(lines_in("1 -1 -2 / 4 4 -1 -2 / 2 -1 -2 / 4 5 -1 -2 / 3 -1 -2 / 4 4 -1 -2 / 5 7 1 / 5 7 2"))
+COVERED_ONE = page("(s): Sig(s,t)", "(7): Sig(7,t)", "(s): Sig(s,t) = (7)")
+NO_LOG_ONE = page("(s): Sig(s,t)", "(s): Sig(s,t)", "(): Beat(s,t) = ()", "(s,t): Beat(s,t)")
+TWO_TICKS = page("(): Beat(7,1), Noise(7,2)", "(): Pause(1)", "(t): Beat(7,t), Noise(7,t)")
+SMALL = page("(): Pause(1)", "(): Pause(1)")
+
+# A sheet for each refusal of a sheet.
+TOO_LONG = b" " * 8193
+UNCLOSED = WORKED[:-1]
+NO_LIST = sheet_of(lines_in("1 -1 -2 / 4 4 -1 -2"))
+NO_RELATION = sheet_of(lines_in("1 / 4 11 1 / 2 / 4 10 1"))
+OUT_OF_RANGE = sheet_of(lines_in("1 -13 / 4 10 -13 / 2 -1 / 4 10 -1"))
+SEVENTH_ATOM = sheet_of(lines_in("1" + " / 4 10 1" * 7 + " / 2 / 4 10 1"))
+OTHER_LENGTH = sheet_of(lines_in("1 -1 / 4 10 -1 / 2 / 4 10 1"))
+UNSAFE = sheet_of(lines_in("1 -1 / 4 10 -2 / 2 -1 / 4 10 -1"))
+ROWS_DESCEND = sheet_of(lines_in("1 / 4 10 1 / 2 / 4 10 1 / 3 -1 / 4 10 -1 / 5 2 / 5 1"))
+
+
+def counts():
+    heading("how many sheets")
+    keep("no sheets", b"", [], [])
+    keep("no sheets, with words to spare", b"", [], [], 640)
+    taken("one sheet", [WORKED], [1])
+    taken("two sheets", [WORKED, COVERED_ONE], [1, 0])
+    taken("sixteen sheets", [SMALL] * 16, [0] * 16)
+    taken("sixteen sheets, the last with a case", [SMALL] * 15 + [WORKED], [0] * 15 + [1])
+    taken("sixteen sheets, the first with a case", [WORKED] + [SMALL] * 15, [1] + [0] * 15)
+    taken("seventeen sheets", [SMALL] * 17, WRONG_ENDS, HELD_WORDS)
+    keep("seventeen sheets without bytes", b"", [0] * 17, WRONG_ENDS, HELD_WORDS)
+    keep("sixteen sheets without bytes", b"", [0] * 16, [(9, 3)] * 16)
+    keep("nineteen sheets without bytes, no words", b"", [0] * 19, WRONG_ENDS, 0)
+
+
+def ends():
+    heading("ends")
+    two, both = ends_of([WORKED, COVERED_ONE]), WORKED + COVERED_ONE
+    keep("equal ends: a sheet without bytes at the start", WORKED, [0, len(WORKED)], [(9, 3), 1])
+    keep("equal ends: a sheet without bytes between", both, [two[0], two[0], two[1]], [1, (9, 3), 0])
+    keep("equal ends: sheets without bytes at the end", WORKED, [len(WORKED)] * 3, [1, (9, 3), (9, 3)])
+    keep("an end that falls back", both, [two[1], two[0]], WRONG_ENDS)
+    keep("an end that falls back by one", both, [two[0], two[0] - 1, two[1]], WRONG_ENDS)
+    keep("an end that falls back to 0", both, [two[0], 0, two[1]], WRONG_ENDS)
+    keep("the last end falls back, to the byte count", both, [two[0], two[1] + 1, two[1]], WRONG_ENDS)
+    keep("a last end one below the byte count", both, [two[0], two[1] - 1], WRONG_ENDS)
+    keep("a last end one above the byte count", both, [two[0], two[1] + 1], WRONG_ENDS)
+    keep("a last end far above the byte count", both, [two[0], 2_000_000_000], WRONG_ENDS)
+    keep("the last sheet left out", both, [two[0]], WRONG_ENDS)
+    keep("no sheets, with bytes", WORKED, [], WRONG_ENDS, 640)
+    keep("no sheets, with a byte", b"\n", [], WRONG_ENDS, 640)
+    keep("a sheet, without bytes", b"", [1], WRONG_ENDS)
+    keep("an end within a line", both, [two[0] - 8, two[1]], [(9, 2), (9, 2)])
+    keep("an end within a sheet, after a line", both, [26, two[0], two[1]], [(9, 2), (9, 2), 0])
+    keep("an end after a whole line", both, [25, two[0], two[1]], [(9, 3), (9, 3), 0])
+
+
+def rooms():
+    heading("lent words")
+    taken("one word short", [WORKED], NO_ROOM, 639)
+    taken("no words", [WORKED], NO_ROOM, 0)
+    taken("one word short of two stretches", [WORKED, COVERED_ONE], NO_ROOM, 1279)
+    taken("words for one of two", [COVERED_ONE, WORKED], NO_ROOM, 640)
+    taken("one word short of sixteen stretches", [SMALL] * 16, NO_ROOM, 10_239)
+    taken("one word more than two stretches", [WORKED, WORKED], [1, 1], 1281)
+    taken("more words than sixteen stretches", [SMALL] * 16, [0] * 16, HELD_WORDS)
+    taken("words short for sheets that are all refused", [NO_LIST, UNCLOSED], NO_ROOM, 1279)
+    keep("ends before words: no words and a last end that is short", WORKED, [len(WORKED) - 1], WRONG_ENDS, 0)
+    keep("ends before words: no words and an end that falls back", WORKED, [len(WORKED), 3, len(WORKED)], WRONG_ENDS, 0)
+    keep("ends before words: no words and seventeen sheets", b"", [0] * 17, WRONG_ENDS, 0)
+
+
+def mixed():
+    heading("verdicts and refusals side by side")
+    taken("one of each verdict", [COVERED_ONE, WORKED, NO_LOG_ONE], [0, 1, 2])
+    taken("one of each verdict, the other way round", [NO_LOG_ONE, WORKED, COVERED_ONE], [2, 1, 0])
+    taken("each verdict with each refusal of its own between",
+          [COVERED_ONE, UNCLOSED, WORKED, NO_LIST, NO_LOG_ONE, NO_RELATION, TWO_TICKS, OUT_OF_RANGE, COVERED_ONE, SEVENTH_ATOM, WORKED, OTHER_LENGTH,
+           NO_LOG_ONE, UNSAFE, ROWS_DESCEND, WORKED],
+          [0, (9, 2), 1, (9, 3), 2, (9, 4), 1, (9, 5), 0, (9, 6), 1, (9, 7), 2, (9, 8), (9, 9), 1])
+    taken("a sheet over 8,192 bytes beside others", [WORKED, TOO_LONG, SMALL], [1, (9, 1), 0])
+    taken("a bad sheet first", [NO_RELATION, WORKED, COVERED_ONE], [(9, 4), 1, 0])
+    taken("a bad sheet last", [WORKED, COVERED_ONE, NO_RELATION], [1, 0, (9, 4)])
+    taken("bad sheets alone", [NO_LIST, UNCLOSED, UNSAFE], [(9, 3), (9, 2), (9, 8)])
+    taken("the same sheet four times", [WORKED] * 4, [1] * 4)
+    taken("two cases side by side", [WORKED, TWO_TICKS], [1, 1])
+    assert judged_alone(TWO_TICKS).facts == facts_in("Beat(7,1) Noise(7,2)")
+
+
+def some_set(dice, pool, count):
+    sheets = []
+    for _ in range(count):
+        sheet = dice.one(pool)
+        if dice.below(6) == 0:
+            data = bytearray(sheet)
+            data[dice.below(len(data))] = dice.one(b"0123456789 -\n\x00")
+            sheet = bytes(data)
+        if dice.below(8) == 0:
+            sheet = b""
+        if judged_alone(sheet) is not None:
+            sheets.append(sheet)
+    return sheets
+
+
+def generated():
+    """Sets of small sheets; some have one end moved."""
+    heading("generated")
+    dice, pool = Dice(16), []
+    while len(pool) < 40:
+        sheet = sheet_of(some_sheet(dice))
+        if len(sheet) < 400 and judged_alone(sheet) is not None:
+            pool.append(sheet)
+    for at in range(1, 31):
+        sheets = some_set(dice, pool, 1 + dice.below(MOST_SHEETS))
+        marks = ends_of(sheets)
+        room = LENT_WORDS * len(sheets) + dice.one((0, 0, 0, 1, 63)) - dice.one((0, 0, 0, 0, 1))
+        if marks and dice.below(4) == 0:
+            place = dice.below(len(marks))
+            marks[place] = max(0, marks[place] + dice.one((-1, 1, -40, 40)))
+        if len(noted(b"".join(sheets))) < 6000 and judged_set(b"".join(sheets), marks, room)[1].count(None) == 0:
+            keep(f"set {at}", b"".join(sheets), marks, None, max(0, room))
+
+
+def main():
+    counts()
+    ends()
+    rooms()
+    mixed()
+    generated()
+    texts = ["".join(line + "\n" for line in lines).encode("ascii") for lines in (given, wanted)]
+    assert all(0 < len(line) < HELD_LINE and ("|" in line) != line.startswith("#") for line in given)
+    for kind, count in sorted(tally.items()):
+        print(f"{kind:<14} {count:>4}")
+    print(f"{sum(tally.values())} cases, {len(texts[0])} bytes of input, {len(texts[1])} bytes of output")
+    for path, text in zip((STDIN, STDOUT), texts):
+        if "--check" in sys.argv[1:]:
+            if path.read_bytes() != text:
+                sys.exit(f"{path} is not what is made here")
+        else:
+            path.write_bytes(text)
+
+
+if __name__ == "__main__":
+    main()
