@@ -36,9 +36,9 @@ use Rattle.search_task.proofs.Copies.{copy-small, copy-kept, first-met, view-in
 use Rattle.search_task.proofs.Node.{head-refuted, kept-row, fine-row}
 use Rattle.search_task.proofs.ReadyLaws.{ready-task, ready-facts, zero-small, row-constants, jobs-count}
 use Rattle.search_task.proofs.Padded.{same-met}
-use Rattle.search_node.specs.Node.{Fits, Wordly, StateFound, NodeBy}
+use Rattle.search_node.specs.Node.{FitsRow, Wordly, StateFound, NodeBy}
 use Rattle.search_node.proofs.Open.{fits-padded}
-use Rattle.search_chase.specs.Run.{Remembers, Begun, FoundOrLost, Heads, HeadsBy, LookedBy, FoundBy}
+use Rattle.search_chase.specs.Run.{Remembers, SearchBegun, FoundOrLost, Heads, HeadsBy, LookedBy, FoundBy}
 use Rattle.search_chase.proofs.Steps.{constant-roots, constant-fits, stood-step}
 
 module _ (p : List ℕ) (x : Sheet) (r : ReadyPlan p x) where
@@ -65,7 +65,7 @@ module _ (p : List ℕ) (x : Sheet) (r : ReadyPlan p x) where
     lengths : length head ≡ length (r .plan .rows i lt .row)
     lengths = head-long p x r i lt (linkedState top ws)
 
-    fits : Fits x (padded head) (rowValues p i)
+    fits : FitsRow x (padded head) (rowValues p i)
     fits =
         fits-padded x (padded head) (rowValues p i) head (r .plan .rows i lt .row) refl (r .plan .rows i lt .values) lengths
         (λ n m. in-row view (view-in p x r i lt) (r .plan .rows i lt .row) (r .plan .rows i lt .listed) m)
@@ -153,7 +153,7 @@ module _ (p : List ℕ) (x y : Sheet) (ws : List ℕ) where
   looked-found false set node out e said = absurd (true≢false (sym e))
 
   pub looked-begun : (good : Bool) (set node out sl sm : List ℕ) → good ≡ false → Wordly x y ws → Remembers (Good y) ws sl sm → NodeBy good p x y ws set node out
-      → Begun p x y ws (slot-end + 1) set node sl sm
+      → SearchBegun p x y ws (slot-end + 1) set node sl sm
   looked-begun true set node out sl sm e w m said = absurd (true≢false e)
   looked-begun false set node out sl sm e w m said =
       record { wordly = w; room = (let a = roots-few top ws in let b = w .size in omega arith); opened = said; memory = m }

@@ -19,13 +19,13 @@ use Rattle.search_task.specs.declared.Goal.{Goal}
 use Rattle.search_node.specs.Choices.{left-at, leftOf, rightOf, howMany, LiveAt}
 use Rattle.search_node.specs.Node.{Wordly, StateFound, OpenState, Joinable, NodeBy}
 use Rattle.search_node.proofs.Choices.{part-four, right-four}
-use Rattle.search_chase.specs.Run.{Remembers, Lost, FoundOrLost, Begun, turnAt, FailsAt, TriedTurns, Going, RowLeft, LeftBy, Taken, Advanced, Behind}
+use Rattle.search_chase.specs.Run.{Remembers, Lost, FoundOrLost, SearchBegun, turnAt, FailsAt, TriedTurns, Going, RowLeft, LeftBy, Taken, Advanced, Behind}
 use Rattle.search_chase.proofs.Steps.{taken-wordly, taken-room}
 use Rattle.search_chase.proofs.Tries.{opened-more, tried-more}
 
 -- ---- where a search begins
 
-pub begun-behind : {p : List ℕ} {x y : Sheet} {ws : List ℕ} {left : ℕ} {set node sl sm : List ℕ} (below : List ℕ) → Begun p x y ws left set node sl sm
+pub begun-behind : {p : List ℕ} {x y : Sheet} {ws : List ℕ} {left : ℕ} {set node sl sm : List ℕ} (below : List ℕ) → SearchBegun p x y ws left set node sl sm
     → Behind p x (Good y) ws set node 0 ws below sl sm
 begun-behind below b = record { first = λ e. (refl, b .opened, b .memory); later = λ lt. absurd (omega arith) }
 
@@ -59,7 +59,7 @@ module _ (p : List ℕ) (x : Sheet) (r : ReadyPlan p x) (goal : Goal) (ws : List
   onward-found false under child state e said = absurd (true≢false (sym e))
 
   pub onward-begun : (left : ℕ) → roots top ws < left → (good : Bool) (under child state : List ℕ) → good ≡ false → NodeBy good p x y out under child state
-      → Begun p x y out (left - 1) under child sl sm
+      → SearchBegun p x y out (left - 1) under child sl sm
   onward-begun left room true under child state e said = absurd (true≢false e)
   onward-begun left room false under child state e said = record {
     wordly = onward-wordly;

@@ -31,7 +31,7 @@ use Rattle.search_task.specs.Task.{ReadyPlan, sheetBy, Settled}
 use Rattle.search_task.specs.declared.Goal.{Goal}
 use Rattle.search_task.proofs.Columns.{met-at, at-met, at-in}
 use Rattle.search_task.proofs.Copies.{settled-after}
-use Rattle.search_node.specs.Node.{Standing, Fits, Wordly, Joinable}
+use Rattle.search_node.specs.Node.{Standing, FitsRow, Wordly, Joinable}
 use Rattle.search_chase.specs.Run.{Remembers, Lost, RowLeft}
 
 -- ---- values that stand
@@ -41,7 +41,7 @@ pub constant-roots : (ws r : List ℕ) → ((v : ℕ) → In v r → v < top) �
 constant-roots ws r small v m = inl (small v m)
 
 -- where a row has constants only, nothing is asked of the other
-pub constant-fits : (x : Sheet) (r u : List ℕ) → length r ≡ 4 → ((v : ℕ) → In v r → v < top) → Fits x r u
+pub constant-fits : (x : Sheet) (r u : List ℕ) → length r ≡ 4 → ((v : ℕ) → In v r → v < top) → FitsRow x r u
 constant-fits x r u four small c few made = let z = small (getD r c 0) (at-in r c (omega arith)) in absurd (omega arith)
 
 -- a map with another value where it made w of a made-up one
@@ -130,7 +130,7 @@ module _ (x : Sheet) (ws out u r : List ℕ) (size : length ws ≡ slot-end) (li
           ∙ ap (another (q .by) w) before ∙ another-is (q .by) w (top + n) (omega arith) is in
           omega arith
 
-  pub stood-step : Fits x u r → Fits x r u → ((n : ℕ) → n < slot-end → Standing x (getD ws n 0)) → (n : ℕ) → n < slot-end → Standing x (getD out n 0)
+  pub stood-step : FitsRow x u r → FitsRow x r u → ((n : ℕ) → n < slot-end → Standing x (getD ws n 0)) → (n : ℕ) → n < slot-end → Standing x (getD out n 0)
   stood-step fits back stood n lt = go (less? (getD out n 0) top) (in? same? (top + n) u) (in? same? (top + n) r)
     where
       beside : (c : ℕ) × (c < 4) × Beside u r (getD out n 0) c → Standing x (getD out n 0)

@@ -36,7 +36,7 @@ FoundOrLost true x y ws end set sl sm out = StateFound x y out
 FoundOrLost false x y ws end set sl sm out = Lost (Good y) ws end set sl sm
 
 -- where a search begins: words from which it may go on, with fewer made-up values that are their own roots than steps left, and an open node
-pub record Begun (p : List ℕ) (x y : Sheet) (ws : List ℕ) (left : ℕ) (set node sl sm : List ℕ) : Type 0 where
+pub record SearchBegun (p : List ℕ) (x y : Sheet) (ws : List ℕ) (left : ℕ) (set node sl sm : List ℕ) : Type 0 where
   pub wordly : Wordly x y ws
   pub room : roots top ws < left
   pub opened : OpenState p x (Good y) ws set node

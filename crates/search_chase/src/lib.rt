@@ -42,14 +42,14 @@ ghost use Rattle.search_task.specs.Task.{ReadyPlan, sheetBy};
 ghost use Rattle.search_symmetry.specs.Symmetry.{Alike};
 ghost use Rattle.search_node.specs.Choices.{rows-kind, nodeKind, leftOf, rightOf, howMany};
 ghost use Rattle.search_node.specs.Node.{Wordly, OpenState};
-ghost use Rattle.search_chase.specs.Run.{turnOf, isTurn, Remembers, Begun, FoundOrLost, RefutedAs, UndoneBy, Going, Advanced, Behind, LookedInto, LearntAhead, JudgedState, Heads, HeadsBy, LookedBy, FoundBy};
+ghost use Rattle.search_chase.specs.Run.{turnOf, isTurn, Remembers, SearchBegun, FoundOrLost, RefutedAs, UndoneBy, Going, Advanced, Behind, LookedInto, LearntAhead, JudgedState, Heads, HeadsBy, LookedBy, FoundBy};
 ghost use Rattle.search_task.specs.declared.Goal.{Goal};
 
 // A search goes no deeper than there are slots.
 const DEPTH: usize = SLOTS + 1;
 
-// So many listed rows that fail ahead are looked into in one state.
-const LESSONS: usize = 10000;
+// So many listed rows that fail ahead are looked into in one state: one for each slot and row.
+const LESSONS: usize = SLOTS * MOST_ROWS;
 
 // The alternative that may be tried in turn n: each has one turn in each of two rounds.
 fn turn(count: usize, n: usize) -> usize
@@ -417,7 +417,7 @@ fn seek(
     out: &mut [usize; SLOTS],
 ) -> bool
     requires { ⌜ (length (now ws) ≡ slot-end) × (length (now sl) ≡ memory-numbers) × (length (now sm) ≡ memory-words) × (length (now out) ≡ slot-end) × (length (now set) ≡ set-words) ⌝ }
-    ensures { λ r. ⌜ ((x : Sheet) → ReadyPlan (now (p .entry)) x → Begun (now (p .entry)) x (sheetBy goal x) (now (ws .entry)) left (now (set .entry)) (now (node .entry)) (now (sl .entry)) (now (sm .entry)) → FoundOrLost r x (sheetBy goal x) (now (ws .entry)) (now (ws .exit)) (now (set .exit)) (now (sl .exit)) (now (sm .exit)) (now (out .exit))) ⌝ }
+    ensures { λ r. ⌜ ((x : Sheet) → ReadyPlan (now (p .entry)) x → SearchBegun (now (p .entry)) x (sheetBy goal x) (now (ws .entry)) left (now (set .entry)) (now (node .entry)) (now (sl .entry)) (now (sm .entry)) → FoundOrLost r x (sheetBy goal x) (now (ws .entry)) (now (ws .exit)) (now (set .exit)) (now (sl .exit)) (now (sm .exit)) (now (out .exit))) ⌝ }
     ensures { λ r. ⌜ (length (now (ws .exit)) ≡ slot-end) × (length (now (sl .exit)) ≡ memory-numbers) × (length (now (sm .exit)) ≡ memory-words) × (length (now (out .exit)) ≡ slot-end) × (length (now (set .exit)) ≡ set-words) ⌝ }
 {
     if left == 0 {

@@ -27,7 +27,7 @@ use Rattle.search_links.specs.Steps.{RootValue, RootValues}
 use Rattle.search_reasons.specs.Reasons.{Obeys, RestsOn, AlternativeFails}
 use Rattle.search_reasons.proofs.Laws.{obeys-less}
 use Rattle.search_node.specs.Choices.{rows-kind, pair-kind, each-kind, left-at, right-at, nodeKind, nodeNumber, nodeHint, nodeRow, oneValue, nodeBy, partOf, leftOf, rightOf, howMany, LiveAt, LiveBy}
-use Rattle.search_node.specs.Node.{Standing, Fits, RowOpen, Joinable, OpenState}
+use Rattle.search_node.specs.Node.{Standing, FitsRow, RowOpen, Joinable, OpenState}
 
 -- ---- by kinds
 
@@ -249,7 +249,7 @@ one-joinable x ws a b f g sa sb other = record {
     roots n h v (inr (inr (inr (inl e)))) = inl (omega arith)
     roots n h v (inr (inr (inr (inr m)))) = absurd m
 
-    fits : (m n : ℕ) → Standing x n → Fits x (oneValue m) (oneValue n)
+    fits : (m n : ℕ) → Standing x n → FitsRow x (oneValue m) (oneValue n)
     fits m n s zero lt made = s
     fits m n s (suc zero) lt made = absurd (omega arith)
     fits m n s (suc (suc zero)) lt made = absurd (omega arith)

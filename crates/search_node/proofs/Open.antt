@@ -36,14 +36,14 @@ use Rattle.search_links.proofs.Under.{under-constant}
 use Rattle.search_reasons.specs.Reasons.{AlternativeFails}
 use Rattle.search_reasons.proofs.Laws.{obeys-less}
 use Rattle.search_witness.specs.Witness.{RowShown}
-use Rattle.search_node.specs.Node.{Fits, RowOpen}
+use Rattle.search_node.specs.Node.{FitsRow, RowOpen}
 use Rattle.search_node.proofs.Roots.{obeyed-below, below-obeys, below-root}
 use Rattle.search_node.proofs.Answers.{padded-values}
 
 -- ---- values that stand
 
 -- a made-up value of a row with unused columns stands in a column that is used
-pub fits-padded : (x : Sheet) (u r a b : List ℕ) → u ≡ padded a → r ≡ padded b → length a ≡ length b → ((n : ℕ) → In n b → Stands x n) → Fits x u r
+pub fits-padded : (x : Sheet) (u r a b : List ℕ) → u ≡ padded a → r ≡ padded b → length a ≡ length b → ((n : ℕ) → In n b → Stands x n) → FitsRow x u r
 fits-padded x u r a b eu er same stands c few made = inl (subst (Stands x) (sym right) (stands (getD b c 0) (at-in b c used)))
   where
     left : getD u c 0 ≡ getD a c 0
@@ -76,7 +76,7 @@ module _ (p : List ℕ) (x : Sheet) (r : ReadyPlan p x) (goal : Goal) (v : ℕ) 
   view-in = let c = r .plan .views in subst (λ ws. In (nth (x .views) v) ws) (sym (ready-task p x r goal .same)) (nth-in (x .views) v (omega arith))
 
   -- a row that the view is given is as wide as its listed rows
-  view-fits : (t : State) (u : List ℕ) → GivenAt p (view-block v) (numbersOf goal p t) u → (i : ℕ) → i < rowCount p → rowAt p i 0 ≡ v → Fits x u (rowValues p i)
+  view-fits : (t : State) (u : List ℕ) → GivenAt p (view-block v) (numbersOf goal p t) u → (i : ℕ) → i < rowCount p → rowAt p i 0 ≡ v → FitsRow x u (rowValues p i)
   view-fits t u g i li q =
       let (a, e, ans) = given-view t u g in
       let o = r .plan .rows i li in

@@ -21,7 +21,7 @@ use Rattle.tableau_plan.specs.Plan.{slotValue, tableauSize}
 use Rattle.tableau_plan.proofs.Tableau.{tableau-length, tableau-term}
 use Rattle.search_task.specs.Task.{ReadyPlan}
 use Rattle.search_reasons.proofs.Ways.{constant-value}
-use Rattle.search_node.specs.Node.{Standing, TermOf}
+use Rattle.search_node.specs.Node.{Standing, TableauTerm}
 
 -- a column that is not 0 is one of the row's
 column-in : (l : List ℕ) (c v : ℕ) → getD l c 0 ≡ v → 0 < v → In v l
@@ -31,7 +31,7 @@ column-in (n ∷ l) (suc c) v e h = inr (column-in l c v e h)
 
 module _ (p : List ℕ) (x : Sheet) (r : ReadyPlan p x) where
   -- 0 also stands in columns that a relation lacks
-  pub term-stands : (v : ℕ) → 0 < v → TermOf p (slot-end + v) → Standing x v
+  pub term-stands : (v : ℕ) → 0 < v → TableauTerm p (slot-end + v) → Standing x v
   unfolding width
   term-stands v some (i, li, (c, lc, e)) = ⊎-elim (λ k. inl k) slot (known-log x (r .accepted) (free top) (factAt (facts x (free top)) i) here v value)
     where

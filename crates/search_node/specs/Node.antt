@@ -38,8 +38,8 @@ WordOf ws v = (n : ℕ) × (n < slot-end) × (getD ws n 0 ≡ v)
 abbrev pub TermAt : List ℕ → ℕ → ℕ → Type 0
 TermAt p i w = (c : ℕ) × (c < 4) × (tableauAt p i (1 + c) ≡ w)
 
-abbrev pub TermOf : List ℕ → ℕ → Type 0
-TermOf p w = (i : ℕ) × (i < tableauSize p) × TermAt p i w
+abbrev pub TableauTerm : List ℕ → ℕ → Type 0
+TableauTerm p w = (i : ℕ) × (i < tableauSize p) × TermAt p i w
 
 -- a good state, each slot's word its value
 pub record StateFound (x y : Sheet) (out : List ℕ) : Type 0 where
@@ -48,15 +48,15 @@ pub record StateFound (x y : Sheet) (out : List ℕ) : Type 0 where
   pub stood : (n : ℕ) → n < slot-end → Standing x (getD out n 0)
 
 -- where u has a made-up value, that of the row is a number of the sheet or made up
-abbrev pub Fits : Sheet → List ℕ → List ℕ → Type 0
-Fits x u r = (c : ℕ) → c < 4 → top ≤ getD u c 0 → Standing x (getD r c 0)
+abbrev pub FitsRow : Sheet → List ℕ → List ℕ → Type 0
+FitsRow x u r = (c : ℕ) → c < 4 → top ≤ getD u c 0 → Standing x (getD r c 0)
 
 -- a row that a view is given and that is not listed: its alternatives, the view's listed rows, decide, whatever the words of slots that are not in
 -- the set
 pub record RowOpen (p : List ℕ) (x : Sheet) (G : State → Type 0) (ws set : List ℕ) (view : ℕ) (u : List ℕ) : Type 0 where
   pub size : length u ≡ 4
   pub roots : RootValues top ws u
-  pub fits : (i : ℕ) → i < rowCount p → rowAt p i 0 ≡ view → Fits x u (rowValues p i)
+  pub fits : (i : ℕ) → i < rowCount p → rowAt p i 0 ≡ view → FitsRow x u (rowValues p i)
   pub other : (i : ℕ) → i < rowCount p → rowAt p i 0 ≡ view → u ≡ rowValues p i → ⊥
   pub decide : (s : List ℕ) → SetWithin set s → ((i : ℕ) → i < rowCount p → rowAt p i 0 ≡ view → AlternativeFails G ws s u (rowValues p i)) → RestsOn G ws s
 
@@ -64,8 +64,8 @@ pub record RowOpen (p : List ℕ) (x : Sheet) (G : State → Type 0) (ws set : L
 pub record Joinable (x : Sheet) (ws u r : List ℕ) : Type 0 where
   pub left : RootValues top ws u
   pub right : RootValues top ws r
-  pub fits : Fits x u r
-  pub back : Fits x r u
+  pub fits : FitsRow x u r
+  pub back : FitsRow x r u
   pub other : u ≡ r → ⊥
 
 -- a node whose alternatives decide, whatever the words of slots that are not in the set

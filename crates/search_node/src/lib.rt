@@ -38,7 +38,7 @@ ghost use Rattle.search_links.specs.Links.{linkedState};
 ghost use Rattle.search_reasons.specs.Reasons.{RestsOn};
 ghost use Rattle.search_slots.specs.Slots.{inSet};
 ghost use Rattle.search_node.specs.Choices.{rows-kind, pair-kind, each-kind, right-at, nodeKind, nodeHint, oneValue, nodeBy, partOf, leftOf, rightOf, howMany, LiveBy};
-ghost use Rattle.search_node.specs.Node.{Standing, Wordly, WordOf, TermAt, TermOf, StateFound, RowOpen, OpenState, NodeBy};
+ghost use Rattle.search_node.specs.Node.{Standing, Wordly, WordOf, TermAt, TableauTerm, StateFound, RowOpen, OpenState, NodeBy};
 
 // ---- nodes
 
@@ -326,7 +326,7 @@ fn has_term(p: &[usize; PLAN_NUMBERS], i: usize, w: usize) -> bool
 
 // Whether an atom of the tableau has the place w.
 fn is_term(p: &[usize; PLAN_NUMBERS], w: usize) -> bool
-    ensures { λ r. ⌜ (r ≡ true → TermOf (now (p .entry)) w) ⌝ }
+    ensures { λ r. ⌜ (r ≡ true → TableauTerm (now (p .entry)) w) ⌝ }
 {
     let size = p[TABLEAU_SIZE_AT];
     if TABLEAU_ATOMS < size {
