@@ -6,11 +6,12 @@ use crate::large;
 use crate::library::{self, Lent};
 use crate::meaning::{self, Judgement};
 use crate::random::Random;
+use crate::sets;
 use crate::sheet::{self, Taken};
 use crate::slips::{self, is, Slip};
 use std::time::{Duration, Instant};
 
-pub const CALLS: [&str; 5] = ["read", "write", "line", "evaluate", "judge"];
+pub const CALLS: [&str; 6] = ["read", "write", "line", "evaluate", "judge", "judge_set"];
 
 /// What came of one input.
 pub struct Outcome {
@@ -37,12 +38,13 @@ pub fn one(call: usize, seed: u64, index: u64, show: bool) -> Outcome {
         1 => write(&mut random, show),
         2 => line(&mut random, show),
         3 => evaluate(&mut random, show),
-        _ => judge(&mut random, show),
+        4 => judge(&mut random, show),
+        _ => sets::judge_set(&mut random, show),
     }
 }
 
 /// A length to lend where `wanted` is asked for: mostly that, or one less, or more.
-fn lent(random: &mut Random, wanted: usize) -> usize {
+pub fn lent(random: &mut Random, wanted: usize) -> usize {
     match random.below(20) {
         0 => wanted.saturating_sub(1),
         1 => 0,
@@ -53,7 +55,7 @@ fn lent(random: &mut Random, wanted: usize) -> usize {
     }
 }
 
-fn word(drawn: u64) -> i32 {
+pub fn word(drawn: u64) -> i32 {
     drawn as i32
 }
 
@@ -61,7 +63,7 @@ fn byte(drawn: u64) -> u8 {
     drawn as u8
 }
 
-fn named(number: usize) -> String {
+pub fn named(number: usize) -> String {
     if number == 0 {
         "done".into()
     } else {
@@ -188,8 +190,10 @@ const VERDICT_STEPS: u64 = 3_000_000;
 const SECOND_STEPS: u64 = 100_000;
 const EVALUATION_STEPS: u64 = 1_000_000;
 
-/// A sheet to judge, how its verdict is known, and the log that it is known by.
-fn to_judge(random: &mut Random) -> (&'static str, Vec<u8>, Known, Vec<meaning::Fact>) {
+/// A sheet to judge, by what kind it is, how its verdict is known, and the log that it is known by.
+pub type Drawn = (&'static str, Vec<u8>, Known, Vec<meaning::Fact>);
+
+pub fn to_judge(random: &mut Random) -> Drawn {
     if random.percent(25) {
         let (name, bytes) = generate::sheet(random);
         return (name, bytes, Known::Large, vec![]);
@@ -223,7 +227,7 @@ fn to_judge(random: &mut Random) -> (&'static str, Vec<u8>, Known, Vec<meaning::
 }
 
 /// The verdicts that are right here, and how they are known. Where no slip is on, `large` has to come to the same verdict.
-fn verdicts(sheet: &sheet::Sheet, known: Known, log: &[meaning::Fact]) -> Result<(Vec<usize>, &'static str), String> {
+pub fn verdicts(sheet: &sheet::Sheet, known: Known, log: &[meaning::Fact]) -> Result<(Vec<usize>, &'static str), String> {
     let (right, how) = plain_verdicts(sheet, known, log)?;
     if slips::any() || known == Known::Large {
         return Ok((right, how));
@@ -317,7 +321,7 @@ fn judge(random: &mut Random, show: bool) -> Outcome {
 }
 
 /// Whether a judgement of a sheet is right, with what it left in the lent words.
-fn check_judgement(
+pub fn check_judgement(
     bytes: &[u8],
     told: &Judgement,
     out: &Lent<i32>,

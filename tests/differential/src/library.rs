@@ -27,6 +27,14 @@ mod c {
         pub missing: [usize; 4],
     }
 
+    #[repr(C)]
+    pub struct SetOutcome {
+        pub number: usize,
+        pub line: usize,
+        pub count: usize,
+        pub sheets: [Outcome; super::SHEETS],
+    }
+
     extern "C" {
         pub fn figdawesa_read(sheet: *const u8, sheet_bytes: usize, out: *mut i32, out_words: usize) -> Ended;
         pub fn figdawesa_write(words: *const i32, word_count: usize, out: *mut u8, out_bytes: usize) -> Ended;
@@ -41,6 +49,14 @@ mod c {
             out_words: usize,
         ) -> Ended;
         pub fn figdawesa_judge(sheet: *const u8, sheet_bytes: usize, out: *mut i32, out_words: usize) -> Outcome;
+        pub fn figdawesa_judge_set(
+            bytes: *const u8,
+            byte_count: usize,
+            ends: *const usize,
+            sheets: usize,
+            out: *mut i32,
+            out_words: usize,
+        ) -> SetOutcome;
     }
 }
 
@@ -49,6 +65,18 @@ pub struct Ended {
     pub number: usize,
     pub line: usize,
     pub count: usize,
+}
+
+/// The sheets of a set, at most, and the places of its judgements.
+pub const SHEETS: usize = 16;
+
+/// The judgements of a set.
+#[derive(Debug)]
+pub struct Set {
+    pub number: usize,
+    pub line: usize,
+    pub count: usize,
+    pub sheets: Vec<Judgement>,
 }
 
 const GUARD: usize = 16;
@@ -90,6 +118,22 @@ impl<T: Copy + PartialEq> Lent<T> {
             && &self.all[GUARD..end] == front
             && self.all[..GUARD] == self.before[..GUARD]
             && self.all[end..] == self.before[end..]
+    }
+
+    /// Whether all from an element on, guards too, is as it was.
+    pub fn is_kept_from(&self, from: usize) -> bool {
+        self.all[..GUARD] == self.before[..GUARD] && self.all[GUARD + from..] == self.before[GUARD + from..]
+    }
+
+    /// A part of what was lent as if it had been lent alone.
+    pub fn stretch(&self, from: usize, length: usize) -> Lent<T> {
+        let part = |all: &[T]| [&self.before[..GUARD], &all[GUARD + from..GUARD + from + length], &self.before[..GUARD]].concat();
+        Lent { all: part(&self.all), before: part(&self.before), null: false }
+    }
+
+    /// The same before any call.
+    pub fn as_it_was(&self) -> Lent<T> {
+        Lent { all: self.before.clone(), before: self.before.clone(), null: false }
     }
 
     /// Overwrites a lent element, to show that this is seen.
@@ -141,8 +185,18 @@ pub fn evaluate(sheet: &[u8], block: usize, facts: &[i32], out: &mut Lent<i32>) 
     ended(kept(sheet, || kept(facts, call)))
 }
 
+fn judgement(o: &c::Outcome) -> Judgement {
+    Judgement { verdict: o.verdict, number: o.number, line: o.line, count: o.count, missing: o.missing }
+}
+
 pub fn judge(sheet: &[u8], out: &mut Lent<i32>) -> Judgement {
     let words = out.length();
-    let o = kept(sheet, || unsafe { c::figdawesa_judge(pointer(sheet), sheet.len(), out.pointer(), words) });
-    Judgement { verdict: o.verdict, number: o.number, line: o.line, count: o.count, missing: o.missing }
+    judgement(&kept(sheet, || unsafe { c::figdawesa_judge(pointer(sheet), sheet.len(), out.pointer(), words) }))
+}
+
+pub fn judge_set(bytes: &[u8], ends: &[usize], out: &mut Lent<i32>) -> Set {
+    let words = out.length();
+    let call = || unsafe { c::figdawesa_judge_set(pointer(bytes), bytes.len(), pointer(ends), ends.len(), out.pointer(), words) };
+    let set = kept(bytes, || kept(ends, call));
+    Set { number: set.number, line: set.line, count: set.count, sheets: set.sheets.iter().map(judgement).collect() }
 }

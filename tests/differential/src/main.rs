@@ -17,6 +17,7 @@ mod library;
 mod limits;
 mod meaning;
 mod random;
+mod sets;
 mod sheet;
 mod slips;
 
@@ -28,7 +29,7 @@ use std::time::{Duration, Instant};
 const THREADS: u64 = 2;
 
 /// The answers that a run of this size has to have met, for each call.
-const MET: [&[&str]; 5] = [
+const MET: [&[&str]; 6] = [
     &[
         "done",
         "refused by 1",
@@ -88,6 +89,7 @@ const MET: [&[&str]; 5] = [
         "refused by 9",
         "refused by 13",
     ],
+    &["done, sheets 0", "done, sheets 1", "done, sheets 16", "done", "refused by 13", "refused by 14"],
 ];
 
 #[derive(Default)]
@@ -227,7 +229,10 @@ fn compared(call: usize, count: u64, seed: u64) -> bool {
 
 /// The limits, then all calls.
 fn all(count: u64, seed: u64) -> bool {
-    let (limits, failed) = limits::all();
+    let (mut limits, mut failed) = limits::all();
+    let (edges, differing) = sets::edges(&mut random::Random::new(seed, 0, 1));
+    limits += edges;
+    failed.extend(differing);
     println!("limits: {limits} checks, {}", if failed.is_empty() { "no difference".into() } else { failed.join("\n  ") });
     (0..CALLS.len()).fold(failed.is_empty(), |good, call| compared(call, count, seed) && good)
 }
@@ -277,7 +282,7 @@ fn main() {
             !outcome.differs
         }
         _ => {
-            eprintln!("usage: [COUNT [SEED]] [--slip [NAME] | --deep] [--only read|write|line|evaluate|judge N]");
+            eprintln!("usage: [COUNT [SEED]] [--slip [NAME] | --deep] [--only read|write|line|evaluate|judge|judge_set N]");
             std::process::exit(2);
         }
     };

@@ -37,12 +37,16 @@ pub enum Slip {
     SixthAskedAtomForgotten,
     SixthListAtomForgotten,
     ThirdViewAtomForgotten,
+    RoomBeforeEnds,
+    EqualEndsFallBack,
+    SeventeenSheetsTaken,
+    LastEndUnasked,
 }
 
 use Slip::*;
 
 /// Each slip with the call that it is looked for in, by its place in main's table of calls.
-pub const ALL: [(Slip, usize); 32] = [
+pub const ALL: [(Slip, usize); 36] = [
     (MinusZeroTaken, 0),
     (UnclosedLastLineTaken, 0),
     (ConstantOneTooHigh, 0),
@@ -75,6 +79,10 @@ pub const ALL: [(Slip, usize); 32] = [
     (SixthAskedAtomForgotten, 4),
     (SixthListAtomForgotten, 4),
     (ThirdViewAtomForgotten, 4),
+    (RoomBeforeEnds, 5),
+    (EqualEndsFallBack, 5),
+    (SeventeenSheetsTaken, 5),
+    (LastEndUnasked, 5),
 ];
 
 static CURRENT: AtomicUsize = AtomicUsize::new(None as usize);
