@@ -46,6 +46,71 @@ pub fn library_judge(_: &[u8], _: &mut [i32]) -> Outcome {
     unreachable!("the library is not linked")
 }
 
+/// The sheets of a set, at most.
+pub const SHEETS: usize = 16;
+const STRETCH: usize = 640;
+
+/// The judgements of a set.
+#[cfg(sets)]
+#[repr(C)]
+struct SetOutcome {
+    number: usize,
+    line: usize,
+    count: usize,
+    sheets: [Outcome; SHEETS],
+}
+
+/// What judging sheets as a set and one by one took, each the fastest of some runs, and the stack of the set.
+pub struct SetTimes {
+    pub set: Duration,
+    pub alone: Duration,
+    pub stack: usize,
+}
+
+/// Judges sheets as a set and one by one, in turns, in a thread of little stack; None where the library has no such call.
+#[cfg(sets)]
+pub fn set_times(sheets: &[Vec<u8>], time: Duration) -> Option<SetTimes> {
+    extern "C" {
+        fn figdawesa_judge_set(bytes: *const u8, byte_count: usize, ends: *const usize, sheets: usize, out: *mut i32, out_words: usize) -> SetOutcome;
+    }
+    let bytes = sheets.concat();
+    let ends: Vec<usize> = sheets.iter().scan(0, |end, s| Some(*end + s.len()).inspect(|e| *end = *e)).collect();
+    let mut words = vec![0i32; STRETCH * sheets.len()];
+    let times = move || {
+        let mut set = || unsafe { figdawesa_judge_set(bytes.as_ptr(), bytes.len(), ends.as_ptr(), ends.len(), words.as_mut_ptr(), words.len()) };
+        paint();
+        let told = set();
+        let stack = used();
+        assert_eq!((told.number, told.line, told.count), (0, 0, ends.len()), "a set that is refused");
+        let (start, mut best, mut count) = (Instant::now(), [Duration::MAX; 2], 0);
+        let mut own = vec![0i32; STRETCH * ends.len()];
+        while !is_enough(count, start.elapsed(), time) {
+            let one = Instant::now();
+            std::hint::black_box(set());
+            best[0] = best[0].min(one.elapsed());
+            let one = Instant::now();
+            let mut from = 0;
+            let mut outcomes: [Outcome; SHEETS] = Default::default();
+            for (place, end) in ends.iter().enumerate() {
+                outcomes[place] = library_judge(&bytes[from..*end], &mut own[place * STRETCH..(place + 1) * STRETCH]);
+                from = *end;
+            }
+            std::hint::black_box(&outcomes);
+            best[1] = best[1].min(one.elapsed());
+            count += 1;
+        }
+        SetTimes { set: best[0], alone: best[1], stack }
+    };
+    let sheets = sheets.len();
+    assert!(0 < sheets && sheets <= SHEETS);
+    Some(std::thread::Builder::new().stack_size(STACK).spawn(times).unwrap().join().unwrap())
+}
+
+#[cfg(not(sets))]
+pub fn set_times(_: &[Vec<u8>], _: Duration) -> Option<SetTimes> {
+    None
+}
+
 /// What the program cover prints for an outcome.
 fn printed(sheet: &[u8], outcome: &Outcome, words: &[i32]) -> String {
     let line = |numbers: &[i64]| numbers.iter().map(|n| format!("{n:>8}")).collect::<String>() + "\n";

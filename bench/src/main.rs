@@ -5,6 +5,7 @@
 //!     cargo run --release -- --strategy both  with another strategy of the search (see judge.rs), --limit 5: seconds for a run
 //!                                             of the library, --only FAMILY: families that start so
 //!     cargo run --release -- strategies       states looked at by each strategy, up to 100,000
+//!     cargo run --release -- sets             what sets of pages take, by their sheets one by one
 //!     cargo run --release -- judge < SHEET    what the program cover would print, by this search
 //!     cargo run --release -- sheets DIR       writes every sheet to a file; a family behind it: those that start so
 
@@ -34,6 +35,9 @@ const MOST_STACK: usize = 256;
 /// The time of a process is not known better than this.
 const PROCESS: Duration = Duration::from_millis(5);
 const MB_PER_S: f64 = 100.0;
+/// What a set of pages may take by the time of its sheets one by one, and how many sets of natural pages are judged.
+const SET_RATIO: f64 = 1.05;
+const NATURAL_SETS: usize = 60;
 /// So long a sheet is judged again and again for its fastest time, and one of thousands.
 const RUNS: Duration = Duration::from_millis(20);
 const SHORT_RUNS: Duration = Duration::from_micros(500);
@@ -347,12 +351,31 @@ fn page_targets(pages: &[&Line]) -> bool {
     all
 }
 
+/// What sets of pages take, by what their sheets take one by one, and the stack of a set.
+fn set_targets() -> bool {
+    let bytes = |samples: Vec<Sample>| samples.iter().map(families::bytes).collect::<Vec<Vec<u8>>>();
+    let (pages, mut natural) = (bytes(families::pages()), bytes(natural::pages()));
+    natural.truncate(NATURAL_SETS * library::SHEETS);
+    let sets = pages.chunks(library::SHEETS).chain(natural.chunks(library::SHEETS));
+    let times: Option<Vec<library::SetTimes>> = sets.map(|sheets| library::set_times(sheets, RUNS)).collect();
+    let what = "a set of pages at most 1.05 of its sheets one by one";
+    let Some(times) = times else { return untold(what, NOT_LINKED) };
+    let ratio = |t: &library::SetTimes| t.set.as_secs_f64() / t.alone.as_secs_f64();
+    let (set, alone): (Duration, Duration) = (times.iter().map(|t| t.set).sum(), times.iter().map(|t| t.alone).sum());
+    let all = set.as_secs_f64() / alone.as_secs_f64();
+    let worst = times.iter().map(ratio).fold(0.0, f64::max);
+    let stack = times.iter().map(|t| t.stack.div_ceil(1024)).max().unwrap_or(0);
+    let how = format!("{all:.3} of all, median {:.3}, worst {worst:.3} ({} sets)", middle(times.iter().map(ratio).collect()).unwrap(), times.len());
+    tell(what, all <= SET_RATIO, how) & tell("at most 256 KiB of stack for a set", stack <= MOST_STACK, format!("the most is {stack} KiB"))
+}
+
 fn targets(lines: &[Line], strategy: &str, largest: &[u8]) -> bool {
     let pages: Vec<&Line> = lines.iter().filter(|l| l.sample.is_page()).collect();
     let hard: Vec<&Line> = lines.iter().filter(|l| !l.sample.is_page()).collect();
     let mut all = true;
     if !pages.is_empty() {
         all &= page_targets(&pages);
+        all &= set_targets();
     }
     if !hard.is_empty() {
         let over = |excused: bool| slowest_first(hard.iter().copied().filter(move |l| l.sample.excused == excused && !l.is_within(HARD_LIMIT)));
@@ -532,6 +555,7 @@ fn main() {
     let words: Vec<String> = std::env::args().skip(1).collect();
     match words.first().map(String::as_str) {
         Some("strategies") => strategies(words.get(1).map_or("", String::as_str)),
+        Some("sets") => std::process::exit(if set_targets() { 0 } else { 1 }),
         Some("judge") => print!("{}", judge::printed(&judge::judge(&given()).0)),
         Some("batch") => batch(STRATEGIES[words[1].parse::<usize>().unwrap()].1),
         Some("library") => library::run_here(&words[1..]),
