@@ -38,7 +38,7 @@ field-minus-end = 10000000
 
 -- constants are 0 and up, below this
 abbrev pub constant-end : ℕ
-constant-end = 1000000
+constant-end = 10000000
 
 -- variables are -1 down to minus this
 abbrev pub most-variables : ℕ

@@ -27,7 +27,7 @@ pub const MOST_HEAD_FIELDS: usize = 5;
 pub const LEAST_ATOM_FIELDS: usize = 3;
 
 // Constants are 0 and up, below this; variables are -1 down to minus VARIABLES.
-pub const CONSTANT_END: i32 = 1_000_000;
+pub const CONSTANT_END: i32 = 10_000_000;
 
 pub const VARIABLES: i32 = 12;
 

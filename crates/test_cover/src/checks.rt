@@ -2,6 +2,7 @@
 //
 // A sheet's words are its number form in 602 words: seven to a line, the field count, the kind and the fields after it, and zeros after the
 // last line.
+use sheet_format::CONSTANT_END;
 use sheet_format::Ending;
 use sheet_format::LINE_WORDS;
 use sheet_format::MOST_LINES;
@@ -67,7 +68,7 @@ fn is_known(words: &[i32], facts: &[i32], i: usize) -> bool
     if sheet_terms::columns(facts[i - column]) < column {
         return true;
     }
-    if 999999 < facts[i] {
+    if CONSTANT_END <= facts[i] {
         return true;
     }
     stands(words, facts[i])
