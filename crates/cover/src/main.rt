@@ -5,8 +5,8 @@
 //     1, count                    not covered, and how many facts the case has; then
 //     6, a value for each column of the question's head       the missing answer
 //     7, relation, a value for each column of it              a fact of the case, a line for each
-use judge::Judgement;
-use judge::LEAST_ROOM;
+use judge_result::Judgement;
+use judge_result::LEAST_ROOM;
 use libc::STDIN_FILENO;
 use libc::STDOUT_FILENO;
 use query_meaning::FACT_WORDS;
@@ -16,7 +16,7 @@ use sheet_format::MOST_SHEET_BYTES;
 ghost use mathlib.Core.Path.{_≡_};
 ghost use Prim.Native.Nat.{_+_, _*_, _≤_};
 ghost use lib.ListN.{length};
-ghost use Rattle.judge.specs.Judged.{least-room};
+ghost use Rattle.judge_result.specs.Judged.{least-room};
 
 // What is read: one byte more than a sheet may have, so that a longer one is refused.
 const READ: usize = MOST_SHEET_BYTES + 1;

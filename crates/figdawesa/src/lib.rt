@@ -1,9 +1,13 @@
 // The calls for programs in C and Rust. include/figdawesa.h describes them to those who call them.
-use judge::Judgement;
-use judge_set::MOST_SHEETS;
-use sheet_format::Ending;
+use c_results::Ended;
+use c_results::Outcome;
+use c_results::SetOutcome;
+use c_results::Stretch;
+use c_results::in_numbers;
+use c_results::passed;
+use c_results::passed_set;
+use c_results::part;
 ghost use mathlib.Core.Path.{_≡_};
-ghost use mathlib.Core.List.{map};
 ghost use Prim.Native.Nat.{_+_, _≤_};
 ghost use lib.ListN.{length, take, drop};
 ghost use Rattle.sheet_format.specs.Line.{lineAt};
@@ -11,61 +15,9 @@ ghost use Rattle.sheet_format.specs.Sheet.{returned, readEnding, readWords, wri
 ghost use Rattle.sheet_format.specs.declared.Ending.{Ending};
 ghost use Rattle.query_meaning.specs.Evaluate.{Evaluated};
 ghost use Rattle.sheet_lines.specs.Start.{lineStart};
-ghost use Rattle.judge.specs.Judged.{Judged};
-ghost use Rattle.judge_set.specs.Sets.{SetJudged};
-ghost use Rattle.figdawesa.specs.Passed.{returnedOf, judgementOf, setJudgementOf};
-
-// How a call ended: a refusal's number and line, both 0 where nothing is refused, and the count of what was written.
-#[repr(C)]
-pub struct Ended {
-    pub number: usize,
-    pub line: usize,
-    pub count: usize,
-}
-
-// Where a part of the sheet stands.
-#[repr(C)]
-pub struct Stretch {
-    pub start: usize,
-    pub length: usize,
-}
-
-// A judgement: the verdict, a refusal's number and line, the count of facts, the missing answer.
-#[repr(C)]
-pub struct Outcome {
-    pub verdict: usize,
-    pub number: usize,
-    pub line: usize,
-    pub count: usize,
-    pub missing: [usize; 4],
-}
-
-// A set's judgement: a refusal's number and line, both 0 where the set is taken, how many sheets were judged, and a judgement for each place.
-#[repr(C)]
-pub struct SetOutcome {
-    pub number: usize,
-    pub line: usize,
-    pub count: usize,
-    pub sheets: [Outcome; MOST_SHEETS],
-}
-
-// An ending in three numbers.
-fn in_numbers(e: Ending) -> Ended
-    ensures { λ r. ⌜ returnedOf r ≡ returned e ⌝ }
-{
-    match e {
-        Ending::Done(count) => Ended {
-            number: 0,
-            line: 0,
-            count,
-        },
-        Ending::Refused(number, line) => Ended {
-            number,
-            line,
-            count: 0,
-        },
-    }
-}
+ghost use Rattle.judge_result.specs.Judged.{Judged};
+ghost use Rattle.judge_ends.specs.Sets.{SetJudged};
+ghost use Rattle.c_results.specs.Passed.{returnedOf, judgementOf, setJudgementOf};
 
 // A sheet's bytes to its number form in the lent words.
 #[no_mangle]
@@ -90,11 +42,7 @@ pub extern "C" fn figdawesa_line(sheet: &[u8], number: usize) -> Stretch
     ensures { λ r. ⌜ (r .start + r .length ≤ length (now (sheet .entry))) × (take (r .length) (drop (r .start) (now (sheet .entry))) ≡ lineAt (now (sheet .entry)) number) ⌝ }
 {
     let p = sheet::find_line(sheet, number);
-    let length = p.end - p.start;
-    Stretch {
-        start: p.start,
-        length,
-    }
+    part(p.start, p.end)
 }
 
 // The answers that given facts give a block of a sheet: 1 the question, 2 the list, 2 + n view n.
@@ -110,35 +58,6 @@ pub extern "C" fn figdawesa_evaluate(
     in_numbers(evaluate::evaluate(sheet, block, facts, out))
 }
 
-// A judgement as C has it.
-fn passed(j: Judgement) -> Outcome
-    ensures { λ r. ⌜ judgementOf r ≡ j ⌝ }
-{
-    let missing = j.missing;
-    Outcome {
-        verdict: j.verdict,
-        number: j.number,
-        line: j.line,
-        count: j.count,
-        missing,
-    }
-}
-
-// The judgements of all places.
-fn passed_all(js: [Judgement; MOST_SHEETS]) -> [Outcome; MOST_SHEETS]
-    ensures { λ r. ⌜ map judgementOf r ≡ js ⌝ }
-{
-    let first = js[0];
-    let mut all = [passed(first); MOST_SHEETS];
-    let mut k = 1;
-    while k < MOST_SHEETS {
-        let j = js[k];
-        all[k] = passed(j);
-        k += 1;
-    }
-    all
-}
-
 // The verdict of a sheet; where the list does not cover, a case in the lent words.
 #[no_mangle]
 pub extern "C" fn figdawesa_judge(sheet: &[u8], out: &mut [i32]) -> Outcome
@@ -152,13 +71,5 @@ pub extern "C" fn figdawesa_judge(sheet: &[u8], out: &mut [i32]) -> Outcome
 pub extern "C" fn figdawesa_judge_set(bytes: &[u8], ends: &[usize], out: &mut [i32]) -> SetOutcome
     ensures { λ r. ⌜ SetJudged (now (bytes .entry)) (now (ends .entry)) (now (out .entry)) (now (out .exit)) (setJudgementOf r) ⌝ }
 {
-    let s = judge_set::judge_set(bytes, ends, out);
-    let js = s.sheets;
-    let sheets = passed_all(js);
-    SetOutcome {
-        number: s.number,
-        line: s.line,
-        count: s.count,
-        sheets,
-    }
+    passed_set(judge_set::judge_set(bytes, ends, out))
 }

@@ -34,8 +34,8 @@ use Rattle.search_task.specs.Task.{ReadyPlan}
 use Rattle.search_node.specs.Node.{StateFound}
 use Rattle.search_chase.specs.Run.{FoundBy}
 use Rattle.case_writer.specs.Over.{HandsOver}
-use Rattle.judge.specs.Judged.{judgement, SheetSent, Short, Said, HandedOver, Decided, Judged, least-room}
-use Rattle.judge.specs.declared.Judgement.{Judgement}
+use Rattle.judge_result.specs.Judged.{judgement, SheetSent, Short, Said, HandedOver, Decided, Judged, least-room}
+use Rattle.judge_result.specs.declared.Judgement.{Judgement}
 
 -- ---- a plan of accepted lines is ready for a search
 

@@ -1,4 +1,11 @@
 // Whether a saved list covers its question, judged from the rows of the views alone.
+use judge_result::COVERED;
+use judge_result::Judgement;
+use judge_result::LEAST_ROOM;
+use judge_result::NO_LOG;
+use judge_result::NOT_COVERED;
+use judge_result::REFUSED;
+use judge_result::plain;
 use search_task::Goal;
 use sheet_format::Ending;
 use sheet_format::LINE_WORDS;
@@ -7,7 +14,6 @@ use sheet_format::NO_ROOM;
 use tableau_layout::PLAN_NUMBERS;
 use tableau_layout::SLOTS;
 ghost use mathlib.Core.Path.{_≡_};
-ghost use mathlib.Core.List.{[]};
 ghost use Prim.Native.Nat.{_≤_};
 ghost use lib.ListN.{length};
 ghost use Rattle.sheet_format.specs.Line.{wordLines};
@@ -15,40 +21,7 @@ ghost use Rattle.sheet_format.specs.Cause.{refusalOf};
 ghost use Rattle.case_verdicts.specs.Verdict.{Sheet};
 ghost use Rattle.case_verdicts.specs.Sheets.{sheetOf};
 ghost use Rattle.search_task.specs.Task.{ReadyPlan};
-ghost use Rattle.judge.specs.Judged.{judgement, Decided, Judged, least-room};
-
-// The verdict, and with a refusal its number and line. Not covered: how many facts the case in the lent words has, and the missing answer.
-pub struct Judgement {
-    pub verdict: usize,
-    pub number: usize,
-    pub line: usize,
-    pub count: usize,
-    pub missing: [usize; 4],
-}
-
-pub const COVERED: usize = 0;
-
-pub const NOT_COVERED: usize = 1;
-
-pub const NO_LOG: usize = 2;
-
-pub const REFUSED: usize = 9;
-
-// So many words must be lent.
-pub const LEAST_ROOM: usize = 640;
-
-// A judgement that hands nothing over.
-fn plain(verdict: usize, number: usize, line: usize) -> Judgement
-    ensures { λ r. ⌜ r ≡ judgement verdict number line 0 [] ⌝ }
-{
-    Judgement {
-        verdict,
-        number,
-        line,
-        count: 0,
-        missing: [0; 4],
-    }
-}
+ghost use Rattle.judge_result.specs.Judged.{Decided, Judged, least-room};
 
 // The verdict of an accepted sheet: a case, else an agreeing log, else neither.
 fn decide(p: &[usize; PLAN_NUMBERS], out: &mut [i32]) -> Judgement

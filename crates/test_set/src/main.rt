@@ -12,16 +12,16 @@
 //
 //     the words of its stretch after the facts are as they were lent
 //     the sheet alone, lent as many words, has the same judgement and the same facts
-use judge::Judgement;
-use judge::LEAST_ROOM;
-use judge::REFUSED;
-use judge_set::MOST_SHEETS;
+use judge_result::Judgement;
+use judge_result::LEAST_ROOM;
+use judge_result::REFUSED;
+use judge_ends::MOST_SHEETS;
 use libc::STDOUT_FILENO;
 use query_meaning::FACT_WORDS;
 ghost use Prim.Native.Nat.{_≤_, _<_};
 ghost use lib.ListN.{length};
-ghost use Rattle.judge.specs.Judged.{least-room};
-ghost use Rattle.judge_set.specs.Sets.{most-sheets};
+ghost use Rattle.judge_result.specs.Judged.{least-room};
+ghost use Rattle.judge_ends.specs.Sets.{most-sheets};
 
 // No result is longer: it has a name of at most 8192 bytes, and for each of 16 places at most twenty numbers and four facts.
 const ROOM: usize = 17408;

@@ -13,7 +13,7 @@ use Rattle.text_to_sheet.specs.Texts.{Written}
 use Rattle.text_to_sheet.specs.declared.Made.{Made}
 use Rattle.text_to_sheet.specs.declared.Made.the-variants.{Sheet, Expected, Refused}
 use Rattle.text_message.specs.Message.{messageBytes}
-use Rattle.text_verdict.specs.Verdict.{Verdict}
+use Rattle.text_judgement.specs.Verdict.{Verdict}
 use Rattle.text_answer.specs.Answered.{Replied, Answered}
 
 pub sheet-fits : (m : Made) (n : ℕ) (old new : List ℕ) → Written old new m → m ≡ Sheet n → n ≤ length new

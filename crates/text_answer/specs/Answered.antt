@@ -12,7 +12,7 @@ use Rattle.text_to_sheet.specs.Texts.{Written}
 use Rattle.text_to_sheet.specs.declared.Made.{Made}
 use Rattle.text_to_sheet.specs.declared.Made.the-variants.{Sheet, Expected, Refused}
 use Rattle.text_message.specs.Message.{messageBytes}
-use Rattle.text_verdict.specs.Verdict.{Verdict}
+use Rattle.text_judgement.specs.Verdict.{Verdict}
 
 -- a sheet that was given: its verdict
 pub record OfSheet (given old new : List ℕ) (r : ℕ) : Type 0 where

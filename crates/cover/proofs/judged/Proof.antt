@@ -1,5 +1,5 @@
 use borrow.Author.Needs.{needs}
-use Rattle.judge.proofs.Verdicts.{count-fits}
+use Rattle.judge_result.proofs.Verdicts.{count-fits}
 use Rattle.cover.proofs.judged.Statement.{statement}
 use Rattle.cover.proofs.judged.Tie as tie
 

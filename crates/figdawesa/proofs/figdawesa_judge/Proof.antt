@@ -1,6 +1,6 @@
 use mathlib.Core.Path.{subst, sym}
 use borrow.Author.Needs.{needs}
-use Rattle.judge.specs.Judged.{Judged}
+use Rattle.judge_result.specs.Judged.{Judged}
 use Rattle.figdawesa.proofs.figdawesa_judge.Statement.{statement}
 use Rattle.figdawesa.proofs.figdawesa_judge.Tie as tie
 

@@ -12,7 +12,7 @@ use Rattle.judge.proofs.judge.Tie as tie
 use Rattle.judge.proofs.judge.Reads as reads
 use Rattle.judge.proofs.judge.Lts as lts
 use Rattle.judge.proofs.judge_words.Reads as judge-words-reads
-use Rattle.judge.proofs.plain.Reads as plain-reads
+use Rattle.judge_result.proofs.plain.Reads as plain-reads
 use Rattle.sheet_reader.proofs.read.Reads as read-reads
 
 slice-aggregate-read : tie.Need-slice-aggregate-read

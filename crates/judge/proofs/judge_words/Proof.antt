@@ -9,7 +9,7 @@ use Rattle.judge.proofs.judge_words.Tie as tie
 use Rattle.judge.proofs.judge_words.Reads as reads
 use Rattle.judge.proofs.judge_words.Lts as lts
 use Rattle.judge.proofs.decide.Reads as decide-reads
-use Rattle.judge.proofs.plain.Reads as plain-reads
+use Rattle.judge_result.proofs.plain.Reads as plain-reads
 use Rattle.tableau_plan.proofs.plan.Reads as plan-reads
 
 plain-requires : tie.Need-plain-requires

@@ -4,7 +4,7 @@ use Prim.Native.Nat.{_≤_, _-_}
 use native.Mathlib.Omega.{arith}
 use borrow.Author.Needs.{needs}
 use lib.ListN.{length}
-use Rattle.judge_set.specs.Sets.{JudgedTo}
+use Rattle.judge_ends.specs.Sets.{JudgedTo}
 use Rattle.judge_set.proofs.Laws.{judged-none, judged-more}
 use Rattle.judge_set.proofs.judge_places.Statement.{statement}
 use Rattle.judge_set.proofs.judge_places.Tie as tie

@@ -1,6 +1,7 @@
 use mathlib.Core.Path.{sym, _∙_}
 use borrow.Author.Needs.{needs}
-use Rattle.judge_set.proofs.Laws.{parted, set-sent, set-taken}
+use Rattle.judge_ends.proofs.Laws.{parted}
+use Rattle.judge_set.proofs.Laws.{set-sent, set-taken}
 use Rattle.judge_set.proofs.judge_set.Statement.{statement}
 use Rattle.judge_set.proofs.judge_set.Tie as tie
 

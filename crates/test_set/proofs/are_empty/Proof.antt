@@ -1,6 +1,6 @@
 use Prim.Native.Nat.{_-_}
 use borrow.Author.Needs.{needs}
-use Rattle.judge_set.specs.Sets.{most-sheets}
+use Rattle.judge_ends.specs.Sets.{most-sheets}
 use Rattle.test_set.proofs.are_empty.Statement.{statement}
 use Rattle.test_set.proofs.are_empty.Tie as tie
 
