@@ -32,7 +32,7 @@ use Rattle.case_verdicts.proofs.Judge.{says-covered, says-no-log}
 use Rattle.tableau_plan.specs.Plan.{Plan}
 use Rattle.search_task.specs.Task.{ReadyPlan}
 use Rattle.search_node.specs.Node.{StateFound}
-use Rattle.search_chase.specs.Run.{FoundBy}
+use Rattle.search_step.specs.Run.{FoundBy}
 use Rattle.case_writer.specs.Over.{HandsOver}
 use Rattle.judge_result.specs.Judged.{judgement, SheetSent, Short, Said, HandedOver, Decided, Judged, least-room}
 use Rattle.judge_result.specs.declared.Judgement.{Judgement}

@@ -2,6 +2,7 @@
 // Nothing here is believed: the search checks each proposal, and has a complete walk for where there is none.
 use search_board::ALIVE;
 use search_board::ANY_ROW;
+use search_board::Advice;
 use search_board::BEST;
 use search_board::BITS;
 use search_board::BOARD;
@@ -19,9 +20,13 @@ use search_board::HINT;
 use search_board::KEPT_AT;
 use search_board::KEPT_COUNT;
 use search_board::LEAST;
+use search_board::LIST_GIVEN;
 use search_board::LOOKED;
 use search_board::MOST_KEPT;
+use search_board::NOTHING;
 use search_board::OVER;
+use search_board::ROW_FAILS;
+use search_board::ROW_GIVEN;
 use search_board::STARTED;
 use search_board::STOOD;
 use search_board::TRY_COUNT;
@@ -40,24 +45,6 @@ const NO_COUNT: usize = 99;
 
 // So many rows may be visited in these trials.
 const PROBE_BUDGET: usize = 10000;
-
-// What is advised: nothing; a list that is given the question's head; a row of a view; a row of a view that cannot become a listed one, which the hint
-// names then.
-pub const NOTHING: usize = 0;
-
-pub const LIST_GIVEN: usize = 1;
-
-pub const ROW_GIVEN: usize = 2;
-
-pub const ROW_FAILS: usize = 3;
-
-// The block and the facts that its atoms are, and the listed rows to try first.
-pub struct Advice {
-    pub kind: usize,
-    pub block: usize,
-    pub at: [usize; MOST_ATOMS],
-    pub hint: u64,
-}
 
 // What is to be as it was when a step is undone: the words of the board's first two sets, the facts alive and those folded, and how many entries are
 // kept.
@@ -689,15 +676,4 @@ pub fn back(
         search_board::put_word(bits, w, stand[w]);
         w += 1;
     }
-}
-
-// Writes the value of each slot where the facts that are left out are the others that they can be.
-pub fn resolve(
-    p: &[usize; PLAN_NUMBERS],
-    ws: &[usize; SLOTS],
-    bd: &[u32; BOARD],
-    bits: &[u64; BITS],
-    out: &mut [usize; SLOTS],
-) {
-    search_fold::resolve(p, ws, bd, bits, out);
 }

@@ -163,6 +163,24 @@ pub fn get(bd: &[u32; BOARD], k: usize) -> usize {
     wide(bd[k])
 }
 
+// What is advised: nothing; a list that is given the question's head; a row of a view; a row of a view that cannot become a listed one, which the hint
+// names then.
+pub const NOTHING: usize = 0;
+
+pub const LIST_GIVEN: usize = 1;
+
+pub const ROW_GIVEN: usize = 2;
+
+pub const ROW_FAILS: usize = 3;
+
+// The block and the facts that its atoms are, and the listed rows to try first.
+pub struct Advice {
+    pub kind: usize,
+    pub block: usize,
+    pub at: [usize; MOST_ATOMS],
+    pub hint: u64,
+}
+
 // Writes x at k.
 pub fn put(bd: &mut [u32; BOARD], k: usize, x: usize) {
     if k < BOARD {

@@ -13,11 +13,11 @@ use Rattle.search_reasons.specs.Reasons.{RestsOn}
 use Rattle.search_reasons.proofs.Laws.{step-of}
 use Rattle.search_task.specs.Task.{ReadyPlan, sheetBy}
 use Rattle.search_task.specs.declared.Goal.{Goal}
-use Rattle.search_node.specs.Choices.{rows-kind, each-kind, left-at, nodeKind, nodeNumber, nodeBy, oneValue, leftOf, rightOf, howMany, LiveAt, LiveBy}
+use Rattle.search_node.specs.Choices.{each-kind, left-at, nodeBy, oneValue, leftOf, rightOf, howMany, LiveAt, LiveBy}
 use Rattle.search_node.specs.Node.{Wordly, OpenState, Joinable, NodeBy}
 use Rattle.search_node.proofs.Choices.{part-four, right-four, shut-open}
-use Rattle.search_chase.specs.Run.{Remembers, turnAt, LeftBy, UndoneBy, Taken, Advanced, LookedInto, LearntAhead, JudgedState}
-use Rattle.search_chase.proofs.Steps.{taken-wordly, memory-down}
+use Rattle.search_step.specs.Run.{Remembers, turnAt, LeftBy, UndoneBy, Taken, Advanced, LookedInto, LearntAhead, JudgedState}
+use Rattle.search_step.proofs.Steps.{taken-wordly, memory-down}
 
 -- ---- a node with nothing left to be tried
 

@@ -1,6 +1,1 @@
 pub mod Ahead
-pub mod Steps
-pub mod Turns
-pub mod Tries
-pub mod Onward
-pub mod Heads

@@ -5,11 +5,11 @@
 use query_layout::COLUMNS;
 use query_layout::FACT_NUMBERS;
 use query_layout::MADE_UP;
-use search_advice::Advice;
-use search_advice::LIST_GIVEN;
-use search_advice::NOTHING;
+use search_board::Advice;
 use search_board::BITS;
 use search_board::BOARD;
+use search_board::LIST_GIVEN;
+use search_board::NOTHING;
 use search_slots::SET_WORDS;
 use search_task::Goal;
 use search_violation::Stray;
@@ -467,7 +467,7 @@ fn is_resolved(
     ensures { λ r. ⌜ length (now (out .exit)) ≡ length (now (out .entry)) ⌝ }
 {
     let mut values = [0usize; SLOTS];
-    search_advice::resolve(p, ws, bd, bits, &mut values);
+    search_fold::resolve(p, ws, bd, bits, &mut values);
     if !take_values(p, ws, &values, out) {
         return false;
     }

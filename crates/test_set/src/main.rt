@@ -12,10 +12,10 @@
 //
 //     the words of its stretch after the facts are as they were lent
 //     the sheet alone, lent as many words, has the same judgement and the same facts
+use judge_ends::MOST_SHEETS;
 use judge_result::Judgement;
 use judge_result::LEAST_ROOM;
 use judge_result::REFUSED;
-use judge_ends::MOST_SHEETS;
 use libc::STDOUT_FILENO;
 use query_meaning::FACT_WORDS;
 ghost use Prim.Native.Nat.{_≤_, _<_};

@@ -16,9 +16,9 @@ use Rattle.search_nogoods.specs.Sizes.{memory-numbers, memory-words}
 use Rattle.search_task.specs.Task.{ReadyPlan, sheetBy}
 use Rattle.search_links.specs.Links.{roots}
 use Rattle.search_node.specs.Node.{Wordly}
-use Rattle.search_chase.specs.Run.{Advanced}
+use Rattle.search_step.specs.Run.{Advanced}
 use Rattle.search_chase.proofs.Ahead.{judged-taken, judged-node}
-use Rattle.search_chase.proofs.Onward.{begun-behind, onward-wordly, onward-found, onward-begun, onward-good, onward-failed}
+use Rattle.search_step.proofs.Onward.{begun-behind, onward-wordly, onward-found, onward-begun, onward-good, onward-failed}
 use Prim.Native.Nat.{ℕ, _<_, _≤_, _-_, _+_, _*_, min}
 use borrow.Fn.Kinds.{In}
 use borrow.Fn.PlainCycle.{Measures, is, falls, and}

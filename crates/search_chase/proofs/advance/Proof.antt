@@ -6,10 +6,10 @@ use Rattle.sheet_format.specs.Limits.{most-rows}
 use Rattle.case_verdicts.specs.Tableau.{Good}
 use Rattle.search_task.specs.Task.{sheetBy}
 use Rattle.search_node.proofs.Choices.{many-few}
-use Rattle.search_chase.specs.Run.{turnOf, turnAt}
-use Rattle.search_chase.proofs.Turns.{turn-at}
-use Rattle.search_chase.proofs.Tries.{going-first}
-use Rattle.search_chase.proofs.Onward.{from-kept, left-jumped, left-kept, left-going}
+use Rattle.search_step.specs.Run.{turnOf, turnAt}
+use Rattle.search_step.proofs.Turns.{turn-at}
+use Rattle.search_step.proofs.Tries.{going-first}
+use Rattle.search_step.proofs.Onward.{from-kept, left-jumped, left-kept, left-going}
 use borrow.Author.Needs.{needs}
 use borrow.Author.Needs.{needs}
 use Rattle.search_chase.proofs.advance.Statement.{statement}

@@ -1,4 +1,4 @@
-use Rattle.search_chase.proofs.Heads.{heads-no, heads-yes, heads-wordly, looked-yes, looked-no}
+use Rattle.search_step.proofs.Heads.{heads-no, heads-yes, heads-wordly, looked-yes, looked-no}
 use Rattle.search_task.specs.Task.{sheetBy}
 use Rattle.tableau_layout.specs.Layout.{slot-end}
 use native.Mathlib.Nat.{le-refl}

@@ -6,9 +6,9 @@ use Rattle.sheet_format.specs.Limits.{most-rows}
 use Rattle.case_verdicts.specs.Tableau.{Good}
 use Rattle.search_task.specs.Task.{sheetBy}
 use Rattle.search_node.proofs.Choices.{many-few}
-use Rattle.search_chase.specs.Run.{turnOf}
-use Rattle.search_chase.proofs.Turns.{turn-at}
-use Rattle.search_chase.proofs.Tries.{going-first}
+use Rattle.search_step.specs.Run.{turnOf}
+use Rattle.search_step.proofs.Turns.{turn-at}
+use Rattle.search_step.proofs.Tries.{going-first}
 use Rattle.search_chase.proofs.Ahead.{closed-so, closed-not}
 use borrow.Author.Needs.{needs}
 use Rattle.search_chase.proofs.is_closed.Statement.{statement}

@@ -9,7 +9,7 @@ use Rattle.case_verdicts.specs.Verdict.{Sheet}
 use Rattle.case_verdicts.specs.Tableau.{Good}
 use Rattle.search_task.specs.Task.{ReadyPlan, sheetBy}
 use Rattle.search_node.specs.Node.{Wordly}
-use Rattle.search_chase.specs.Run.{Remembers}
+use Rattle.search_step.specs.Run.{Remembers}
 use Rattle.search_chase.proofs.Ahead.{judged-same, judged-refuted}
 use Rattle.search_chase.proofs.judge_state.Statement.{statement}
 use Rattle.search_chase.proofs.judge_state.Tie as tie

@@ -8,9 +8,9 @@ use Rattle.search_nogoods.specs.Sizes.{memory-numbers, memory-words}
 use Rattle.search_nogoods.proofs.Laws.{memory-empty}
 use Rattle.search_task.specs.Task.{sheetBy}
 use Rattle.search_node.specs.Node.{Wordly}
-use Rattle.search_chase.specs.Run.{Remembers, LookedBy}
+use Rattle.search_step.specs.Run.{Remembers, LookedBy}
 use Rattle.search_chase.proofs.Ahead.{judged-node}
-use Rattle.search_chase.proofs.Heads.{looked-found, looked-begun, looked-by}
+use Rattle.search_step.proofs.Heads.{looked-found, looked-begun, looked-by}
 use borrow.Author.Needs.{needs}
 use Rattle.search_chase.proofs.look.Statement.{statement}
 use Rattle.search_chase.proofs.look.Tie as tie

@@ -1,0 +1,5 @@
+pub mod Steps
+pub mod Turns
+pub mod Tries
+pub mod Onward
+pub mod Heads
