@@ -21,6 +21,7 @@ sys.path.insert(0, str(pathlib.Path(__file__).resolve().parent.parent / "tests")
 
 from cover_cases import (COLUMNS, MADE_UP, Dice, answers_in_steps, blocks_of, constants_of, has_no_fact_to_spare, is_case, judged_by_search, lacking,  # noqa: E402
                          most_general, parts_of, some_block, some_sheet)
+from evaluate_cases import raised_lines  # noqa: E402
 from sheet_cases import MOST_WORDS, read, sheet_of  # noqa: E402
 
 BENCH = pathlib.Path(__file__).resolve().parent / "target/release/bench"
@@ -57,7 +58,7 @@ def damaged(dice, sheet):
         del data[dice.below(len(data))]
     elif way == 2:
         at = dice.below(len(data) // 8) * 8
-        data[at:at + 8] = b"%8d" % dice.one((-13, -12, -1, 0, 1, 2, 3, 4, 5, 6, 10, 11, 999_999, 1_000_000, 99_999_999))
+        data[at:at + 8] = b"%8d" % dice.one((-13, -12, -1, 0, 1, 2, 3, 4, 5, 6, 10, 11, 9_999_999, 10_000_000, 99_999_999))
     else:
         lines = bytes(data).split(b"\n")[:-1]
         at, to = dice.below(len(lines)), dice.below(len(lines))
@@ -80,6 +81,11 @@ def stored():
                 yield sheet
 
 
+def fields_printed(out):
+    """The numbers of printed lines. A field is eight bytes, and a made-up value leaves no blank before it."""
+    return [[int(line[at:at + 8]) for at in range(0, len(line), 8)] for line in out.splitlines()]
+
+
 def printed(sheets, strategy):
     """What the package's program prints for each sheet, as lists of numbers."""
     given = b"".join(b"%d\n" % len(sheet) + sheet for sheet in sheets)
@@ -87,13 +93,13 @@ def printed(sheets, strategy):
     while out:
         first, _, out = out.partition(b"\n")
         size = int(first.split()[0])
-        yield [[int(word) for word in line.split()] for line in out[:size].splitlines()]
+        yield fields_printed(out[:size])
         out = out[size:]
 
 
 def asked(program, sheet):
     out = subprocess.run([program], input=sheet, capture_output=True, check=True, timeout=60).stdout
-    return [[int(word) for word in line.split()] for line in out.splitlines()]
+    return fields_printed(out)
 
 
 def fault(parts, number, lines):
@@ -177,7 +183,8 @@ def main():
     dice = Dice(seed)
     sheets = list(stored())
     while len(sheets) < count:
-        sheet = sheet_of((some_sheet if dice.below(2) else wider_sheet)(dice))
+        lines = (some_sheet if dice.below(2) else wider_sheet)(dice)
+        sheet = sheet_of(raised_lines(lines, dice.one((0, 0, 1_000_000, 9_999_990))))
         sheets.append(sheet)
         sheets.append(damaged(dice, sheet))
     tally = {}

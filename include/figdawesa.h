@@ -127,15 +127,15 @@ struct figdawesa_ended figdawesa_write(const int32_t *words, size_t word_count, 
 struct figdawesa_stretch figdawesa_line(const uint8_t *sheet, size_t sheet_bytes, size_t number);
 
 /* The answers that given facts give a block of the sheet: `count` answers of four words at the front of `out`, ascending, each once, and
- * no others. Block 1 is the question, 2 the list, 2 + n view n. Facts ascend, each once, with values from 0 to 1,000,999.
+ * no others. Block 1 is the question, 2 the list, 2 + n view n. Facts ascend, each once, with values from 0 to 10,000,999.
  * Refused by 1 to 9, then by 10, then by 11 and 12, and then by 13 exactly where the answers do not fit. */
 struct figdawesa_ended figdawesa_evaluate(const uint8_t *sheet, size_t sheet_bytes, size_t block, const int32_t *facts, size_t fact_words,
                                           int32_t *out, size_t out_words);
 
 /* Whether the sheet's list covers its question. Verdicts 0 and 2 write nothing. Verdict 1 writes `count` facts of five words at the front
  * of `out`, ascending, each once: a log that gives exactly the listed rows, shows that the list does not cover, and has no fact to spare.
- * There are at most 126 of them, so at most 630 words are written; their values are numbers of the sheet, or made up from 1,000,000 to
- * 1,000,999.
+ * There are at most 126 of them, so at most 630 words are written; their values are numbers of the sheet, or made up from 10,000,000 to
+ * 10,000,999.
  * Verdict 9: refused by 1 to 9, and then by 13 where out_words is below 640, whatever the verdict would be. */
 struct figdawesa_outcome figdawesa_judge(const uint8_t *sheet, size_t sheet_bytes, int32_t *out, size_t out_words);
 

@@ -209,6 +209,34 @@ static void judging(void)
     CHECK(outcome(figdawesa_judge(of(SHEET), strlen(SHEET), NULL, 0), FIGDAWESA_REFUSED, FIGDAWESA_NO_ROOM, 0, 0, 0, 0));
 }
 
+/* Constants of seven digits, and values made up beside them. */
+static void serials(void)
+{
+    static const char rows[] = QUESTION LIST VIEW "       5 9999998 1000000\n       5 9999998 9999999\n";
+    static const char past[] = QUESTION LIST VIEW "       5 9999999 9999999\n       510000000       1\n";
+    static const char made[] = "       1      -1\n       4       4      -1      -2\n       2 9999998\n       4       4 9999998      -2\n"
+                               "       3      -1\n       4       4      -1      -2\n       5 9999998\n       5 9999999\n";
+    static const int32_t facts[] = {4, 9999998, 1000000, 0, 0, 4, 9999998, 9999999, 0, 0};
+    static const int32_t first[] = {3, 5, 9999998, 1000000, 0, 0, 0};
+    static const int32_t last[] = {4, 10000000, 10000999, 0, 0};
+    static const int32_t beyond[] = {4, 10000000, 10001000, 0, 0};
+    int32_t form[56];
+    CHECK(ended(read(rows, FIGDAWESA_READ_WORDS), FIGDAWESA_DONE, 0, 8) && memcmp(lent_words + 42, first, sizeof first) == 0);
+    memcpy(form, lent_words, sizeof form);
+    mark();
+    CHECK(ended(figdawesa_write(form, 56, lent_bytes, FIGDAWESA_WRITE_BYTES), FIGDAWESA_DONE, 0, strlen(rows)));
+    CHECK(memcmp(lent_bytes, rows, strlen(rows)) == 0 && bytes_kept(strlen(rows)));
+    form[51] = 10000000;
+    CHECK(ended(figdawesa_write(form, 56, lent_bytes, ROOM), FIGDAWESA_OUT_OF_RANGE, 8, 0));
+    CHECK(ended(read(past, ROOM), FIGDAWESA_OUT_OF_RANGE, 8, 0) && words_kept(0));
+    CHECK(ended(evaluate(1, last, 5, ROOM), FIGDAWESA_DONE, 0, 1) && are(last + 1, 4) && words_kept(4));
+    CHECK(ended(evaluate(1, beyond, 5, ROOM), FIGDAWESA_WRONG_FACT, 0, 0) && words_kept(0));
+    CHECK(outcome(judge(rows, FIGDAWESA_JUDGE_WORDS), FIGDAWESA_NOT_COVERED, 0, 0, 2, 9999998, 1000000) && are(facts, 10) && words_kept(10));
+    CHECK(outcome(judge(made, FIGDAWESA_JUDGE_WORDS), FIGDAWESA_NOT_COVERED, 0, 0, 2, 9999999, 0) && words_kept(10));
+    CHECK(lent_words[1] == 9999998 && 10000000 <= lent_words[2] && lent_words[2] <= 10000999);
+    CHECK(lent_words[6] == 9999999 && 10000000 <= lent_words[7] && lent_words[7] <= 10000999);
+}
+
 /* Whether every place from one on is what a place without a sheet is. */
 static int empty_from(const struct figdawesa_set_outcome *r, size_t from, size_t number)
 {
@@ -271,6 +299,7 @@ int main(void)
     lines();
     evaluation();
     judging();
+    serials();
     judging_sets();
     printf("C: %d checks, %d failed\n", checks, failures);
     return failures == 0 ? EXIT_SUCCESS : EXIT_FAILURE;

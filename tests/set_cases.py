@@ -18,7 +18,7 @@ import pathlib
 import sys
 
 from cover_cases import LENT_WORDS, NO_ROOM, NOT_COVERED, REFUSED, facts_in, judged, page, parts_of, some_sheet, told
-from evaluate_cases import fact, shown_answers
+from evaluate_cases import fact, raised_lines, shown_answers
 from sheet_cases import MOST_WORDS, Dice, lines_in, noted, read, sheet_of
 
 # --- Judging a set --------------------------------------------------------------------------------------------------
@@ -203,6 +203,16 @@ def mixed():
     assert judged_alone(TWO_TICKS).facts == facts_in("Beat(7,1) Noise(7,2)")
 
 
+def seven_digits():
+    heading("sheets whose every constant has seven digits, beside others")
+    for least in (1_000_000, 9_999_990):
+        sheets = [sheet_of(raised_lines(read(sheet, MOST_WORDS)[2], least)) for sheet in (WORKED, COVERED_ONE, NO_LOG_ONE, TWO_TICKS)]
+        taken(f"one of each verdict, constants from {least:,}", sheets, [1, 0, 2, 1])
+        taken(f"constants from {least:,} and small ones", [WORKED, sheets[0], OUT_OF_RANGE, sheets[1], TWO_TICKS, sheets[3]], [1, 1, (9, 5), 0, 1, 1])
+    last, past = (sheet_of(lines_in(f"1 / 4 10 {value} / 2 / 4 10 1")) for value in (9_999_999, 10_000_000))
+    taken("constant 9,999,999 beside 10,000,000", [last, past, last], [1, (9, 5), 1])
+
+
 def some_set(dice, pool, count):
     sheets = []
     for _ in range(count):
@@ -242,6 +252,7 @@ def main():
     ends()
     rooms()
     mixed()
+    seven_digits()
     generated()
     texts = ["".join(line + "\n" for line in lines).encode("ascii") for lines in (given, wanted)]
     assert all(0 < len(line) < HELD_LINE and ("|" in line) != line.startswith("#") for line in given)

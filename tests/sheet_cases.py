@@ -39,6 +39,7 @@ LENT_BYTES = 4214           # what writing must be lent
 MOST_ATOMS = {1: 6, 2: 6, 3: 3}
 MOST_VIEWS = 8
 MOST_ROWS = 40
+MOST_CONSTANT = 9_999_999
 
 # The numbers that eight bytes can hold.
 WIDEST = 99_999_999
@@ -104,7 +105,7 @@ def judge_line(fields, before, blocks):
         if COLUMNS.get(relation) != len(terms):
             return 4
     least = 0 if kind == 5 else -12
-    if any(not least <= term <= 999_999 for term in terms):
+    if any(not least <= term <= MOST_CONSTANT for term in terms):
         return 5
     if kind == 3 and sum(block.kind == 3 for block in blocks) == MOST_VIEWS:
         return 6
@@ -325,7 +326,7 @@ def full(head, atom, rows):
 
 
 FULL = full([5], [4, 2, 1], [[5, row] for row in range(1, 6)])
-LARGEST = full([-1, -2, -3, -4], [4, 9, -1, -2, -3, -4], [[5, row] + [999_999] * 3 for row in range(999_995, 1_000_000)])
+LARGEST = full([-1, -2, -3, -4], [4, 9, -1, -2, -3, -4], [[5, row] + [9_999_999] * 3 for row in range(9_999_995, 10_000_000)])
 
 
 def worked_sheets():
@@ -444,7 +445,7 @@ def malformed():
         line = b"       5" + b"       1" * good + b"       -\n"
         read_case(sheet(joined(LEAST, VIEW_OF_ONE)) + line, (2, 7))
     heading("well formed at every width")
-    for number in (0, 9, 10, 99, 100, 999, 1000, 9999, 10_000, 99_999, 100_000, 999_999):
+    for number in (0, 9, 10, 99, 100, 999, 1000, 9999, 10_000, 99_999, 100_000, 999_999, 1_000_000, 9_999_999):
         read_case(sheet(f"1 / 4 2 {number} / 2 / 4 2 1"), TAKEN)
     heading("the widest numbers are well formed, and are refused by their place")
     for number in (WIDEST, LOWEST, 10_000_000, -1_000_000):
@@ -580,18 +581,18 @@ def terms():
     places = {"heads": [(1, 2), (3, 4), (5, 6)], "atoms": [(2,), (4,), (6,)], "row": [(7,)]}
     for place, spots in places.items():
         for spot in spots:
-            for value in (-13, -12, -1, 0, 999_999, 1_000_000):
+            for value in (-13, -12, -1, 0, 999_999, 1_000_000, 9_999_999, 10_000_000):
                 lines = list(begin)
                 for at in spot:
                     lines[at - 1] = lines[at - 1][:-1] + str(value)
-                fits = 0 <= value <= 999_999 or place != "row" and -12 <= value < 0
+                fits = 0 <= value <= 9_999_999 or place != "row" and -12 <= value < 0
                 both(joined(*lines), TAKEN if fits else (5, spot[0]))
-    for value in (-14, -100, -256 - 1, 1_000_001, 16_777_216 + 1):
+    for value in (-14, -100, -256 - 1, 10_000_001, 16_777_216 + 1):
         both(joined(f"1 / 4 2 {value} / 2 / 4 2 1"), (5, 2))
         both(joined(LEAST, VIEW_OF_ONE, f"5 {value}"), (5, 7))
     heading("5: in each column")
     for at in range(4):
-        for value in (-13, 1_000_000):
+        for value in (-13, 10_000_000):
             columns = [1, 2, 3, 4]
             columns[at] = value
             row = " ".join(map(str, columns))
@@ -638,7 +639,7 @@ def too_many():
     both(joined(forty, "5 41 1"), (6, 47))                  # too long: 6 goes before 7
     both(joined(forty, "5"), (6, 47))
     both(joined(forty, "5 -1"), (5, 47))                    # a variable: 5 goes before 6
-    both(joined(forty, "5 1000000"), (5, 47))
+    both(joined(forty, "5 10000000"), (5, 47))
     both(joined(forty, "4 2 1"), (3, 47))
     both(joined(forty, "3 1 / 4 2 1"), TAKEN)
     both(joined(forty, "3 1 / 4 2 1 / 5 1"), (6, 49))
@@ -723,6 +724,7 @@ def ascending():
     pairs = [
         ("7", "7", 9), ("7", "6", 9), ("7", "8", 0), ("9", "10", 0), ("10", "9", 9), ("2", "10", 0), ("100", "99", 9),
         ("0", "0", 9), ("0", "1", 0), ("1", "0", 9), ("0", "999999", 0), ("999999", "0", 9), ("999999", "999999", 9),
+        ("999999", "1000000", 0), ("1000000", "999999", 9), ("9999998", "9999999", 0), ("9999999", "9999998", 9), ("9999999", "9999999", 9),
         ("7 1", "7 1", 9), ("7 1", "7 2", 0), ("7 2", "7 1", 9), ("7 9", "8 1", 0), ("8 1", "7 9", 9), ("7 1", "6 2", 9),
         ("1 2 3", "1 2 4", 0), ("1 2 3", "1 2 3", 9), ("1 2 3", "1 1 9", 9), ("1 2 3", "1 3 0", 0),
         ("1 2 3 4", "1 2 3 5", 0), ("1 2 3 4", "1 2 3 4", 9), ("1 2 3 4", "1 2 3 3", 9), ("1 2 3 4", "1 2 4 0", 0),
@@ -801,17 +803,17 @@ def within_a_line():
         read_case(sheet(before) + sheet(line)[:-1] + broken + sheet("2 / 4 2 1"), (2, len(lines_in(before)) + 1))
     read_case(sheet(forty) + b"       5" + broken, (2, 47))
     for before, line, number in [
-        (two, "4 11 1", 3), (two, "4 2 1 1", 3), (PLAIN, "1 1000000", 3), (PLAIN, "3 -13", 3), ("1", "5 -1", 3),
+        (two, "4 11 1", 3), (two, "4 2 1 1", 3), (PLAIN, "1 10000000", 3), (PLAIN, "3 -13", 3), ("1", "5 -1", 3),
         (joined(LEAST, "3 / 4 2 1 / 4 2 1 / 4 2 1 / 5"), "4 2 1", 3), (six, "4 2", 3), (six, "4", 3),
         (nine, "3 1 2 3 4 5", 3), (nine, "2", 3), (nine, "1", 3), (LEAST, "2 1", 3), (LEAST, "2 -13", 3),
         (joined(LEAST, "3 1"), "5", 3), (joined(LEAST, "3 1"), "5 7 7", 3), (two, "5 8 8 8 8 8", 3), (two, "5 -1 1 1 1 1", 3),
         (two, "5 7 7 7 7 7", 3), (two, "4 2 -13", 3), (two, "6 6 6", 3), (nine, "0", 3),
-        ("1", "4 11 1000000", 4), ("1", "4 0 -13", 4), ("1", "4 2 -13 -13", 4), ("1", "4 9 1000000", 4),
+        ("1", "4 11 10000000", 4), ("1", "4 0 -13", 4), ("1", "4 2 -13 -13", 4), ("1", "4 9 10000000", 4),
         (six, "4 0 1", 4), (six, "4 2 1 1", 4), (six, "4 11 -13", 4), (joined(LEAST, "3", *["4 2 1"] * 3), "4 4 1", 4),
-        (six, "4 2 -13", 5), (six, "4 2 1000000", 5), (nine, "3 1000000", 5), (nine, "3 -13", 5),
-        (joined(LEAST, "3", *["4 2 1"] * 3), "4 2 -13", 5), (PLAIN, "2 -13", 5), (PLAIN, "2 1 1000000", 5),
-        (two, "5 -1", 5), (two, "5 -1 8", 5), (two, "5 -1 8 9", 5), (two, "5 8 -1", 5), (two, "5 6 1000000", 5),
-        (two, "5 1000000", 5), (two, "5 7 -12", 5),
+        (six, "4 2 -13", 5), (six, "4 2 10000000", 5), (nine, "3 10000000", 5), (nine, "3 -13", 5),
+        (joined(LEAST, "3", *["4 2 1"] * 3), "4 2 -13", 5), (PLAIN, "2 -13", 5), (PLAIN, "2 1 10000000", 5),
+        (two, "5 -1", 5), (two, "5 -1 8", 5), (two, "5 -1 8 9", 5), (two, "5 8 -1", 5), (two, "5 6 10000000", 5),
+        (two, "5 10000000", 5), (two, "5 7 -12", 5),
         (two, "5 7", 7), (two, "5 6", 7), (two, "5", 7), (two, "5 7 7 7", 7), (two, "5 6 9 9", 7), (two, "5 7 6 9", 7),
         (two, "5 7 6", 9), (two, "5 7 7", 9), (two, "5 6 8", 9),
     ]:
@@ -908,45 +910,48 @@ class Dice:
         return items[self.below(len(items))]
 
 
-CONSTANTS = (0, 1, 2, 7, 7, 8, 10, 42, 500, 9999, 123_456, 999_998, 999_999)
+CONSTANTS = (0, 1, 2, 7, 7, 8, 10, 42, 500, 9999, 1_000_000, 9_999_998, 9_999_999)
+
+# Constants of seven digits, the most that there are.
+SEVEN_DIGITS = (1_000_000, 1_000_001, 1_234_567, 4_194_304, 7_654_321, 8_388_608, 9_999_998, 9_999_999)
 
 
-def some_atoms(dice, count):
+def some_atoms(dice, count, constants):
     """Atoms of a block, over few variables."""
     names = [-1 - dice.below(12) for _ in range(1 + dice.below(4))]
     atoms = []
     for _ in range(count):
         relation = 1 + dice.below(10)
-        terms = [dice.one(names) if dice.below(3) else dice.one(CONSTANTS) for _ in range(COLUMNS[relation])]
+        terms = [dice.one(names) if dice.below(3) else dice.one(constants) for _ in range(COLUMNS[relation])]
         atoms.append([4, relation] + terms)
     return atoms
 
 
-def some_block(dice, kind, columns, count):
+def some_block(dice, kind, columns, count, constants):
     """A head and atoms: each head variable stands in an atom."""
-    atoms = some_atoms(dice, count)
+    atoms = some_atoms(dice, count, constants)
     held = [term for atom in atoms for term in atom[2:] if term < 0]
-    head = [dice.one(held) if held and dice.below(4) else dice.one(CONSTANTS) for _ in range(columns)]
+    head = [dice.one(held) if held and dice.below(4) else dice.one(constants) for _ in range(columns)]
     return [[kind] + head] + atoms
 
 
-def some_sheet(dice, size):
+def some_sheet(dice, size, constants=CONSTANTS):
     """Lines of a sheet that is taken: small at size 1, up to every limit at size 6."""
     most = {1: 2, 2: 3, 6: 6}[size]
     columns = dice.below(5)
-    lines = some_block(dice, 1, columns, 1 + dice.below(most)) + some_block(dice, 2, columns, 1 + dice.below(most))
+    lines = some_block(dice, 1, columns, 1 + dice.below(most), constants) + some_block(dice, 2, columns, 1 + dice.below(most), constants)
     left = MOST_ROWS
     for _ in range(dice.below({1: 2, 2: 4, 6: 9}[size])):
         columns = dice.below(5)
-        lines += some_block(dice, 3, columns, 1 + dice.below(min(most, 3)))
-        rows = {tuple(dice.one(CONSTANTS) for _ in range(columns)) for _ in range(dice.below({1: 3, 2: 5, 6: 9}[size]))}
+        lines += some_block(dice, 3, columns, 1 + dice.below(min(most, 3)), constants)
+        rows = {tuple(dice.one(constants) for _ in range(columns)) for _ in range(dice.below({1: 3, 2: 5, 6: 9}[size]))}
         rows = sorted(rows)[:left]
         left -= len(rows)
         lines += [[5] + list(row) for row in rows]
     return lines
 
 
-ODD_FIELDS = (-9_999_999, -14, -13, -12, -1, 0, 1, 2, 3, 4, 5, 6, 7, 9, 10, 11, 12, 999_999, 1_000_000, 99_999_999)
+ODD_FIELDS = (-9_999_999, -14, -13, -12, -1, 0, 1, 2, 3, 4, 5, 6, 7, 9, 10, 11, 12, 9_999_999, 10_000_000, 99_999_999)
 
 
 def damaged_lines(dice, lines):
@@ -996,7 +1001,7 @@ def random_lines(dice):
             count = COLUMNS.get(relation, 1) if dice.below(15) else 1 + dice.below(4)
             terms = [dice.one((-1, -1, -2, 1, 7)) for _ in range(count)]
             if not dice.below(12):
-                terms[0] = dice.one((-13, 1_000_000))
+                terms[0] = dice.one((-13, 10_000_000))
             line = [4, relation] + terms
         elif kind == 5:
             line = [5] + [dice.below(12) for _ in range(dice.one((1, 1, 1, 2, 0)))]
@@ -1067,6 +1072,13 @@ def generated():
     for _ in range(60):
         text = bytes(dice.one(b"\n\n\n 1x\x00\xff\r-") for _ in range(dice.below(40)))
         line_case(text, dice.below(text.count(b"\n") + 2))
+    heading("generated: every constant has seven digits")
+    for at in range(20):
+        lines = some_sheet(dice, 6 if at % 10 == 0 else 2, SEVEN_DIGITS)
+        assert all(term < 0 or len(str(term)) == 7 for line in lines for term in line[1 + (line[0] == 4):])
+        round_case(sheet_of(lines))
+    spread(lambda: sheet_of(damaged_lines(dice, some_sheet(dice, 1, SEVEN_DIGITS))), keep_read, 30, 10)
+    spread(lambda: words_of(damaged_lines(dice, some_sheet(dice, 1, SEVEN_DIGITS))), keep_write, 30, 10)
 
 
 def main():

@@ -53,6 +53,8 @@ def refused(cause, line=0, text=0):
     return f"refused: cause {cause}{at}{of}: {CAUSES[cause]}"
 
 
+SERIALS = "q(9999999,s,t): Sig(s,t)/l(1000000,s,t): Beat(s,t)/"
+SERIALS_BACK = "q(9999999,a,b): Sig(a,b)/l(1000000,a,b): Beat(a,b)/"
 PAPER = "q(s,t): Sig(s,t)/l(s,t): Beat(s,t)/"
 PAPER_BACK = "q(a,b): Sig(a,b)/l(a,b): Beat(a,b)/"
 MANY = "q(): Rower(1,2), Strap(3), Worn(4,5,6), Sig(7,8), Beat(9,10), Noise(11,12)/"
@@ -97,8 +99,18 @@ CASES = [
     ("blanks", "  q ( s ) :\tStrap ( s )  \r/l(s):Strap(s)/ v(s) : Strap(s)=7 ;8", "covered", QL_BACK + "v(a): Strap(a) = 7; 8/"),
     ("comments", "# a list/" + "//  # another: q(/q(s): Strap(s)//l(s): Strap(s)/#", "covered", QL_BACK),
     ("digits", "q(007): Strap(007)/l(7): Strap(7)/", "covered", "q(7): Strap(7)/l(7): Strap(7)/"),
-    ("largest constant", "q(999999): Strap(999999)/l(0): Strap(0)/v(s): Strap(s) = 999999/", "not covered: (999999) is missing. Log: Strap(999999)",
+    ("six digits", "q(999999): Strap(999999)/l(0): Strap(0)/v(s): Strap(s) = 999999/", "not covered: (999999) is missing. Log: Strap(999999)",
      "q(999999): Strap(999999)/l(0): Strap(0)/v(a): Strap(a) = 999999/"),
+    ("least of seven digits", "q(1000000): Strap(1000000)/l(0): Strap(0)/v(s): Strap(s) = 1000000/",
+     "not covered: (1000000) is missing. Log: Strap(1000000)", "q(1000000): Strap(1000000)/l(0): Strap(0)/v(a): Strap(a) = 1000000/"),
+    ("largest constant", "q(9999999): Strap(9999999)/l(0): Strap(0)/v(s): Strap(s) = 9999999/",
+     "not covered: (9999999) is missing. Log: Strap(9999999)", "q(9999999): Strap(9999999)/l(0): Strap(0)/v(a): Strap(a) = 9999999/"),
+    ("seven digits, not covered", SERIALS + "v(s,t): Sig(s,t) = (9999998,1000000); 9999998,1000001/",
+     "not covered: (9999999,9999998,1000000) is missing. Log: Sig(9999998,1000000), Sig(9999998,1000001)",
+     SERIALS_BACK + "v(a,b): Sig(a,b) = (9999998,1000000); (9999998,1000001)/"),
+    ("seven digits, covered", SERIALS + "v(s): Sig(s,t) =/", "covered", SERIALS_BACK + "v(a): Sig(a,b) =/"),
+    ("seven digits, no log", SERIALS + "v(1234567): Sig(s,t) = 7654321/", "no log gives these rows",
+     SERIALS_BACK + "v(1234567): Sig(a,b) = 7654321/"),
     ("twelve variables", TWELVE + "/l(): " + TWELVE[5:] + "/", "covered", TWELVE + "/l(): " + TWELVE[5:] + "/"),
     "# what is expected",
     ("question", "l(s): Strap(s)/", expected(1, "q, the question")),
@@ -138,7 +150,9 @@ CASES = [
     "# what the library refuses of a text",
     ("no list", "q(s): Strap(s)/", refused(3)),
     ("only a comment", "# nothing", refused(3)),
-    ("constant", "# too large/q(1000000): Strap(s)/l(0): Strap(s)/", refused(5, 1, 2)),
+    ("constant", "# too large/q(10000000): Strap(s)/l(0): Strap(s)/", refused(5, 1, 2)),
+    ("constant in an atom", "q(9999999): Strap(s), Pause(10000000)/l(0): Strap(s)/", refused(5, 3, 1)),
+    ("constant in a row", QL + "v(s): Strap(s) = 9999999; 10000000/", refused(5, 8, 3)),
     ("long number", "q(s): Strap(s), Strap(123456789012)/l(0): Strap(s)/", refused(5, 3, 1)),
     ("variable in a row", QL + "v(s): Strap(s) = (s)/", refused(5, 7, 3)),
     ("thirteen variables", TWELVE + ", Strap(m)/l(): Strap(s)/", refused(5, 6, 1)),
@@ -184,8 +198,10 @@ FREE_VALUES = [
     ("q(s,t): Sig(s,t), Beat(s,t)/l(s,t): Noise(s,t)/", r"not covered: \((\d+),(\d+)\) is missing\. Log: Sig\(\1,\2\), Beat\(\1,\2\)"),
     ("q(r): Seat(r,4,b,b)/l(r): Seat(r,s,b,1), Pause(s)/v(): Pause(s) = ()/",
      r"not covered: \((\d+)\) is missing\. Log: Seat\(\1,4,(\d+),\2\), Pause\((\d+)\)"),
+    ("q(s): Sig(s,t)/l(9999998): Sig(9999998,t)/v(s): Sig(s,t) = 9999998; 9999999/",
+     r"not covered: \(9999999\) is missing\. Log: Sig\(9999998,(\d+)\), Sig\(9999999,(\d+)\)"),
 ]
-LEAST_MADE_UP, MOST_MADE_UP = 1_000_000, 1_000_999
+LEAST_MADE_UP, MOST_MADE_UP = 10_000_000, 10_000_999
 
 NAMES = ["Rower", "Strap", "Worn", "Sig", "Beat", "Noise", "Pulse", "Coach", "Seat", "Pause"]
 COLUMNS = [2, 1, 3, 2, 2, 2, 3, 2, 4, 1]
@@ -197,12 +213,12 @@ def ran(name, data):
     return r.stdout, r.stderr
 
 
-def made_block(rng, kind, columns):
+def made_block(rng, kind, columns, constants):
     """A block whose head's variables are in its atoms; a term is a constant, or a variable's number below 0."""
     atoms = []
     for _ in range(rng.randint(1, 2)):
         r = rng.randint(1, 10)
-        atoms.append((r, [rng.choice([-1, -2, -3, 7, 8]) for _ in range(COLUMNS[r - 1])]))
+        atoms.append((r, [rng.choice([-1, -2, -3, *constants[:2]]) for _ in range(COLUMNS[r - 1])]))
     terms = [t for _, ts in atoms for t in ts]
     head = [rng.choice(terms) for _ in range(columns)]
     numbers = {}
@@ -213,14 +229,16 @@ def made_block(rng, kind, columns):
     rows = set()
     if kind == 3:
         for _ in range(rng.randint(0, 3)):
-            rows.add(tuple(rng.choice([7, 8, 9, 0, 999999]) for _ in range(columns)))
+            rows.add(tuple(rng.choice(constants) for _ in range(columns)))
     return kind, number(head), [(r, number(ts)) for r, ts in atoms], sorted(rows)
 
 
 def made_sheet(rng):
+    """A sheet; of three, one has no constant but of seven digits."""
+    constants = rng.choice([(7, 8, 9, 0, 9999999), (7, 8, 9, 0, 999999), (9999998, 1000000, 9999999, 1234567)])
     columns = rng.randint(0, 4)
     kinds = [1, 2] + [3] * rng.randint(0, 3)
-    return [made_block(rng, k, columns if k < 3 else rng.randint(0, 4)) for k in kinds]
+    return [made_block(rng, k, columns if k < 3 else rng.randint(0, 4), constants) for k in kinds]
 
 
 def bytes_of(sheet):
@@ -247,9 +265,9 @@ def text_of(sheet, letters, blank=lambda: "", bare=lambda row: len(row) == 1):
     return "".join(l + "\n" for l in out).encode()
 
 
-def words_of(fields, sheet):
+def words_of(fields):
     """The words for what the program `cover` prints."""
-    rows = [[int(f) for f in l.split()] for l in fields.decode().splitlines()]
+    rows = [[int(l[at : at + 8]) for at in range(0, len(l), 8)] for l in fields.decode().splitlines()]
     if rows[0][0] == 9:
         return refused(*rows[0][1:])
     if rows[0][0] != 1:
@@ -267,10 +285,18 @@ def damaged(rng, text):
     return bytes(text)
 
 
+def is_fields(line):
+    return len(line) % 8 == 0 and all("%8d" % int(line[at : at + 8]) == line[at : at + 8] for at in range(0, len(line), 8))
+
+
 def free_values():
-    """The texts whose logs need made-up values: what is said fits, and each value stands in the text or is one that may be made up."""
+    """The texts whose logs need made-up values: what is said fits, each value stands in the text or is one that may be made up, and `cover`
+    prints the same in fields of eight bytes, which made-up values fill."""
     for text, form in FREE_VALUES:
         said = ran("cover_text", text.replace("/", "\n").encode())[0].decode()
+        fields = ran("cover", ran("sheet_of_text", text.replace("/", "\n").encode())[0])[0]
+        assert all(is_fields(line) for line in fields.decode().splitlines()), fields
+        assert words_of(fields) + "\n" == said and str(LEAST_MADE_UP)[:5] in fields.decode(), (fields, said)
         fits = re.fullmatch(form + r"\n", said)
         assert fits, (text, said)
         allowed = {int(number) for number in re.findall(r"\d+", text)}
@@ -289,7 +315,7 @@ def run():
         for text in (plain, other):
             assert ran("sheet_of_text", text) == (data, b""), (text, data)
         assert ran("text_of_sheet", data) == (plain, b""), (data, plain)
-        words = words_of(ran("cover", data)[0], sheet) + "\n"
+        words = words_of(ran("cover", data)[0]) + "\n"
         for given in (data, other):
             assert ran("cover_text", given)[0].decode() == words, (given, words)
         bad = damaged(rng, other)
@@ -299,9 +325,9 @@ def run():
         assert (why == b"") == (ran("cover", made)[0][:8] != b"       9"), (bad, made, why)
         for s in (words, said):
             seen[next(v for v in VERDICTS if s.startswith(v))] = seen.get(next(v for v in VERDICTS if s.startswith(v)), 0) + 1
-    # the longest sheet: every limit met, and every term six digits long
-    four = [999999] * 4
-    views = [(3, four, [(9, four)] * 3, [(999999, 999999, 999999, 999950 + 5 * v + n) for n in range(5)]) for v in range(8)]
+    # the longest sheet: every limit met, and every term seven digits long
+    four = [9999999] * 4
+    views = [(3, four, [(9, four)] * 3, [(9999999, 9999999, 9999999, 9999950 + 5 * v + n) for n in range(5)]) for v in range(8)]
     longest = [(1, four, [(9, four)] * 6, []), (2, four, [(9, four)] * 6, [])] + views
     data, plain = bytes_of(longest), text_of(longest, "")
     assert ran("text_of_sheet", data) == (plain, b"") and ran("sheet_of_text", plain) == (data, b"")

@@ -1,7 +1,7 @@
 //! Sheets to measure by: pages as clubs have them, and families that are built to be hard, each with a size.
 
 use crate::joins::{Body, Facts, Join, Value};
-use crate::sheet::{self, page, view, Atom, Block, Sheet, View, COLUMNS, MOST_ROWS, MOST_VIEWS};
+use crate::sheet::{self, page, view, Atom, Block, Sheet, View, COLUMNS, MOST_CONSTANT, MOST_ROWS, MOST_VIEWS};
 use std::collections::BTreeSet;
 
 /// Numbers that look drawn by chance and are the same in each run.
@@ -791,6 +791,15 @@ fn some_page(dice: &mut Dice) -> Sheet {
 
 pub const PAGES: usize = 200;
 
+/// The same sheet, every fourth with constants of seven digits alone.
+pub fn with_serials(sheet: Sheet, at: usize) -> Sheet {
+    match at % 8 {
+        3 => sheet.raised(1_000_000),
+        7 => sheet.raised(MOST_CONSTANT - 999),
+        _ => sheet,
+    }
+}
+
 /// The pages, among them crews whose pairs are listed.
 pub fn pages() -> Vec<Sample> {
     let mut dice = Dice::new(2026);
@@ -805,6 +814,7 @@ pub fn pages() -> Vec<Sample> {
         } else {
             some_page(&mut dice)
         };
+        let sheet = with_serials(sheet, at);
         samples.push(Sample::new(if at % 10 == 9 { "pages, pairs" } else { "pages" }, format!("{}", at + 1), sheet));
     }
     samples

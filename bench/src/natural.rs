@@ -1,7 +1,7 @@
 //! Pages as clubs have them, with many views: a log of rowers, straps, sessions and boats that nobody sees, lists that it gives, and
 //! a question with its saved list.
 
-use crate::families::{rows_of, Dice, Log, Sample, KINDS};
+use crate::families::{rows_of, with_serials, Dice, Log, Sample, KINDS};
 use crate::sheet::{block, Atom, Block, Sheet, View, MOST_ROWS, MOST_VIEWS};
 use std::collections::{BTreeMap, BTreeSet};
 
@@ -331,5 +331,5 @@ fn some_page(dice: &mut Dice) -> Sheet {
 /// The natural pages.
 pub fn pages() -> Vec<Sample> {
     let mut dice = Dice::new(1_869);
-    (1..=PAGES).map(|at| Sample::new(FAMILY, at.to_string(), some_page(&mut dice))).collect()
+    (1..=PAGES).map(|at| Sample::new(FAMILY, at.to_string(), with_serials(some_page(&mut dice), at))).collect()
 }

@@ -5,7 +5,7 @@ pub const COLUMNS: [usize; 11] = [0, 2, 1, 3, 2, 2, 2, 3, 2, 4, 1];
 pub const NAMES: [&str; 11] = ["", "Rower", "Strap", "Worn", "Sig", "Beat", "Noise", "Pulse", "Coach", "Seat", "Pause"];
 
 const MOST_BYTES: usize = 8192;
-const MOST_CONSTANT: i32 = 999_999;
+pub const MOST_CONSTANT: i32 = 9_999_999;
 const MOST_VARIABLE: i32 = 12;
 const MOST_ATOMS: usize = 6;
 const MOST_VIEW_ATOMS: usize = 3;
@@ -37,6 +37,24 @@ pub struct Sheet {
     pub views: Vec<View>,
 }
 
+impl Sheet {
+    /// The same sheet with every constant so much higher.
+    pub fn raised(mut self, by: i32) -> Sheet {
+        let views = self.views.iter_mut();
+        let (blocks, rows): (Vec<_>, Vec<_>) = views.map(|v| (&mut v.block, &mut v.rows)).unzip();
+        let of = |b: &mut Block| b.head.iter_mut().chain(b.atoms.iter_mut().flat_map(|a| a.terms.iter_mut())).for_each(|t| raise(t, by));
+        [&mut self.question, &mut self.saved].into_iter().chain(blocks).for_each(of);
+        rows.into_iter().flatten().flatten().for_each(|t| raise(t, by));
+        self
+    }
+}
+
+fn raise(term: &mut i32, by: i32) {
+    if *term >= 0 {
+        *term += by;
+    }
+}
+
 /// The number and the line for which a sheet is sent back.
 #[derive(Clone, Copy, Debug, PartialEq, Eq)]
 pub struct Refusal {
@@ -58,7 +76,7 @@ fn field(bytes: &[u8]) -> Option<i32> {
 }
 
 /// A line's fields, without its byte 10.
-fn fields(line: &[u8]) -> Option<Vec<i32>> {
+pub fn fields(line: &[u8]) -> Option<Vec<i32>> {
     if line.len() % 8 != 0 || line.is_empty() || line.len() > 48 {
         return None;
     }

@@ -249,7 +249,7 @@ pub fn line(sheet: &[u8], number: usize) -> &[u8] {
 
 /// The answers that facts give a block, four words for each, ascending, each once: 1 the question, 2 the list, 2 + n view n.
 ///
-/// Facts ascend, each once, with values from 0 to 1,000,999. Refused by 1 to 9, then by 10, then by 11 and 12, and then by 13 exactly
+/// Facts ascend, each once, with values from 0 to 10,000,999. Refused by 1 to 9, then by 10, then by 11 and 12, and then by 13 exactly
 /// where the answers do not fit.
 pub fn evaluate<'a>(sheet: &[u8], block: usize, facts: &[i32], out: &'a mut [i32]) -> Result<&'a [i32], Refused> {
     // SAFETY: each pointer is valid for its length, and the lent one is not shared.

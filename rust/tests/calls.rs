@@ -114,6 +114,34 @@ fn judges() {
 }
 
 #[test]
+fn takes_serials_of_seven_digits() {
+    let rows = sheet(&[QUESTION, LIST, VIEW, "       5 9999998 1000000\n       5 9999998 9999999\n"]);
+    let past = sheet(&[QUESTION, LIST, VIEW, "       5 9999999 9999999\n       510000000       1\n"]);
+    let made = sheet(&[
+        "       1      -1\n       4       4      -1      -2\n       2 9999998\n       4       4 9999998      -2\n",
+        "       3      -1\n       4       4      -1      -2\n       5 9999998\n       5 9999999\n",
+    ]);
+    let mut words = [MARK; READ_WORDS];
+    let form = read(&rows, &mut words).unwrap().to_vec();
+    assert_eq!(form[6 * LINE_WORDS..7 * LINE_WORDS], [3, 5, 9_999_998, 1_000_000, 0, 0, 0]);
+    let mut bytes = [0; WRITE_BYTES];
+    assert_eq!(write(&form, &mut bytes), Ok(&rows[..]));
+    assert_eq!(read(&past, &mut words), refused(Cause::OutOfRange, 8));
+    let mut room = [MARK; JUDGE_WORDS];
+    let (last, beyond) = ([4, 10_000_000, 10_000_999, 0, 0], [4, 10_000_000, 10_001_000, 0, 0]);
+    assert_eq!(evaluate(&rows, 1, &last, &mut room), Ok(&last[1..]));
+    assert_eq!(evaluate(&rows, 1, &beyond, &mut room), refused(Cause::WrongFact, 0));
+    let facts = &[4, 9_999_998, 1_000_000, 0, 0, 4, 9_999_998, 9_999_999, 0, 0][..];
+    let missing = [9_999_998, 1_000_000, 0, 0];
+    assert_eq!(judge(&rows, &mut room), Ok(Verdict::NotCovered { missing, facts }));
+    let Ok(Verdict::NotCovered { missing, facts }) = judge(&made, &mut room) else {
+        panic!("a case is there");
+    };
+    assert_eq!((missing, facts[1], facts[6]), ([9_999_999, 0, 0, 0], 9_999_998, 9_999_999));
+    assert!([facts[2], facts[7]].iter().all(|value| (10_000_000..=10_000_999).contains(value)));
+}
+
+#[test]
 fn judges_sets() {
     let bad = sheet(&[QUESTION, LIST, NO_SUCH_RELATION]);
     let sheets = [

@@ -200,29 +200,30 @@ pub fn to_judge(random: &mut Random) -> Drawn {
     }
     match random.below(100) {
         0..=7 => {
-            let (lines, log) = generate::pinned(random);
+            let (lines, log) = generate::at_times_seven_digits(random, generate::pinned);
             ("all relations listed whole", sheet::bytes_of(&lines), Known::Pinned, log)
         }
         8..=11 => {
-            let (lines, log) = generate::planted(random);
+            let (lines, log) = generate::at_times_seven_digits(random, generate::planted);
             let case = generate::taken(&lines).is_some_and(|s| meaning::is_case(&s, &log));
             ("rows of a log", sheet::bytes_of(&lines), Known::Planted(case), log)
         }
         12..=17 => {
-            let mut lines = generate::small(random);
+            let mut lines = generate::small_or_seven_digits(random);
             generate::damage_lines(random, &mut lines);
             match generate::taken(&lines) {
                 Some(s) if meaning::cost(&s) > 60_000 && !generate::deep() => {
-                    ("small", sheet::bytes_of(&generate::small(random)), Known::Searched, vec![])
+                    ("small", sheet::bytes_of(&generate::small_or_seven_digits(random)), Known::Searched, vec![])
                 }
                 _ => ("small, damaged", sheet::bytes_of(&lines), Known::Searched, vec![]),
             }
         }
         18..=29 => {
             let (name, lines) = full::sheet(random);
+            let (lines, _) = generate::at_times_seven_digits(random, |_| (lines, vec![]));
             (name, sheet::bytes_of(&lines), Known::Large, vec![])
         }
-        _ => ("small", sheet::bytes_of(&generate::small(random)), Known::Searched, vec![]),
+        _ => ("small", sheet::bytes_of(&generate::small_or_seven_digits(random)), Known::Searched, vec![]),
     }
 }
 
@@ -291,7 +292,7 @@ fn judge(random: &mut Random, show: bool) -> Outcome {
         if told.verdict == 0 && large::verdict(&alone, SECOND_STEPS)? == Some(1) {
             notes.push("0 that is 1 without the views");
         }
-        if told.verdict == 1 && out.after().chunks(5).take(told.count).any(|f| f[1..].iter().any(|v| *v > 999_999)) {
+        if told.verdict == 1 && out.after().chunks(5).take(told.count).any(|f| f[1..].iter().any(|v| *v >= meaning::MADE_UP)) {
             notes.push("1 with values that are made up");
         }
         if told.verdict == 1 && taken.views().iter().any(|v| !v.rows.is_empty()) {
@@ -413,7 +414,7 @@ pub fn tampered(seed: u64, index: u64, way: usize) -> Option<bool> {
         }
         1 => {
             let mut facts: Vec<Vec<i32>> = words.chunks(5).map(|f| f.to_vec()).collect();
-            facts.push(vec![random.pick(&[2, 10]), 1_000_777, 0, 0, 0]);
+            facts.push(vec![random.pick(&[2, 10]), meaning::MADE_UP + 777, 0, 0, 0]);
             facts.sort();
             words = facts.concat();
             told.count += 1;
@@ -432,7 +433,7 @@ pub fn tampered(seed: u64, index: u64, way: usize) -> Option<bool> {
             words.splice(at..at, fact);
             told.count += 1;
         }
-        7 => words[at + 1] = random.pick(&[1_001_000, 999_998, -1]),
+        7 => words[at + 1] = random.pick(&[meaning::MOST_VALUE + 1, 5_000_001, -1]),
         8 => out.spoil(words.len() + 3, 0x5a5a_5a5a),
         _ => {
             told.count = 0;

@@ -1,10 +1,10 @@
 //! Sheets to judge up to every limit, many of them exactly at one, and which limits a sheet meets.
 
-use crate::generate::{atom, facts, head, list_like, taken, Lines, Stock};
+use crate::generate::{any, atom, facts, head, list_like, taken, Lines, Stock};
 use crate::large::{answers, Steps};
 use crate::meaning::Fact;
 use crate::random::Random;
-use crate::sheet::{Block, Sheet, COLUMNS};
+use crate::sheet::{Block, Sheet, COLUMNS, MOST_CONSTANT};
 
 const VIEWS: usize = 8;
 const ROWS: usize = 40;
@@ -105,10 +105,9 @@ fn whole_view(random: &mut Random, relation: usize, atoms: usize) -> Lines {
 fn some_rows(random: &mut Random, columns: usize, count: usize, values: &[i64]) -> Lines {
     let mut rows: Lines = Vec::new();
     while rows.len() < count {
-        let any = if columns < 3 { 50 } else { 10 };
-        let row: Vec<i64> = std::iter::once(5)
-            .chain((0..columns).map(|_| if random.percent(any) { random.below(1_000_000) as i64 } else { random.pick(values) }))
-            .collect();
+        let often = if columns < 3 { 50 } else { 10 };
+        let row: Vec<i64> =
+            std::iter::once(5).chain((0..columns).map(|_| if random.percent(often) { any(random) } else { random.pick(values) })).collect();
         if !rows.contains(&row) {
             rows.push(row);
         }
@@ -139,7 +138,7 @@ fn drawn(random: &mut Random) -> Option<Lines> {
     let free = relations.pop().unwrap();
     relations.truncate(random.between(2, 5));
     let mut values: Vec<i64> = (1..=random.between(2, 9) as i64).collect();
-    values.extend([0, 999_999].into_iter().filter(|_| random.percent(30)));
+    values.extend([0, MOST_CONSTANT].into_iter().filter(|_| random.percent(30)));
     let stock = Stock {
         relations: relations.clone(),
         constants: values.clone(),

@@ -1,11 +1,15 @@
 //! Inputs: sheets that are right, at the limits, damaged or random; facts likewise; small sheets to judge.
 
-use crate::meaning::{answers, Fact};
+use crate::meaning::{answers, Fact, MADE_UP, MOST_VALUE};
 use crate::random::Random;
-use crate::sheet::{blocks, bytes_of, Sheet, COLUMNS};
+use crate::sheet::{blocks, bytes_of, Sheet, COLUMNS, MOST_CONSTANT};
+use std::collections::{BTreeMap, BTreeSet};
 use std::sync::atomic::{AtomicBool, Ordering};
 
 pub type Lines = Vec<Vec<i64>>;
+
+/// The least number of seven digits.
+const LEAST_OF_SEVEN: i64 = 1_000_000;
 
 /// What blocks are drawn from.
 pub struct Stock {
@@ -19,7 +23,7 @@ pub struct Stock {
 impl Stock {
     /// A few relations and constants, so that blocks meet.
     pub fn few(random: &mut Random) -> Stock {
-        let pool = [0, 1, 2, 7, 8, 42, 999_999];
+        let pool = [0, 1, 2, 7, 8, 42, MOST_CONSTANT];
         Stock {
             relations: (0..random.between(1, 3)).map(|_| random.between(1, 10)).collect(),
             constants: (0..random.between(1, 3)).map(|_| random.pick(&pool)).collect(),
@@ -31,7 +35,7 @@ impl Stock {
     pub fn wide(random: &mut Random) -> Stock {
         Stock {
             relations: (1..=10).collect(),
-            constants: (0..12).map(|_| random.below(1_000_000) as i64).chain([0, 999_999]).collect(),
+            constants: (0..12).map(|_| any(random)).chain([0, MOST_CONSTANT]).collect(),
             variables: 12,
             fixed: random.pick(&[5, 30, 80]),
         }
@@ -76,7 +80,7 @@ fn rows(random: &mut Random, stock: &Stock, columns: usize, count: usize) -> Lin
     for _ in 0..4 * count {
         if rows.len() < count {
             let row: Vec<i64> = std::iter::once(5)
-                .chain((0..columns).map(|_| if random.percent(60) { stock.constant(random) } else { random.below(1_000_000) as i64 }))
+                .chain((0..columns).map(|_| if random.percent(60) { stock.constant(random) } else { any(random) }))
                 .collect();
             if !rows.contains(&row) {
                 rows.push(row);
@@ -105,8 +109,64 @@ fn built(random: &mut Random, stock: &Stock, sizes: &Sizes) -> Lines {
     lines
 }
 
-/// A sheet within the limits.
+/// Any constant.
+pub fn any(random: &mut Random) -> i64 {
+    random.below(MOST_CONSTANT as usize + 1) as i64
+}
+
+/// Where a line's terms begin.
+fn terms_at(line: &[i64]) -> usize {
+    if line[0] == 4 {
+        2
+    } else {
+        1
+    }
+}
+
+/// The same sheet and log with other numbers of seven digits for its constants, in the same order.
+fn with_seven_digits(random: &mut Random, lines: &Lines, log: &[Fact]) -> (Lines, Vec<Fact>) {
+    let values = log.iter().flat_map(|f| f[1..=COLUMNS[f[0] as usize]].iter().map(|v| *v as i64));
+    let old: BTreeSet<i64> = lines.iter().flat_map(|l| l[terms_at(l)..].iter().copied()).filter(|t| *t >= 0).chain(values).collect();
+    let mut new: BTreeSet<i64> = match random.below(3) {
+        0 => (LEAST_OF_SEVEN..).take(old.len()).collect(),
+        1 => (0..=MOST_CONSTANT).rev().take(old.len()).collect(),
+        _ => BTreeSet::new(),
+    };
+    while new.len() < old.len() {
+        new.insert(random.between(LEAST_OF_SEVEN as usize, MOST_CONSTANT as usize) as i64);
+    }
+    let to: BTreeMap<i64, i64> = old.into_iter().zip(new).collect();
+    let raised = |t: &i64| to.get(t).copied().unwrap_or(*t);
+    let lines = lines.iter().map(|l| l[..terms_at(l)].iter().copied().chain(l[terms_at(l)..].iter().map(raised)).collect()).collect();
+    let mut log = log.to_vec();
+    for fact in &mut log {
+        let columns = COLUMNS[fact[0] as usize];
+        fact[1..=columns].iter_mut().for_each(|v| *v = raised(&(*v as i64)) as i32);
+    }
+    (lines, log)
+}
+
+/// A sheet and a log as they are drawn; one in four has constants of seven digits alone.
+pub fn at_times_seven_digits(random: &mut Random, draw: impl FnOnce(&mut Random) -> (Lines, Vec<Fact>)) -> (Lines, Vec<Fact>) {
+    let (lines, log) = draw(random);
+    if random.percent(25) {
+        with_seven_digits(random, &lines, &log)
+    } else {
+        (lines, log)
+    }
+}
+
+/// A small sheet to judge; one in four has constants of seven digits alone.
+pub fn small_or_seven_digits(random: &mut Random) -> Lines {
+    at_times_seven_digits(random, |random| (small(random), vec![])).0
+}
+
+/// A sheet within the limits; one in four has constants of seven digits alone.
 pub fn right(random: &mut Random) -> Lines {
+    at_times_seven_digits(random, |random| (within(random), vec![])).0
+}
+
+fn within(random: &mut Random) -> Lines {
     let stock = if random.percent(50) { Stock::few(random) } else { Stock::wide(random) };
     let (views, mut left) = (random.below(9), 40);
     let sizes = Sizes {
@@ -143,7 +203,7 @@ pub fn at_limits(random: &mut Random) -> Lines {
     let mut lines = built(random, &stock, &sizes);
     // A term at the edge of its range, or one beyond.
     if (7..14).contains(&over) {
-        let value = random.pick(&[0, 999_999, 1_000_000, -1, -12, -13, 99_999_999, -9_999_999, 9_999_999]);
+        let value = random.pick(&[0, 999_999, 1_000_000, 9_999_999, 10_000_000, -1, -12, -13, 99_999_999, -9_999_999]);
         let at = random.below(lines.len());
         let fields = lines[at].len();
         if fields > 1 {
@@ -158,8 +218,8 @@ pub fn at_limits(random: &mut Random) -> Lines {
 }
 
 const FIELDS: [i64; 32] = [
-    0, 1, 2, 3, 4, 5, 6, 7, 9, 10, 11, -1, -2, -3, -11, -12, -13, 42, 999_998, 999_999, 1_000_000, 1_000_001, 1_001_000, 9_999_999,
-    10_000_000, 99_999_999, -999_999, -9_999_999, 100, 40, 8, -100,
+    0, 1, 2, 3, 4, 5, 6, 7, 9, 10, 11, -1, -2, -3, -11, -12, -13, 42, 999_999, 1_000_000, 9_999_998, 9_999_999, 10_000_000, 10_000_001,
+    10_001_000, 99_999_999, -999_999, -9_999_999, 100, 40, 8, -100,
 ];
 
 /// Lines that are none of a sheet, mostly well-formed.
@@ -199,7 +259,7 @@ pub fn damage_lines(random: &mut Random, lines: &mut Lines) {
             let kind = random.between(0, 6) as i64;
             lines[at][0] = kind;
         }
-        7 => lines[at][place] += random.pick(&[1, -1, 1_000_000, 10]),
+        7 => lines[at][place] += random.pick(&[1, -1, 10_000_000, 10]),
         8 => {
             let fields = random.pick(&[1, 1, 2, 5, 6, 7]);
             lines[at].resize(fields, -1);
@@ -224,8 +284,8 @@ fn damage_line(random: &mut Random, lines: &mut Lines) {
             }
             1 => lines[at].push(random.pick(&FIELDS)),
             2 if at > 0 => lines[at] = lines[at - 1].clone(),
-            3 if lines[at].len() > 1 => lines[at][1] = random.pick(&[0, 1, 11, -1, 9, 1_000_000]),
-            4 | 5 => lines[at][place] = random.pick(&[1_000_000, -13, -1, 0]),
+            3 if lines[at].len() > 1 => lines[at][1] = random.pick(&[0, 1, 11, -1, 9, 10_000_000]),
+            4 | 5 => lines[at][place] = random.pick(&[10_000_000, -13, -1, 0]),
             _ => lines[at][place] = random.pick(&FIELDS),
         }
     }
@@ -281,7 +341,7 @@ pub fn damage_bytes(random: &mut Random, bytes: &mut Vec<u8>) {
             let from = at / 8 * 8;
             let ways = [
                 "      -0", "      01", "        ", "       -", "      +1", "-0000001", "00000001", "  -     ", "1       ", "     1 2",
-                "      1 ", "     - 1", "    --1 ", "00000000", "-9999999", "99999999", "      1e", "     -01", " 1000000", "  999999",
+                "      1 ", "     - 1", "    --1 ", "00000000", "-9999999", "99999999", "      1e", "     -01", "10000000", " 9999999",
                 "     -12", "     -13",
             ];
             let way = random.pick(&ways);
@@ -368,7 +428,7 @@ pub fn sheet(random: &mut Random) -> (&'static str, Vec<u8>) {
 
 /// A number form and the name of what it is.
 pub fn form(random: &mut Random) -> (&'static str, Vec<i32>) {
-    let wide = [100_000_000, -10_000_000, 99_999_999, -9_999_999, i32::MAX, i32::MIN, 0, 1, -1, 7, 6, 999_999, 1_000_000, -12, -13];
+    let wide = [100_000_000, -10_000_000, 99_999_999, -9_999_999, i32::MAX, i32::MIN, 0, 1, -1, 7, 6, 9_999_999, 10_000_000, -12, -13];
     match random.below(20) {
         0..=11 => {
             let (name, lines) = lines(random);
@@ -454,7 +514,7 @@ pub fn evaluation(random: &mut Random) -> (&'static str, Vec<u8>, usize, Vec<i32
         values.extend([1, 2, 7]);
         values.truncate(random.pick(&[3, 4, 6]));
         if random.percent(30) {
-            values.extend([0, 999_999, 1_000_000, 1_000_999]);
+            values.extend([0, MOST_CONSTANT, MADE_UP as i64, MOST_VALUE as i64]);
         }
         let count = random.pick(&[0, 1, 3, 6, 12, 20, 40]);
         let mut log = facts(random, &relations, &values, count);
@@ -481,7 +541,7 @@ pub fn evaluation(random: &mut Random) -> (&'static str, Vec<u8>, usize, Vec<i32
                 let mut fact = [0; 5];
                 fact[0] = relation as i32;
                 for word in &mut fact[1..=COLUMNS[relation]] {
-                    *word = random.below(1_001_000) as i32;
+                    *word = random.below(MOST_VALUE as usize + 1) as i32;
                 }
                 log.push(fact);
                 log.sort();
@@ -512,7 +572,7 @@ pub fn evaluation(random: &mut Random) -> (&'static str, Vec<u8>, usize, Vec<i32
 
 fn damage_facts(random: &mut Random, words: &mut Vec<i32>) {
     let count = words.len() / 5;
-    let values = [1_000_999, 1_001_000, -1, 0, i32::MAX, i32::MIN, 1_000_000, 1];
+    let values = [MOST_VALUE, MOST_VALUE + 1, -1, 0, i32::MAX, i32::MIN, MADE_UP, 1];
     if count == 0 || random.percent(10) {
         let more = random.pick(&[1, 2, 3, 4, 5]);
         words.extend((0..more).map(|_| random.pick(&[0, 1, 11, -1])));

@@ -5,6 +5,9 @@ use crate::slips::{is, Slip};
 /// The columns of each relation, by its number.
 pub const COLUMNS: [usize; 11] = [0, 2, 1, 3, 2, 2, 2, 3, 2, 4, 1];
 
+/// Constants are 0 to this.
+pub const MOST_CONSTANT: i64 = 9_999_999;
+
 #[derive(Clone, Copy, Debug, PartialEq, Eq)]
 pub struct Refusal {
     pub number: usize,
@@ -105,7 +108,7 @@ pub fn lines_of_words(words: &[i32]) -> Vec<Fields> {
 }
 
 fn term_in_range(term: i64) -> bool {
-    let top = if is(Slip::ConstantOneTooHigh) { 1_000_000 } else { 999_999 };
+    let top = if is(Slip::ConstantOneTooHigh) { MOST_CONSTANT + 1 } else { MOST_CONSTANT };
     let last = if is(Slip::VariableThirteen) { -13 } else { -12 };
     (last..=top).contains(&term)
 }
