@@ -17,7 +17,6 @@ ghost use mathlib.Core.Bool.{true, false};
 ghost use mathlib.Core.List.{List};
 ghost use Prim.Native.Nat.{ℕ, _+_, _*_, _-_, _<_, _≤_};
 ghost use lib.ListN.{length};
-ghost use Rattle.query_layout.specs.Layout.{names};
 ghost use Rattle.sheet_format.specs.Limits.{most-rows};
 ghost use Rattle.tableau_layout.specs.Layout.{slot-end};
 ghost use Rattle.case_verdicts.specs.Verdict.{Sheet};
