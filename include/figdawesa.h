@@ -30,9 +30,9 @@ extern "C" {
 #define FIGDAWESA_SHEET_BYTES 8192 /* a sheet's bytes, at most */
 #define FIGDAWESA_READ_WORDS 602   /* the words that figdawesa_read wants, and the number form's words, at most */
 #define FIGDAWESA_WRITE_BYTES 4214 /* the bytes that figdawesa_write wants */
-#define FIGDAWESA_JUDGE_WORDS 640  /* the words that figdawesa_judge wants, and figdawesa_judge_set for each sheet */
+#define FIGDAWESA_JUDGE_WORDS 1260 /* the words that figdawesa_judge wants, and figdawesa_judge_set for each sheet */
 #define FIGDAWESA_SHEETS 16        /* sheets of a set, at most */
-#define FIGDAWESA_FACTS 128        /* facts given to figdawesa_evaluate, at most */
+#define FIGDAWESA_FACTS 256        /* facts given to figdawesa_evaluate, at most */
 #define FIGDAWESA_LINE_WORDS 7     /* a line in the number form: how many fields it has, and the fields, filled up with 0 to six */
 #define FIGDAWESA_FACT_WORDS 5     /* a fact: its relation and its values, filled up with 0 to four */
 #define FIGDAWESA_ANSWER_WORDS 4   /* an answer: its values, filled up with 0 to four */
@@ -65,7 +65,7 @@ enum {
     FIGDAWESA_NOT_ABOVE = 9,     /* a row that is not above the one before: its line */
     FIGDAWESA_NO_BLOCK = 10,     /* no such block: line 0 */
     FIGDAWESA_WRONG_FACT = 11,   /* fact words not by fives; a fact that is none by its relation, values or filling: line 0 */
-    FIGDAWESA_FACT_ORDER = 12,   /* more than 128 facts, or facts that do not ascend: line 0 */
+    FIGDAWESA_FACT_ORDER = 12,   /* more than 256 facts, or facts that do not ascend: line 0 */
     FIGDAWESA_NO_ROOM = 13,      /* `out` is too short: line 0 */
     FIGDAWESA_WRONG_ENDS = 14    /* more than 16 sheets, an end below the one before, a last end that is not the byte count: line 0 */
 };
@@ -134,16 +134,17 @@ struct figdawesa_ended figdawesa_evaluate(const uint8_t *sheet, size_t sheet_byt
 
 /* Whether the sheet's list covers its question. Verdicts 0 and 2 write nothing. Verdict 1 writes `count` facts of five words at the front
  * of `out`, ascending, each once: a log that gives exactly the listed rows, shows that the list does not cover, and has no fact to spare.
- * There are at most 126 of them, so at most 630 words are written; their values are numbers of the sheet, or made up from 10,000,000 to
+ * Only logs count in which relation 4 (Sig) has each row of relations 5 (Beat) and 6 (Noise); figdawesa_evaluate does not ask for these rows.
+ * There are at most 252 of them, so at most 1,260 words are written; their values are numbers of the sheet, or made up from 10,000,000 to
  * 10,000,999.
- * Verdict 9: refused by 1 to 9, and then by 13 where out_words is below 640, whatever the verdict would be. */
+ * Verdict 9: refused by 1 to 9, and then by 13 where out_words is below 1,260, whatever the verdict would be. */
 struct figdawesa_outcome figdawesa_judge(const uint8_t *sheet, size_t sheet_bytes, int32_t *out, size_t out_words);
 
 /* The judgements of a page's whole set of sheets. `bytes` holds them one after the other, and `ends` says where each ends, so the sheet at
  * place k, counted from 0, has the bytes from ends[k - 1], or 0 for the first, up to ends[k]. Two equal ends are a sheet without bytes.
- * Each sheet gets the judgement that figdawesa_judge gives it alone with the 640 words from word k * 640 of `out`, a refusal included; it
+ * Each sheet gets the judgement that figdawesa_judge gives it alone with the 1,260 words from word k * 1,260 of `out`, a refusal included; it
  * changes no word outside these, and words past the last stretch are as they were.
- * The set is refused by 14, and then by 13 where out_words is below 640 for each sheet. A set of no sheets and no bytes is taken. */
+ * The set is refused by 14, and then by 13 where out_words is below 1,260 for each sheet. A set of no sheets and no bytes is taken. */
 struct figdawesa_set_outcome figdawesa_judge_set(const uint8_t *bytes, size_t byte_count, const size_t *ends, size_t sheets, int32_t *out,
                                                  size_t out_words);
 

@@ -137,7 +137,7 @@ ROWS_DESCEND = sheet_of(lines_in("1 / 4 10 1 / 2 / 4 10 1 / 3 -1 / 4 10 -1 / 5 2
 def counts():
     heading("how many sheets")
     keep("no sheets", b"", [], [])
-    keep("no sheets, with words to spare", b"", [], [], 640)
+    keep("no sheets, with words to spare", b"", [], [], LENT_WORDS)
     taken("one sheet", [WORKED], [1])
     taken("two sheets", [WORKED, COVERED_ONE], [1, 0])
     taken("sixteen sheets", [SMALL] * 16, [0] * 16)
@@ -163,8 +163,8 @@ def ends():
     keep("a last end one above the byte count", both, [two[0], two[1] + 1], WRONG_ENDS)
     keep("a last end far above the byte count", both, [two[0], 2_000_000_000], WRONG_ENDS)
     keep("the last sheet left out", both, [two[0]], WRONG_ENDS)
-    keep("no sheets, with bytes", WORKED, [], WRONG_ENDS, 640)
-    keep("no sheets, with a byte", b"\n", [], WRONG_ENDS, 640)
+    keep("no sheets, with bytes", WORKED, [], WRONG_ENDS, LENT_WORDS)
+    keep("no sheets, with a byte", b"\n", [], WRONG_ENDS, LENT_WORDS)
     keep("a sheet, without bytes", b"", [1], WRONG_ENDS)
     keep("an end within a line", both, [two[0] - 8, two[1]], [(9, 2), (9, 2)])
     keep("an end within a sheet, after a line", both, [26, two[0], two[1]], [(9, 2), (9, 2), 0])
@@ -173,14 +173,15 @@ def ends():
 
 def rooms():
     heading("lent words")
-    taken("one word short", [WORKED], NO_ROOM, 639)
+    taken("one word short", [WORKED], NO_ROOM, LENT_WORDS - 1)
     taken("no words", [WORKED], NO_ROOM, 0)
-    taken("one word short of two stretches", [WORKED, COVERED_ONE], NO_ROOM, 1279)
-    taken("words for one of two", [COVERED_ONE, WORKED], NO_ROOM, 640)
-    taken("one word short of sixteen stretches", [SMALL] * 16, NO_ROOM, 10_239)
-    taken("one word more than two stretches", [WORKED, WORKED], [1, 1], 1281)
+    taken("one word short of two stretches", [WORKED, COVERED_ONE], NO_ROOM, 2 * LENT_WORDS - 1)
+    taken("words for one of two", [COVERED_ONE, WORKED], NO_ROOM, LENT_WORDS)
+    taken("one word short of sixteen stretches", [SMALL] * 16, NO_ROOM, 16 * LENT_WORDS - 1)
+    taken("one word more than two stretches", [WORKED, WORKED], [1, 1], 2 * LENT_WORDS + 1)
+    taken("a stretch of 640 words", [WORKED], NO_ROOM, 640)
     taken("more words than sixteen stretches", [SMALL] * 16, [0] * 16, HELD_WORDS)
-    taken("words short for sheets that are all refused", [NO_LIST, UNCLOSED], NO_ROOM, 1279)
+    taken("words short for sheets that are all refused", [NO_LIST, UNCLOSED], NO_ROOM, 2 * LENT_WORDS - 1)
     keep("ends before words: no words and a last end that is short", WORKED, [len(WORKED) - 1], WRONG_ENDS, 0)
     keep("ends before words: no words and an end that falls back", WORKED, [len(WORKED), 3, len(WORKED)], WRONG_ENDS, 0)
     keep("ends before words: no words and seventeen sheets", b"", [0] * 17, WRONG_ENDS, 0)
@@ -200,7 +201,17 @@ def mixed():
     taken("bad sheets alone", [NO_LIST, UNCLOSED, UNSAFE], [(9, 3), (9, 2), (9, 8)])
     taken("the same sheet four times", [WORKED] * 4, [1] * 4)
     taken("two cases side by side", [WORKED, TWO_TICKS], [1, 1])
-    assert judged_alone(TWO_TICKS).facts == facts_in("Beat(7,1) Noise(7,2)")
+    assert judged_alone(TWO_TICKS).facts == facts_in("Sig(7,1) Sig(7,2) Beat(7,1) Noise(7,2)")
+
+
+def seven_digits():
+    heading("sheets whose every constant has seven digits, beside others")
+    for least in (1_000_000, 9_999_990):
+        sheets = [sheet_of(raised_lines(read(sheet, MOST_WORDS)[2], least)) for sheet in (WORKED, COVERED_ONE, NO_LOG_ONE, TWO_TICKS)]
+        taken(f"one of each verdict, constants from {least:,}", sheets, [1, 0, 2, 1])
+        taken(f"constants from {least:,} and small ones", [WORKED, sheets[0], OUT_OF_RANGE, sheets[1], TWO_TICKS, sheets[3]], [1, 1, (9, 5), 0, 1, 1])
+    last, past = (sheet_of(lines_in(f"1 / 4 10 {value} / 2 / 4 10 1")) for value in (9_999_999, 10_000_000))
+    taken("constant 9,999,999 beside 10,000,000", [last, past, last], [1, (9, 5), 1])
 
 
 def seven_digits():

@@ -16,11 +16,11 @@ pub const READ_WORDS: usize = 602;
 /// The bytes that [`write`] wants.
 pub const WRITE_BYTES: usize = 4214;
 /// The words that [`judge`] wants, and [`judge_set`] for each sheet.
-pub const JUDGE_WORDS: usize = 640;
+pub const JUDGE_WORDS: usize = 1260;
 /// The sheets of a set, at most.
 pub const SHEETS: usize = 16;
 /// The facts given to [`evaluate`], at most.
-pub const FACTS: usize = 128;
+pub const FACTS: usize = 256;
 /// A line in the number form: how many fields it has, and the fields, filled up with 0 to six.
 pub const LINE_WORDS: usize = 7;
 /// A fact: its relation and its values, filled up with 0 to four.
@@ -124,7 +124,7 @@ pub enum Cause {
     NoBlock = 10,
     /// Fact words not by fives; a fact that is none by its relation, values or filling.
     WrongFact = 11,
-    /// More than 128 facts, or facts that do not ascend.
+    /// More than 256 facts, or facts that do not ascend.
     FactOrder = 12,
     /// What was lent is too short.
     NoRoom = 13,

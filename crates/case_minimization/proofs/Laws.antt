@@ -1,14 +1,14 @@
 -- Numbers without a fact, parts of facts, and facts tried, over lists.
 use mathlib.Core.Path.{_≡_, refl, sym, ap, _∙_, subst}
-use mathlib.Core.Bool.{Bool, true, false, cond}
+use mathlib.Core.Bool.{Bool, true, false, cond, not}
 use mathlib.Core.List.{List}
-use Prim.Native.Nat.{ℕ, suc, _+_, _-_, _*_, _<_, _≤_, min}
+use Prim.Native.Nat.{ℕ, zero, suc, _+_, _-_, _*_, _/_, _<_, _≤_, min}
 use native.Mathlib.Omega.{arith}
 use native.Mathlib.Decide.{decLt}
 use borrow.Author.Count.{below-more}
 use borrow.Author.Tests.{lt-ltb, le-ltb}
 use lib.Dec.{ltb}
-use lib.ListN.{length, getD, take, drop, length-append, length-drop, List·getD-append}
+use lib.ListN.{length, getD, take, drop, length-append, length-drop, List·getD-append, List·getD-eq-default}
 use lib.Seq.{ext-getD, getD-take, getD-drop, getD-append-add, length-take-le}
 use Rattle.tableau_layout.specs.Layout.{view-block}
 use Rattle.sheet_format.specs.Limits.{most-atoms}
@@ -16,21 +16,22 @@ use Rattle.list_laws.specs.Kept.{Filled}
 use Rattle.query_join.specs.Joins.{AtomMet, Given}
 use Rattle.tableau_plan.specs.Plan.{rowCount, blockNumbers, blockSize}
 use Rattle.tableau_parts.specs.Views.{NoStray, Missing, MissingBy}
-use Rattle.tableau_parts.specs.Walks.{GivenTo}
-use Rattle.case_minimization.specs.Minimization.{IsCase, CaseBy, without, SubFacts, Shrunk}
-use Rattle.case_minimization.specs.Parts.{TriedFact}
+use Rattle.sheet_format.specs.Relations.{parentNumbers, parentOf}
+use Rattle.tableau_parts.specs.Walks.{GivenTo, SameBy, fourOf}
+use Rattle.case_minimization.specs.Minimization.{IsFact, Parented, IsCase, CaseBy, without, SubFacts, Shrunk}
+use Rattle.case_minimization.specs.Parts.{relationBy, LikeBy, SomeLike, FindsBy, OwedBy, TriedFact}
 
 -- ---- cases
 
 pub left-not : (p ns : List ℕ) → (GivenTo p ns (rowCount p) → ⊥) → IsCase p ns → ⊥
 left-not p ns f c = f (record { all = c .0 .0 })
 
-pub left-by : (b : Bool) (p ns u : List ℕ) → GivenTo p ns (rowCount p) → NoStray p ns → MissingBy b p ns u → CaseBy b p ns
-left-by true p ns u g s m = ((g .all, s), (u, m .missing))
-left-by false p ns u g s m = λ c. m (c .1 .0) (c .1 .1)
+pub left-by : (b : Bool) (p ns u : List ℕ) → GivenTo p ns (rowCount p) → NoStray p ns → Parented ns → MissingBy b p ns u → CaseBy b p ns
+left-by true p ns u g s o m = ((g .all, s), (u, m .missing), o)
+left-by false p ns u g s o m = λ c. m (c .1 .0) (c .1 .1)
 
-pub left-seen : (p ns u : List ℕ) → GivenTo p ns (rowCount p) → NoStray p ns → Missing p ns u → IsCase p ns
-left-seen p ns u g s m = ((g .all, s), (u, m))
+pub left-seen : (p ns u : List ℕ) → GivenTo p ns (rowCount p) → NoStray p ns → Parented ns → Missing p ns u → IsCase p ns
+left-seen p ns u g s o m = ((g .all, s), (u, m), o)
 
 -- ---- the numbers without a fact
 
@@ -130,6 +131,113 @@ pub no-stray-without : (p ns : List ℕ) (n i : ℕ) → length ns ≡ n * 5 →
 no-stray-without p ns n i l lt s v h u g =
     s v h u
     (given-part (blockNumbers p (view-block v)) (min (blockSize p (view-block v)) most-atoms) ns n (without ns i) (n - 1) u l (length-without ns n i l lt) (part-without ns n i l lt) g)
+
+-- ---- rows that are owed
+
+-- four numbers by their places
+pub four-same : (ns ms : List ℕ) (i j : ℕ) → ((c : ℕ) → c < 4 → getD ns (i + c) 0 ≡ getD ms (j + c) 0) → fourOf ns i ≡ fourOf ms j
+four-same ns ms i j h =
+    let z : i ≡ i + 0 = omega arith in
+    let w : j + 0 ≡ j = omega arith in
+    let a : getD ns i 0 ≡ getD ms j 0 = ap (λ n. getD ns n 0) z ∙ h 0 (omega arith) ∙ ap (λ n. getD ms n 0) w in
+    let b = h 1 (omega arith) in
+    let c = h 2 (omega arith) in
+    let d = h 3 (omega arith) in
+    cc
+
+pub four-at : (ns : List ℕ) (i c : ℕ) → c < 4 → getD (fourOf ns i) c 0 ≡ getD ns (i + c) 0
+four-at ns i zero h = ap (λ n. getD ns n 0) (let z : i ≡ i + 0 = omega arith in z)
+four-at ns i (suc zero) h = refl
+four-at ns i (suc (suc zero)) h = refl
+four-at ns i (suc (suc (suc zero))) h = refl
+four-at ns i (suc (suc (suc (suc c)))) h = absurd (omega arith)
+
+pub like-by : (b owing : Bool) (ns : List ℕ) (k relation : ℕ) (row : List ℕ) → relationBy owing (getD ns (k * 5) 0) ≡ relation → SameBy b (fourOf ns (k * 5 + 1)) row → LikeBy b owing ns k relation row
+like-by true owing ns k relation row e s = (e, s)
+like-by false owing ns k relation row e s = λ l. s (l .1)
+
+pub owed-by : (b : Bool) (ns : List ℕ) (i : ℕ) (rest : List ℕ) → 0 < getD ns (i * 5) 0 → SomeLike true rest (getD ns (i * 5) 0) (fourOf ns (i * 5 + 1)) → FindsBy b false rest (getD ns (i * 5) 0) (fourOf ns (i * 5 + 1)) → OwedBy (not b) ns i rest
+owed-by true ns i rest lt s f = λ _ _. f
+owed-by false ns i rest lt s f = (lt, s, f)
+
+-- a relation that is no parent in the table is owed nothing
+pub no-parent : (k relation : ℕ) → 10 ≤ k → ((j : ℕ) → j < k → getD parentNumbers j 0 ≡ relation → ⊥) → (n : ℕ) → parentOf n ≡ relation → relation ≡ 0
+unfolding parentOf
+no-parent k relation all none zero e = sym e
+no-parent k relation all none (suc n) e = go (decLt n 10)
+  where
+    go : Dec (n < 10) → relation ≡ 0
+    go (yes b) = absurd (none n (omega arith) e)
+    go (no b) = let l : 10 ≤ n = omega arith in sym e ∙ List·getD-eq-default parentNumbers 0 l
+
+-- a fact that is owed must stay
+pub owed-stays : (ns : List ℕ) (i : ℕ) (rest : List ℕ) → OwedBy true ns i rest → Parented rest → ⊥
+owed-stays ns i rest (some, (j, lj, (e, f)), none) parented =
+    let (k, lk, q) = parented j lj (subst (λ r. 0 < r) (sym e) some) in
+    none (k, lk, (q .0 ∙ e, q .1 ∙ f))
+
+-- a fact of a part has the numbers that it has in the whole
+module _ {ns : List ℕ} {n : ℕ} {ms : List ℕ} {m : ℕ} (q : SubFacts ns n ms m) where
+  part-at : (j c x y : ℕ) → j < m → c < 5 → j * 5 + c ≡ x → q .from j * 5 + c ≡ y → getD ms x 0 ≡ getD ns y 0
+  part-at j c x y lt h e f = ap (λ z. getD ms z 0) (sym e) ∙ q .same j lt c h ∙ ap (λ z. getD ns z 0) f
+
+  part-relation : (j : ℕ) → j < m → getD ms (j * 5) 0 ≡ getD ns (q .from j * 5) 0
+  part-relation j lt = part-at j 0 _ _ lt (omega arith) (omega arith) (omega arith)
+
+  part-values : (j : ℕ) → j < m → fourOf ms (j * 5 + 1) ≡ fourOf ns (q .from j * 5 + 1)
+  part-values j lt = four-same ms ns (j * 5 + 1) (q .from j * 5 + 1) (λ c h. part-at j (1 + c) _ _ lt (omega arith) (omega arith) (omega arith))
+
+module _ (ns : List ℕ) (n i : ℕ) (l : length ns ≡ n * 5) (lt : i < n) where
+  abbrev others : List ℕ
+  others = without ns i
+
+  -- where fact k is not fact i, it is one of the others
+  still-there : (k : ℕ) → k < n → (k ≡ i → ⊥) → (m : ℕ) × (m < n - 1) × IsFact others m (getD ns (k * 5) 0) (fourOf ns (k * 5 + 1))
+  unfolding part-without
+  still-there k lk ne = go (decLt k i) (decLt i k)
+    where
+      at : (m : ℕ) → m < n - 1 → skip i m ≡ k → (m : ℕ) × (m < n - 1) × IsFact others m (getD ns (k * 5) 0) (fourOf ns (k * 5 + 1))
+      at m lm e =
+          let part = part-without ns n i l lt in
+          (m, lm, (part-relation part m lm ∙ ap (λ z. getD ns (z * 5) 0) e, part-values part m lm ∙ ap (λ z. fourOf ns (z * 5 + 1)) e))
+
+      go : Dec (k < i) → Dec (i < k) → (m : ℕ) × (m < n - 1) × IsFact others m (getD ns (k * 5) 0) (fourOf ns (k * 5 + 1))
+      go (yes b) d = at k (omega arith) (skip-below i k b)
+      go (no b) (yes d) = let e = skip-above i (k - 1) (omega arith) in at (k - 1) (omega arith) (omega arith)
+      go (no b) (no d) = absurd (ne (omega arith))
+
+  -- one that is not owed can go
+  pub unowed-goes : Parented ns → OwedBy false ns i others → Parented others
+  unowed-goes parented owed j lj some =
+      let few = length-without ns n i l lt in
+      let part = part-without ns n i l lt in
+      let h : j < n - 1 = omega arith in
+      let r = part-relation part j h in
+      let v = part-values part j h in
+      let inside = part .inside j h in
+      let (k, lk, q) = parented (part .from j) (omega arith) (subst (λ z. 0 < parentOf z) r some) in
+      go (q .0 ∙ ap parentOf (sym r)) (q .1 ∙ sym v) (omega arith) (decLt k i) (decLt i k)
+    where
+      Found : Type 0
+      Found = (k : ℕ) × (k < length others / 5) × IsFact others k (parentOf (getD others (j * 5) 0)) (fourOf others (j * 5 + 1))
+
+      other : {k : ℕ} → getD ns (k * 5) 0 ≡ parentOf (getD others (j * 5) 0) → fourOf ns (k * 5 + 1) ≡ fourOf others (j * 5 + 1) → k < n → (k ≡ i → ⊥) → Found
+      other {k} e f lk ne =
+          let (m, lm, q) = still-there k lk ne in
+          let few = length-without ns n i l lt in
+          (m, omega arith, (q .0 ∙ e, q .1 ∙ f))
+
+      own : getD ns (i * 5) 0 ≡ parentOf (getD others (j * 5) 0) → fourOf ns (i * 5 + 1) ≡ fourOf others (j * 5 + 1) → Found
+      own e f =
+          let (m, lm, q) = owed (subst (λ z. 0 < z) (sym e) some) (j, lj, (sym e, sym f)) in
+          (m, lm, (q .0 ∙ e, q .1 ∙ f))
+
+      go : {k : ℕ} → getD ns (k * 5) 0 ≡ parentOf (getD others (j * 5) 0) → fourOf ns (k * 5 + 1) ≡ fourOf others (j * 5 + 1) → k < n → Dec (k < i) → Dec (i < k) → Found
+      go {k} e f lk (yes b) d = other e f lk (λ z. omega arith)
+      go {k} e f lk (no b) (yes d) = other e f lk (λ z. omega arith)
+      go {k} e f lk (no b) (no d) =
+          let z : k ≡ i = omega arith in
+          own (ap (λ y. getD ns (y * 5) 0) (sym z) ∙ e) (ap (λ y. fourOf ns (y * 5 + 1)) (sym z) ∙ f)
 
 -- whether a case is left without fact i, asked of the same facts in another place
 pub left-without : (b : Bool) (p ms ks : List ℕ) (m i : ℕ) → length ms ≡ m * 5 → i < m → ks ≡ without ms i → NoStray p ms → (NoStray p ks → CaseBy b p ks) → CaseBy b p (without ms i)

@@ -3,20 +3,23 @@ use query_layout::FACT_NUMBERS;
 use sheet_format::MOST_ATOMS;
 use sheet_format::MOST_LISTS;
 use sheet_format::MOST_ROWS;
+use sheet_format::PARENTS;
 use tableau_layout::PLAN_NUMBERS;
 use tableau_layout::TABLEAU_ATOMS;
 use tableau_layout::TABLEAU_NUMBERS;
 ghost use mathlib.Core.Path.{_≡_};
-ghost use mathlib.Core.Bool.{true};
-ghost use Prim.Native.Nat.{_+_, _-_, _*_, _<_, _≤_};
+ghost use mathlib.Core.Bool.{true, false};
+ghost use Prim.Native.Nat.{ℕ, _+_, _-_, _*_, _<_, _≤_};
 ghost use lib.ListN.{length, take};
 ghost use Rattle.tableau_layout.specs.Layout.{tableau-atoms};
 ghost use Rattle.sheet_format.specs.Limits.{most-rows};
+ghost use Rattle.sheet_format.specs.Relations.{parentOf};
 ghost use Rattle.tableau_plan.specs.Plan.{rowCount};
 ghost use Rattle.tableau_parts.specs.Walks as walks;
 ghost use Rattle.tableau_parts.specs.Views.{NoStray, Missing};
-ghost use Rattle.case_minimization.specs.Minimization.{IsCase, CaseBy, without, Shrunk};
-ghost use Rattle.case_minimization.specs.Parts.{TriedFact};
+ghost use Rattle.tableau_parts.specs.Walks.{fourOf};
+ghost use Rattle.case_minimization.specs.Minimization.{Parented, IsCase, CaseBy, without, Shrunk};
+ghost use Rattle.case_minimization.specs.Parts.{relationBy, LikeBy, FindsBy, OwedBy, TriedFact};
 
 // A listed row's places of facts, one for each atom of its view; and those of forty rows.
 const MOST_PLACES: usize = MOST_ROWS * MOST_ATOMS;
@@ -172,8 +175,86 @@ fn lacks(p: &[usize; PLAN_NUMBERS], facts: &[usize], row: [usize; 4]) -> bool
     MOST_LISTS <= tableau_answers::giving_list(p, facts, row)
 }
 
-// Whether facts without fact i that give no stray row are a case, and then an answer that the lists lack. The places kept and the row seen are
-// tried first, whatever they are.
+// A relation, or its parent.
+fn relation_by(relation: usize, owing: bool) -> usize
+    ensures { λ r. ⌜ r ≡ relationBy owing relation ⌝ }
+{
+    if owing {
+        return sheet_terms::parent(relation);
+    }
+    relation
+}
+
+// The values of fact k.
+fn values(facts: &[usize], k: usize) -> [usize; 4]
+    requires { ⌜ (k * 5 + 5 ≤ length (now facts)) ⌝ }
+    ensures { λ r. ⌜ r ≡ fourOf (now (facts .entry)) (k * 5 + 1) ⌝ }
+{
+    let at = k * FACT_NUMBERS + 1;
+    [facts[at], facts[at + 1], facts[at + 2], facts[at + 3]]
+}
+
+// Whether fact k is a row of a relation; or where `owing`, whether it owes the relation this row.
+fn is_like(facts: &[usize], k: usize, relation: usize, row: [usize; 4], owing: bool) -> bool
+    requires { ⌜ (k * 5 + 5 ≤ length (now facts)) ⌝ }
+    ensures { λ r. ⌜ LikeBy r owing (now (facts .entry)) k relation row ⌝ }
+{
+    if relation_by(facts[k * FACT_NUMBERS], owing) != relation {
+        return false;
+    }
+    tableau_parts::same(values(facts, k), row)
+}
+
+// Whether one of the facts is so.
+fn finds(facts: &[usize], relation: usize, row: [usize; 4], owing: bool) -> bool
+    ensures { λ r. ⌜ FindsBy r owing (now (facts .entry)) relation row ⌝ }
+{
+    let n = facts.len() / FACT_NUMBERS;
+    let mut k = 0;
+    while k < n {
+        if is_like(facts, k, relation, row, owing) {
+            return true;
+        }
+        k += 1;
+    }
+    false
+}
+
+// Whether a relation is the parent of another.
+fn is_parent(relation: usize) -> bool
+    ensures { λ r. ⌜ (r ≡ false → (n : ℕ) → parentOf n ≡ relation → relation ≡ 0) ⌝ }
+{
+    let mut k = 0;
+    while k < PARENTS.len() {
+        if PARENTS[k] == relation {
+            return true;
+        }
+        k += 1;
+    }
+    false
+}
+
+// Whether one of the rest owes fact i, and none of them is that fact.
+fn is_owed(facts: &[usize], i: usize, rest: &[usize]) -> bool
+    requires { ⌜ (i * 5 + 5 ≤ length (now facts)) ⌝ }
+    ensures { λ r. ⌜ OwedBy r (now (facts .entry)) i (now (rest .entry)) ⌝ }
+{
+    let relation = facts[i * FACT_NUMBERS];
+    if relation == 0 {
+        return false;
+    }
+    if !is_parent(relation) {
+        return false;
+    }
+    let row = values(facts, i);
+    if !finds(rest, relation, row, true) {
+        return false;
+    }
+    !finds(rest, relation, row, false)
+}
+
+// Whether facts without fact i that give no stray row, and owe none that they lack, are a case, and then an answer that the lists lack. The
+// places kept and the row seen are tried first, whatever they are.
 fn is_left(
     p: &[usize; PLAN_NUMBERS],
     facts: &[usize],
@@ -181,7 +262,7 @@ fn is_left(
     i: usize,
     seen: [usize; 4],
 ) -> query_rows::Row
-    ensures { λ r. ⌜ (walks.FormedPlan (now (p .entry)) → NoStray (now (p .entry)) (now (facts .entry)) → CaseBy (r .some) (now (p .entry)) (now (facts .entry))) ⌝ }
+    ensures { λ r. ⌜ (walks.FormedPlan (now (p .entry)) → NoStray (now (p .entry)) (now (facts .entry)) → Parented (now (facts .entry)) → CaseBy (r .some) (now (p .entry)) (now (facts .entry))) ⌝ }
 {
     if !all_given(p, facts, by, i) {
         return query_rows::Row {
@@ -255,18 +336,30 @@ fn put_back(facts: &[usize], n: usize, i: usize, room: &mut [usize])
     }
 }
 
-// Whether a case is left of n facts in the room that lacks fact i, and then an answer that the lists lack.
+// Whether a case is left of n facts in the room that lacks fact i, and then an answer that the lists lack. What one of them owes must stay.
 fn drops(
     p: &[usize; PLAN_NUMBERS],
+    facts: &[usize],
     room: &[usize],
     n: usize,
     by: &[usize; MOST_PLACES],
     i: usize,
     seen: [usize; 4],
 ) -> query_rows::Row
-    requires { ⌜ (0 < n) × (n ≤ tableau-atoms) × (n * 5 ≤ length (now room)) ⌝ }
-    ensures { λ r. ⌜ (walks.FormedPlan (now (p .entry)) → NoStray (now (p .entry)) (take ((n - 1) * 5) (now (room .entry))) → CaseBy (r .some) (now (p .entry)) (take ((n - 1) * 5) (now (room .entry)))) ⌝ }
+    requires { ⌜ (i < n) × (n ≤ tableau-atoms) × (n * 5 ≤ length (now facts)) × (n * 5 ≤ length (now room)) ⌝ }
+    ensures { λ r. ⌜ (walks.FormedPlan (now (p .entry)) → Parented (take (n * 5) (now (facts .entry))) → take ((n - 1) * 5) (now (room .entry)) ≡ without (take (n * 5) (now (facts .entry))) i
+        → NoStray (now (p .entry)) (take ((n - 1) * 5) (now (room .entry))) → CaseBy (r .some) (now (p .entry)) (take ((n - 1) * 5) (now (room .entry)))) ⌝ }
 {
+    if is_owed(
+        &facts[..n * FACT_NUMBERS],
+        i,
+        &room[..(n - 1) * FACT_NUMBERS],
+    ) {
+        return query_rows::Row {
+            some: false,
+            values: [0; 4],
+        };
+    }
     is_left(p, &room[..(n - 1) * FACT_NUMBERS], by, i, seen)
 }
 
@@ -287,7 +380,7 @@ fn pass(
     let mut m = n;
     let mut i = 0;
     while i < m {
-        let left = drops(p, &room, m, by, i, seen);
+        let left = drops(p, facts, &room, m, by, i, seen);
         if left.some {
             close_gap(facts, m, i);
             m -= 1;

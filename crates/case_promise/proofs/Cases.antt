@@ -7,7 +7,7 @@ use Prim.Native.Nat.{ℕ, _+_, _<_, min}
 use native.Mathlib.Omega.{arith}
 use lib.IntN.{pos}
 use lib.ListN.{length}
-use Rattle.case_verdicts.proofs.Plain.{no-keys, no-parents}
+use Rattle.case_verdicts.proofs.Plain.{no-keys}
 use Rattle.tableau_layout.specs.Layout.{question-block, list-block, view-block}
 use Rattle.sheet_format.specs.Limits.{most-atoms}
 use Rattle.list_laws.specs.Order.{_⊏_}
@@ -19,17 +19,18 @@ use Rattle.query_join.specs.Joins.{Given}
 use Rattle.query_encoding.specs.Encoding.{BlockNumbers, FactNumbers, Shaped, ShapedLog, padded}
 use Rattle.query_encoding.proofs.Bridge.{answer-given, given-answer, head-length}
 use Rattle.query_encoding.proofs.Order.{pad-more, pad-same}
-use Rattle.case_verdicts.specs.Table.{relation, parents, Lawful}
+use Rattle.case_verdicts.specs.Table.{relation, Lawful}
 use Rattle.case_verdicts.specs.Verdict.{Sheet, Agreeing, Case}
 use Rattle.tableau_plan.specs.Plan.{rowAt, rowValues, listAt, viewCount, blockNumbers, blockSize}
 use Rattle.tableau_parts.specs.Views.{GivenAt, NoStray, AllGiven, Agree, Missing, LeastMissing}
-use Rattle.case_minimization.specs.Minimization.{IsCase}
+use Rattle.case_minimization.specs.Minimization.{Parented, IsCase}
 use Rattle.search_task.specs.Task.{ReadyPlan}
 use Rattle.search_task.proofs.Node.{in-nth, none-stray}
 use Rattle.tableau_plan.proofs.Whole.{nth-in}
 use Rattle.search_task.proofs.ReadyLaws.{ready-task}
 use Rattle.search_task.proofs.NodeLaws.{list-in, list-index, list-shaped}
 use Rattle.search_task.specs.declared.Goal.the-variants.{Counterexample}
+use Rattle.case_promise.proofs.Owed.{parented-numbers, numbers-parented}
 
 -- each relation is one of the ten
 abbrev pub KnownLog : Log → Type 0
@@ -75,19 +76,19 @@ module _ (p : List ℕ) (x : Sheet) (r : ReadyPlan p x) {ns : List ℕ} {log : L
           let (i, li, f, q) = r .plan .every-row v lt t (a .agrees (nth (x .views) v) (view-in v lt) .none-more t b) in
           (i, li, f, q ∙ sym e)
 
-  lawful : KnownLog log → Lawful (x .table) log
-  lawful known = record {
+  lawful : KnownLog log → Parented ns → Lawful (x .table) log
+  lawful known owed = record {
     formed = λ f m. record { known = subst (λ k. 0 < k) (sym (columns f)) (known f m); full = sh f m .0 ∙ sym (columns f) };
-    parented = λ f m g n. absurd (subst (In g) (no-parents (r .plain) f) n);
+    parented = numbers-parented (r .plain) fn (r .accepted .table) sh owed;
     keyed = λ f g m n k. no-keys (r .plain) f g k;
   }
     where
       columns : (f : Fact) → relation (x .table) (f .rel) .columns ≡ columnsOf (pos (f .rel))
       columns f = r .plain .columns (f .rel)
 
-  agreeing : KnownLog log → Agree p ns → Agreeing x log
-  agreeing known (all, none) = record {
-    lawful = lawful known;
+  agreeing : KnownLog log → Parented ns → Agree p ns → Agreeing x log
+  agreeing known owed (all, none) = record {
+    lawful = lawful known owed;
     agrees = λ w m. record { none-more = none-stray p x x (r .plan) (ready-task p x r Counterexample) log ns fn none w m; none-missing = given w m };
   }
     where
@@ -117,16 +118,16 @@ module _ (p : List ℕ) (x : Sheet) (r : ReadyPlan p x) {ns : List ℕ} {log : L
 
   -- the numbers of a case
   pub case-numbers : (a : List ℕ) → Case x log a → IsCase p ns
-  case-numbers a c = (agree (c .agreeing), (padded a, missing a c))
+  case-numbers a c = (agree (c .agreeing), (padded a, missing a c), parented-numbers (r .plain) fn (c .agreeing .lawful .parented))
 
   module _ (known : KnownLog log) where
-    case-of : Agree p ns → (u : List ℕ) → Missing p ns u → (a : List ℕ) × (u ≡ padded a) × Case x log a
-    case-of ag u m =
+    case-of : Agree p ns → Parented ns → (u : List ℕ) → Missing p ns u → (a : List ℕ) × (u ≡ padded a) × Case x log a
+    case-of ag owed u m =
         let (a, e, b) = answer-at p 0 (r .plan .question) (r .question) fn sh u (m .asked) in (
           a,
           e,
           record {
-            agreeing = agreeing known ag;
+            agreeing = agreeing known owed ag;
             asked = b;
             missing = λ l i c.
                 let (j, lt, f) = list-index p x r l i in
@@ -136,12 +137,12 @@ module _ (p : List ℕ) (x : Sheet) (r : ReadyPlan p x) {ns : List ℕ} {log : L
 
     -- and back
     pub numbers-case : IsCase p ns → (a : List ℕ) × Case x log a
-    numbers-case (ag, (u, m)) = let (a, e, c) = case-of ag u m in (a, c)
+    numbers-case (ag, (u, m), owed) = let (a, e, c) = case-of ag owed u m in (a, c)
 
     -- the least missing row is the least answer that the log is a case for
-    pub least-case : Agree p ns → (u : List ℕ) → LeastMissing p ns u → (a : List ℕ) × (u ≡ padded a) × Case x log a × ((b : List ℕ) → Case x log b → (a ≡ b) ⊎ (a ≺ b))
-    least-case ag u m =
-        let (a, e, c) = case-of ag u (m .missing) in (
+    pub least-case : Agree p ns → Parented ns → (u : List ℕ) → LeastMissing p ns u → (a : List ℕ) × (u ≡ padded a) × Case x log a × ((b : List ℕ) → Case x log b → (a ≡ b) ⊎ (a ≺ b))
+    least-case ag owed u m =
+        let (a, e, c) = case-of ag owed u (m .missing) in (
           a,
           e,
           c,

@@ -1,3 +1,4 @@
 pub mod Words
+pub mod Owed
 pub mod Cases
 pub mod Over

@@ -215,7 +215,7 @@ module _ (p : List ℕ) (x : Sheet) (r : ReadyPlan p x) {ns : List ℕ} {log : L
   -- shrunk it can be handed over
   pub handed-numbers : {ks : List ℕ} {k : ℕ} → Shrunk p (take (m * 5) ms) m ks k → (u : List ℕ) → LeastMissing p ks u → HandedNumbers x ks k u
   handed-numbers {ks} {k} s u least =
-      let (a, e, c, l) = least-case p x r told shaped (λ f i. known f (within .at f i)) (s .still .0) u least in
+      let (a, e, c, l) = least-case p x r told shaped (λ f i. known f (within .at f i)) (s .still .0) (s .still .2) u least in
       record {
         handed = check.handed x (r .accepted) rest a c l spare-free distinct (λ f i. made f (within .at f i));
         log-is = refl;

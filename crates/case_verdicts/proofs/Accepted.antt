@@ -10,7 +10,7 @@ use lib.IntN.{ℤ, pos, negsuc}
 use lib.ListN.{length, length-map, drop}
 use borrow.Author.Tests.{eqb-true, eqb-false, ltb-true, not-true, not-false}
 use Rattle.sheet_format.specs.Limits.{constant-end, most-variables}
-use Rattle.sheet_format.specs.Relations.{relations, columnsOf}
+use Rattle.sheet_format.specs.Relations.{columnsOf}
 use Rattle.sheet_format.specs.Line.{Line, all, null, natural}
 use Rattle.sheet_format.specs.Cause.{Kind, question, saved, view, atom, row, other, kind, rest, second, terms, orOut, termOf, isTerm, isConstant, term, constant, inPlace, misplaced, wrongColumns, outOfRange, tooMany, wrongLength, cause, start, nextBy, next, refusal, scan, isHead, isAtom, atoms, same, occurs, bound, unsafe, heads, refusalOf}
 use Rattle.sheet_format.specs.declared.Refusal.{Refusal}
@@ -27,7 +27,7 @@ use Rattle.case_verdicts.specs.Table.{relation}
 use Rattle.case_verdicts.specs.Accepted.{width, FineTerm, Fine, FineAtom, FineBlock, FineSheet, variable, Bound, Safe, Evaluable}
 use Rattle.case_verdicts.specs.Sheets.{ten, top, isQuestion, isSaved, isView, sheetOf}
 use Rattle.case_verdicts.proofs.Lists.{in-gather}
-use Rattle.case_verdicts.proofs.Tables.{plain-columns, plain-sound}
+use Rattle.case_verdicts.proofs.Tables.{ten-columns, ten-sound}
 
 -- ---- words
 
@@ -55,10 +55,9 @@ row-word (negsuc n) e = omega arith
 -- ---- atoms
 
 atom-columns : (k : Line) → AtomLine k → length (terms k) ≡ relation ten (natural (second k)) .columns
-unfolding columnsOf
 atom-columns k a =
     let (r, e) = a .relation in
-    a .columns ∙ ap columnsOf e ∙ sym (plain-columns relations r) ∙ ap (λ z. relation ten (natural z) .columns) (sym e)
+    a .columns ∙ ap columnsOf e ∙ sym (ten-columns (suc r)) ∙ ap (λ z. relation ten (natural z) .columns) (sym e)
 
 atom-fine : (k : Line) → AtomLine k → FineAtom top ten (atomOf k)
 atom-fine k a = record {
@@ -305,7 +304,7 @@ module _ (ls : List Line) (ok : refusalOf ls .number ≡ 0) where
 
   pub accepted-sheet : FineSheet top (sheetOf ls)
   accepted-sheet = record {
-    table = plain-sound relations;
+    table = ten-sound;
     question = first-block (FineBlock top ten) (record { head = λ t m. absurd m; atoms = λ a m. absurd m; apart = λ d m. absurd m }) (blocks isQuestion ls)
         (λ w m. read-fine isQuestion questions-head w (accepted-read isQuestion w m));
     lists = λ l m. let (w, r, e) = list-read l m in subst (FineBlock top ten) (sym e) (read-fine isSaved saved-head w r);

@@ -7,13 +7,13 @@ use native.Mathlib.Omega.{arith}
 use lib.ListN.{length}
 use Rattle.query_meaning.specs.Meaning.{Term, Fact, Log, Atom, Block, In, row, factOf, Answer}
 use Rattle.query_meaning.specs.Blocks.{View}
-use Rattle.case_verdicts.specs.Table.{relation, parents}
+use Rattle.case_verdicts.specs.Table.{parents, Sound}
 use Rattle.case_verdicts.specs.Verdict.{Sheet}
 use Rattle.case_verdicts.specs.Handed.{Distinct, Handed}
 use Rattle.case_verdicts.proofs.Laws.{SubLog}
 use Rattle.case_verdicts.proofs.Distinct.{at-most, in-or}
 use Rattle.case_verdicts.proofs.Decide.{fact?, first-all}
-use Rattle.case_verdicts.proofs.Tableau.{of-parents}
+use Rattle.case_verdicts.proofs.Tableau.{no-grandparent}
 use Rattle.case_verdicts.proofs.Shrink.{Enough, drops}
 
 -- these are the log's facts, each once
@@ -22,18 +22,26 @@ pub record Exactly (log facts : Log) : Type 0 where
   pub no-more : SubLog log facts
   pub count : length log ≡ length facts
 
--- for tables without parents; with them a fact can be needed because another owes it
-pub needed : {x : Sheet} {top end : ℕ} → ((n : ℕ) → relation (x .table) n .parent ≡ 0) → (h : Handed top end x) (facts : Log)
-    → Distinct facts → SubLog facts (h .log) → Enough x facts (h .answer) → Exactly (h .log) facts
-needed {x} parentless h facts once sub enough =
-    let all : (f : Fact) → In f (h .log) → In f facts = λ f m.
-    ⊎-elim (λ i. i) (λ out. absurd (drops x (h .log) facts (h .answer) (h .is) (h .spare-free) sub enough f m out (λ g n p. unowed f g p))) (in-or fact? f facts) in
+-- facts of the log that are enough, and with them what they owe: a fact that owes another is owed by none, so it is one of these
+pub needed : {x : Sheet} {top end : ℕ} → Sound (x .table) → (h : Handed top end x) (small facts : Log) → Distinct facts → SubLog small facts → SubLog facts (h .log)
+    → ((g : Fact) → In g small → (f : Fact) → In f (parents (x .table) g) → In f facts) → Enough x small (h .answer) → Exactly (h .log) facts
+needed {x} sound h small facts once low sub closed enough =
     let few = at-most fact? (h .log) facts (h .distinct) all in
     let many = at-most fact? facts (h .log) once (sub .at) in
     record { has = sub; no-more = record { at = all }; count = omega arith }
   where
-    unowed : (f g : Fact) → In f (parents (x .table) g) → ⊥
-    unowed f g p = let z = parentless (g .rel) in let l = of-parents (x .table) g f p .0 in omega arith
+    within : SubLog small (h .log)
+    within = record { at = λ f m. sub .at f (low .at f m) }
+
+    -- a fact that none owes is enough for something
+    unowed : (f : Fact) → In f (h .log) → ((g : Fact) → In g (h .log) → In f (parents (x .table) g) → ⊥) → In f small
+    unowed f m none = ⊎-elim (λ i. i) (λ out. absurd (drops x (h .log) small (h .answer) (h .is) (h .spare-free) within enough f m out none)) (in-or fact? f small)
+
+    owing : (g f : Fact) → In g (h .log) → In f (parents (x .table) g) → In f facts
+    owing g f n p = closed g (unowed g n (λ k i q. no-grandparent (x .table) sound k g f q p)) f p
+
+    all : (f : Fact) → In f (h .log) → In f facts
+    all f m = ⊎-elim (λ i. i) (λ out. absurd (out (low .at f (unowed f m (λ g n p. out (owing g f n p)))))) (in-or fact? f facts)
 
 -- ---- blocks of one atom
 

@@ -6,25 +6,31 @@ use mathlib.Core.Logic.{inl, inr, ⊎-elim}
 use Prim.Native.Nat.{ℕ, _≤_}
 use native.Mathlib.Omega.{arith}
 use lib.Dec.{eqb}
-use Rattle.sheet_format.specs.Relations.{relations}
 use Rattle.sheet_format.specs.Cause.{kindOf, atoms}
 use Rattle.query_meaning.specs.Meaning.{Fact, Log, In, fact, Answer}
 use Rattle.query_meaning.specs.Blocks.{rows, blocks}
 use Rattle.query_meaning.specs.Facts.{value-end}
 use Rattle.query_meaning.specs.Evaluate.{_≺_}
+use Rattle.case_verdicts.specs.Table.{relation, parents}
 use Rattle.case_verdicts.specs.Verdict.{Sheet, Agrees, Case}
-use Rattle.case_verdicts.specs.Handed.{Handed}
-use Rattle.case_verdicts.specs.Sheets.{top, sheetOf}
+use Rattle.case_verdicts.specs.Handed.{Distinct, Handed}
+use Rattle.case_verdicts.specs.Sheets.{ten, top, sheetOf}
 use Rattle.case_verdicts.specs.Examples.{Shows, sheet, whole, view, all-sig, all-beat, sig-straps, seven, beat-and-noise, one-pause, same-tick}
 use Rattle.case_verdicts.proofs.Laws.{monotone}
-use Rattle.case_verdicts.proofs.Tables.{plain-parentless}
-use Rattle.case_verdicts.proofs.Decide.{head-eq, tail-eq}
+use Rattle.case_verdicts.proofs.Tables.{ten-sound}
+use Rattle.case_verdicts.proofs.Distinct.{once-distinct}
+use Rattle.case_verdicts.proofs.Decide.{fact?, first-all, head-eq, tail-eq}
 use Rattle.case_verdicts.proofs.Needed.{Exactly, needed, answer-of, sole, both, two-distinct, one-view}
 use Rattle.case_verdicts.proofs.Tests.{answers?, of-passed}
 
 -- the fact Sig(s,t)
 abbrev signal : ℕ → ℕ → Fact
 signal s t = fact 4 (s ∷ t ∷ [])
+
+-- it owes nothing
+signal-free : (s t : ℕ) (P : Fact → Type 0) (f : Fact) → In f (parents ten (signal s t)) → P f
+unfolding relation
+signal-free s t P f m = absurd m
 
 -- m for the variable 1, and n for the others
 abbrev put-two : ℕ → ℕ → ℕ → ℕ
@@ -63,9 +69,11 @@ module _ (h : Handed top value-end signals-sheet) where
   signals-given = of-passed (answers? all-sig both-signals two-signals) refl .only
 
   signals-only : Exactly (h .log) both-signals
-  signals-only = needed (plain-parentless relations) h both-signals
+  signals-only = needed ten-sound h both-signals both-signals
       (two-distinct _ _ (λ e. let z : _≡_ {A = ℕ} 1 2 = head-eq (tail-eq (λ i. e i .row)) in absurd (omega arith)))
+      (record { at = λ f m. m })
       (record { at = both (λ f. In f (h .log)) _ _ (signal-in _ (inl refl)) (signal-in _ (inr (inl refl))) })
+      (both (λ g. (f : Fact) → In f (parents ten g) → In f both-signals) _ _ (signal-free 7 1 _) (signal-free 7 2 _))
       (record { given = one-view both-signals _ signals-given; asked = signals-given _ signal-asked })
 
   -- there is no beat, so the list lacks the first as well
@@ -116,9 +124,11 @@ module _ (h : Handed top value-end straps-sheet) where
       let facts = signal 7 t ∷ signal 8 u ∷ [] in
       let first = answer-of facts _ _ (put-two 7 t) (inl refl) in
       let second = answer-of facts _ _ (put-two 8 u) (inr (inl refl)) in
-      needed (plain-parentless relations) h facts
+      needed ten-sound h facts facts
       (two-distinct _ _ (λ e. let z : _≡_ {A = ℕ} 7 8 = head-eq (λ i. e i .row) in absurd (omega arith)))
+      (record { at = λ f i. i })
       (record { at = both (λ f. In f (h .log)) _ _ m n })
+      (both (λ g. (f : Fact) → In f (parents ten g) → In f facts) _ _ (signal-free 7 t _) (signal-free 8 u _))
       (record { given = one-view facts _ (both (Answer facts sig-straps) _ _ first second); asked = subst (Answer facts sig-straps) (sym eight-missing) second })
 
   -- the facts, but for their ticks
@@ -136,16 +146,42 @@ ticks-sheet = sheet (beat-and-noise 2) (one-pause ∷ []) (view same-tick [] ∷
 abbrev beat-noise : Log
 beat-noise = fact 5 (7 ∷ 1 ∷ []) ∷ fact 6 (7 ∷ 2 ∷ []) ∷ []
 
+-- and the signals that they owe
+abbrev with-signals : Log
+with-signals = signal 7 1 ∷ signal 7 2 ∷ beat-noise
+
+four-distinct : Distinct with-signals
+four-distinct = once-distinct fact? with-signals
+
 module _ (h : Handed top value-end ticks-sheet) where
-  -- what is asked for are facts, and no row is listed
-  ticks-only : Exactly (h .log) beat-noise
-  ticks-only = needed (plain-parentless relations) h beat-noise
-      (two-distinct _ _ (λ e. let z : _≡_ {A = ℕ} 5 6 = λ i. e i .rel in absurd (omega arith)))
-      (record { at = both (λ f. In f (h .log)) _ _ (h .is .asked .holds _ (inl refl)) (h .is .asked .holds _ (inr (inl refl))) })
+  -- what is asked for are facts
+  beat-noise-in : (f : Fact) → In f beat-noise → In f (h .log)
+  beat-noise-in = both (λ f. In f (h .log)) _ _ (h .is .asked .holds _ (inl refl)) (h .is .asked .holds _ (inr (inl refl)))
+
+  -- so are the signals
+  signals-in : (f : Fact) → In f with-signals → In f (h .log)
+  unfolding relation
+  signals-in =
+      let beat = beat-noise-in _ (inl refl) in
+      let noise = beat-noise-in _ (inr (inl refl)) in
+      first-all (λ f. In f (h .log)) _ (signal 7 2 ∷ beat-noise) (h .is .agreeing .lawful .parented _ beat _ (inl refl))
+      (first-all (λ f. In f (h .log)) _ beat-noise (h .is .agreeing .lawful .parented _ noise _ (inl refl)) beat-noise-in)
+
+  signals-owed : (g : Fact) → In g beat-noise → (f : Fact) → In f (parents ten g) → In f with-signals
+  unfolding relation
+  signals-owed = both (λ g. (f : Fact) → In f (parents ten g) → In f with-signals) _ _
+      (sole (λ f. In f with-signals) _ (inl refl)) (sole (λ f. In f with-signals) _ (inr (inl refl)))
+
+  -- no row is listed
+  ticks-only : Exactly (h .log) with-signals
+  ticks-only = needed ten-sound h beat-noise with-signals four-distinct
+      (record { at = λ f m. inr (inr m) })
+      (record { at = signals-in })
+      signals-owed
       (record {
         given = one-view beat-noise _ (λ r m. absurd m);
         asked = subst (Answer beat-noise (beat-and-noise 2)) (h .is .asked .gives) (of-passed (answers? (beat-and-noise 2) beat-noise ([] ∷ [])) refl .only _ (inl refl));
       })
 
-  pub ticks-show : Shows ticks-sheet [] 2 beat-noise h
+  pub ticks-show : Shows ticks-sheet [] 4 with-signals h
   ticks-show = record { answer = sym (h .is .asked .gives); count = ticks-only .count; facts = ticks-only .has .at }

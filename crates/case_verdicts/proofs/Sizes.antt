@@ -9,7 +9,7 @@ use native.Mathlib.Omega.{arith}
 use lib.Dec.{eqb}
 use lib.ListN.{length, length-map, drop}
 use borrow.Author.Tests.{eqb-true, leb-false}
-use Rattle.tableau_layout.specs.Layout.{most-copies, tableau-atoms}
+use Rattle.tableau_layout.specs.Layout.{most-copies, copied-atoms}
 use Rattle.sheet_format.specs.Line.{Line, natural}
 use Rattle.sheet_format.specs.Cause.{Kind, question, saved, view, atom, row, other, kind, rest, tooMany, start, nextBy, next, scan, isAtom, atoms, refusalOf}
 use Rattle.sheet_format.specs.declared.Seen.{Seen}
@@ -178,7 +178,7 @@ module _ (ls : List Line) (ok : refusalOf ls .number ≡ 0) where
       let r = rows-most ws (λ v m. few v (inr m)) in
       omega arith
 
-  pub accepted-size : size (sheetOf ls) ≤ tableau-atoms
+  pub accepted-size : size (sheetOf ls) ≤ copied-atoms
   accepted-size =
       let q = question-atoms in
       let r = rows-few in

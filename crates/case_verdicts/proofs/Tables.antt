@@ -1,13 +1,16 @@
--- A table is sound if each of its relations is; tables of plain relations are, and so are the ten.
+-- A table is sound if each of its relations is; so are the ten.
 use mathlib.Core.Path.{_≡_, refl}
-use mathlib.Core.List.{List, [], _∷_, map}
+use mathlib.Core.List.{List, [], _∷_}
 use mathlib.Core.Logic.{_⊎_, inl, inr, ⊎-elim}
 use Prim.Native.Nat.{ℕ, zero, suc, _<_}
 use native.Mathlib.Omega.{arith}
-use lib.ListN.{getD}
+use lib.IntN.{pos}
+use lib.ListN.{getD, length}
+use Rattle.sheet_format.specs.Relations.{relations, parentNumbers, columnsOf, parentOf}
 use Rattle.query_meaning.specs.Meaning.{In}
 use Rattle.case_verdicts.specs.Table.{Relation, Table, unknown, relation, Sound}
-use Rattle.case_verdicts.specs.Sheets.{plain}
+use Rattle.case_verdicts.specs.Sheets.{tableOf, ten}
+use Rattle.case_verdicts.proofs.Decide.{first-all}
 
 line-in : (table : Table) (n : ℕ) → 0 < getD table n unknown .parent → In (getD table n unknown) table
 line-in [] n h = absurd (omega arith)
@@ -30,25 +33,43 @@ sound table each = record {
   parentless = λ n h. ⊎-elim (λ e. absurd (omega arith)) (λ p. p .1) (each _ (relation-in table n h));
 }
 
--- ---- plain relations
+-- ---- the ten
 
-line-plain : (cs : List ℕ) (n : ℕ) → (getD (map plain cs) n unknown .parent ≡ 0) × (getD (map plain cs) n unknown .columns ≡ getD cs n 0)
-line-plain [] n = (refl, refl)
-line-plain (c ∷ cs) zero = (refl, refl)
-line-plain (c ∷ cs) (suc n) = line-plain cs n
+line-of : (ns ps : List ℕ) (n : ℕ) → length ns ≡ length ps
+    → (getD (tableOf ns ps) n unknown .columns ≡ getD ns n 0) × (getD (tableOf ns ps) n unknown .key ≡ 0) × (getD (tableOf ns ps) n unknown .parent ≡ getD ps n 0)
+line-of [] [] n e = (refl, refl, refl)
+line-of [] (p ∷ ps) n e = absurd (omega arith)
+line-of (c ∷ ns) [] n e = absurd (omega arith)
+line-of (c ∷ ns) (p ∷ ps) zero e = (refl, refl, refl)
+line-of (c ∷ ns) (p ∷ ps) (suc n) e = line-of ns ps n (omega arith)
 
-module _ (cs : List ℕ) where
-  pub plain-parentless : (n : ℕ) → relation (map plain cs) n .parent ≡ 0
-  unfolding relation
-  plain-parentless zero = refl
-  plain-parentless (suc n) = line-plain cs n .0
+pub ten-columns : (n : ℕ) → relation ten n .columns ≡ columnsOf (pos n)
+unfolding relation columnsOf
+ten-columns zero = refl
+ten-columns (suc n) = line-of relations parentNumbers n refl .0
 
-  pub plain-columns : (n : ℕ) → relation (map plain cs) (suc n) .columns ≡ getD cs n 0
-  unfolding relation
-  plain-columns n = line-plain cs n .1
+pub ten-keyless : (n : ℕ) → relation ten n .key ≡ 0
+unfolding relation
+ten-keyless zero = refl
+ten-keyless (suc n) = line-of relations parentNumbers n refl .1
 
-  pub plain-sound : Sound (map plain cs)
-  plain-sound = record {
-    columns = λ n h. absurd (let e = plain-parentless n in omega arith);
-    parentless = λ n h. absurd (let e = plain-parentless n in omega arith);
-  }
+pub ten-parents : (n : ℕ) → relation ten n .parent ≡ parentOf n
+unfolding relation parentOf
+ten-parents zero = refl
+ten-parents (suc n) = line-of relations parentNumbers n refl .2
+
+abbrev Each : (Relation → Type 0) → Table → Type 0
+Each P [] = Unit {0}
+Each P (r ∷ t) = P r × Each P t
+
+each-in : (P : Relation → Type 0) (t : Table) → Each P t → (r : Relation) → In r t → P r
+each-in P [] none r m = absurd m
+each-in P (q ∷ t) (p, rest) r m = first-all P q t p (each-in P t rest) r m
+
+-- beats and noise have a parent, which fits them
+ten-each : Each (LineSound ten) ten
+unfolding relation
+ten-each = (inl refl, (inl refl, (inl refl, (inl refl, (inr (refl, refl), (inr (refl, refl), (inl refl, (inl refl, (inl refl, (inl refl, tt))))))))))
+
+pub ten-sound : Sound ten
+ten-sound = sound ten (each-in (LineSound ten) ten ten-each)

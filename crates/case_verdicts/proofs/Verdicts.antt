@@ -6,7 +6,6 @@ use Prim.Native.Nat.{ℕ, zero, suc, _<_, _≤_}
 use native.Mathlib.Omega.{arith}
 use lib.ListN.{length}
 use Rattle.tableau_layout.specs.Layout.{tableau-atoms}
-use Rattle.sheet_format.specs.Relations.{relations}
 use Rattle.sheet_format.specs.Line.{Line}
 use Rattle.sheet_format.specs.Cause.{refusalOf}
 use Rattle.query_meaning.specs.Meaning.{Fact, In}
@@ -14,7 +13,6 @@ use Rattle.query_meaning.specs.Facts.{value-end}
 use Rattle.case_verdicts.specs.Verdict.{Sheet, Covered, NoLog, HasVerdict}
 use Rattle.case_verdicts.specs.Handed.{Handed}
 use Rattle.case_verdicts.specs.Sheets.{top, sheetOf}
-use Rattle.case_verdicts.proofs.Tables.{plain-parentless}
 use Rattle.case_verdicts.proofs.Known.{stands-small}
 use Rattle.case_verdicts.proofs.Check.{judged}
 use Rattle.case_verdicts.proofs.Accepted.{accepted-sheet, accepted-evaluable, accepted-question}
@@ -48,10 +46,10 @@ module _ (ls : List Line) (ok : refusalOf ls .number ≡ 0) where
       only : (n : ℕ) → HasVerdict (sheetOf ls) n → (n : ℕ) × HasVerdict (sheetOf ls) n × ((m : ℕ) → HasVerdict (sheetOf ls) m → m ≡ n)
       only n h = (n, h, λ m k. exclusive (sheetOf ls) m n k h)
 
-  -- ---- what is handed over: at most 126 facts, with values that a fact can have
+  -- ---- what is handed over: at most 252 facts, with values that a fact can have
 
   pub handed-few : (h : Handed top value-end (sheetOf ls)) → length (h .log) ≤ tableau-atoms
-  handed-few h = let s = accepted-size ls ok in let m = h .most (plain-parentless relations) in omega arith
+  handed-few h = let s = accepted-size ls ok in let m = h .most-with-parents in omega arith
 
   pub handed-small : (h : Handed top value-end (sheetOf ls)) (f : Fact) → In f (h .log) → (n : ℕ) → In n (f .row) → n < value-end
   handed-small h f m n i = ⊎-elim (λ s. let l = stands-small (sheetOf ls) (accepted-sheet ls ok) n s in omega arith) (λ r. r .1) (h .values f m n i)

@@ -143,8 +143,11 @@ examples =
     ∷ judge (sheet sig-straps (seven ∷ []) (view sig-straps ((7 ∷ []) ∷ (8 ∷ []) ∷ []) ∷ [])) (case (8 ∷ []) 2 [])
     ∷ judge-any (view (block [] (beat both ∷ [])) ([] ∷ []) ∷ view all-beat [] ∷ [])
     ∷ judge (sheet strap-and-pause (all-straps ∷ []) (view paused-strap [] ∷ [])) covered
-    ∷ judge (sheet (beat-and-noise 2) (one-pause ∷ []) (view same-tick [] ∷ [])) (case [] 2 (fact 5 (7 ∷ 1 ∷ []) ∷ fact 6 (7 ∷ 2 ∷ []) ∷ []))
+    ∷ judge-any (view all-beat ((7 ∷ 1 ∷ []) ∷ []) ∷ view all-sig [] ∷ [])
+    ∷ judge (sheet all-beat (all-sig ∷ []) []) covered
+    ∷ judge (sheet (beat-and-noise 2) (one-pause ∷ []) (view same-tick [] ∷ [])) (case [] 4 (fact 4 (7 ∷ 1 ∷ []) ∷ fact 4 (7 ∷ 2 ∷ []) ∷ fact 5 (7 ∷ 1 ∷ []) ∷ fact 6 (7 ∷ 2 ∷ []) ∷ []))
     ∷ judge (sheet (beat-and-noise 1) (one-pause ∷ []) (view same-tick [] ∷ [])) covered
     ∷ evaluate sig-straps (fact 4 (7 ∷ 1 ∷ []) ∷ fact 4 (7 ∷ 2 ∷ []) ∷ fact 4 (8 ∷ 2 ∷ []) ∷ []) ((7 ∷ []) ∷ (8 ∷ []) ∷ [])
+    ∷ evaluate all-beat (fact 5 (7 ∷ 1 ∷ []) ∷ []) ((7 ∷ 1 ∷ []) ∷ [])
     ∷ evaluate-any [] []
     ∷ []

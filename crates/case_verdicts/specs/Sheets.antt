@@ -1,22 +1,24 @@
 -- The sheet that accepted lines mean.
 use mathlib.Core.Bool.{Bool, true, false}
-use mathlib.Core.List.{List, map}
+use mathlib.Core.List.{List, [], _∷_, map}
 use Prim.Native.Nat.{ℕ}
 use Rattle.sheet_format.specs.Limits.{constant-end}
-use Rattle.sheet_format.specs.Relations.{relations}
+use Rattle.sheet_format.specs.Relations.{relations, parentNumbers}
 use Rattle.sheet_format.specs.Line.{Line}
 use Rattle.sheet_format.specs.Cause.{Kind, question, saved, view, atom, row, other}
 use Rattle.query_meaning.specs.Blocks.{View, blocks, nth}
-use Rattle.case_verdicts.specs.Table.{Relation, Table}
+use Rattle.case_verdicts.specs.Table.{Table}
 use Rattle.case_verdicts.specs.Verdict.{Sheet}
 
--- a relation without key and parent
-abbrev pub plain : ℕ → Relation
-plain n = record { columns = n; key = 0; parent = 0 }
+-- relations with these columns and parents, one after the other, and without keys
+abbrev pub tableOf : List ℕ → List ℕ → Table
+tableOf [] ps = []
+tableOf (n ∷ ns) [] = []
+tableOf (n ∷ ns) (p ∷ ps) = record { columns = n; key = 0; parent = p } ∷ tableOf ns ps
 
--- the ten relations (The log's relations)
+-- the ten relations (The log's relations): a beat and noise are signals
 abbrev pub ten : Table
-ten = map plain relations
+ten = tableOf relations parentNumbers
 
 -- constants lie below it, and made-up values from it on (Meaning, of the case handed over)
 abbrev pub top : ℕ

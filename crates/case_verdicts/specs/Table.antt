@@ -1,4 +1,4 @@
--- Tables of relations, and the logs that a table allows. A table may ask for keys and parents; the base's own (Sheets) asks for neither.
+-- Tables of relations, and the logs that a table allows. A table may ask for keys and parents; the library's own (Sheets) has parents.
 use mathlib.Core.Path.{_≡_}
 use mathlib.Core.List.{List, [], _∷_}
 use Prim.Native.Nat.{ℕ, zero, suc, _<_}
@@ -45,8 +45,8 @@ pub record SameKey (table : Table) (f g : Fact) : Type 0 where
   pub some : 0 < relation table (f .rel) .key
   pub first : take (relation table (f .rel) .key) (f .row) ≡ take (relation table (f .rel) .key) (g .row)
 
--- Meaning, of logs: the log is made of facts. Nothing more is asked by a table without keys and parents: a relation's
--- rows are free, and so are those beside them.
+-- Meaning, of logs: the log is made of facts, a relation's parent has each row that the relation has, and rows alike in a key are alike.
+-- A table without keys and parents asks for the first alone.
 pub record Lawful (table : Table) (log : Log) : Type 0 where
   pub formed : (f : Fact) → In f log → Formed table f
   pub parented : (f : Fact) → In f log → (g : Fact) → In g (parents table f) → In g log

@@ -16,7 +16,7 @@ use Rattle.judge_result.specs.declared.Judgement.{Judgement}
 
 -- Causes, 13: so many words must be lent, whatever the verdict
 abbrev pub least-room : ℕ
-least-room = 640
+least-room = 1260
 
 -- Meaning, of the missing answer: four numbers, unused ones 0
 abbrev pub answerNumbers : List ℕ → List ℕ

@@ -21,7 +21,7 @@ pub const NO_LOG: usize = 2;
 pub const REFUSED: usize = 9;
 
 // So many words must be lent.
-pub const LEAST_ROOM: usize = 640;
+pub const LEAST_ROOM: usize = 1260;
 
 // A judgement that hands nothing over.
 pub fn plain(verdict: usize, number: usize, line: usize) -> Judgement

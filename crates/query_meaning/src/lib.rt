@@ -3,7 +3,7 @@
 use sheet_format::CONSTANT_END;
 
 // At most so many facts are given, of five words each.
-pub const MOST_FACTS: usize = 128;
+pub const MOST_FACTS: usize = 256;
 
 // The words of a fact: a relation and four values.
 pub const FACT_WORDS: usize = 5;

@@ -20,7 +20,7 @@ use Rattle.query_encoding.proofs.Order.{pad-same}
 use Rattle.query_facts.proofs.Laws.{columns-most}
 use Rattle.query_blocks.proofs.Shape.{from-map}
 use Rattle.case_verdicts.specs.Verdict.{Sheet}
-use Rattle.case_verdicts.specs.Sheets.{plain, top}
+use Rattle.case_verdicts.specs.Sheets.{top}
 use Rattle.case_verdicts.specs.Accepted.{Fine, FineSheet, PlainTable}
 use Rattle.case_verdicts.specs.Tableau.{Job, State, Copy, jobs, numbered, copy, tableauLog, headOf, Meets, Good}
 use Rattle.case_verdicts.specs.Search.{Keeps, equations, lines, Refuted, RefutedBy, Alternatives}

@@ -13,10 +13,9 @@ use Rattle.query_encoding.proofs.Lists.{in-map}
 use Rattle.query_encoding.proofs.Order.{pad-same}
 use Rattle.case_verdicts.specs.Verdict.{Sheet}
 use Rattle.case_verdicts.specs.Sheets.{top}
-use Rattle.case_verdicts.specs.Tableau.{Job, State, jobs, numbered, later, facts, tableauLog, bare}
-use Rattle.case_verdicts.proofs.Plain.{log-plain}
+use Rattle.case_verdicts.specs.Tableau.{Job, State, jobs, numbered, later, tableauLog, bare}
 use Rattle.case_verdicts.proofs.Judge.{bare-accepted}
-use Rattle.tableau_plan.specs.Plan.{tableauFacts, tableauSize, askedSize, rowAt, rowValues, rowCount}
+use Rattle.tableau_plan.specs.Plan.{tableauFacts, tableauSize, rowAt, rowValues, rowCount}
 use Rattle.tableau_plan.proofs.Whole.{nth-in}
 use Rattle.search_task.specs.Task.{ReadyPlan, sheetBy, fromBy}
 use Rattle.search_task.proofs.Node.{Task}
@@ -72,8 +71,8 @@ module _ (p : List ℕ) (x : Sheet) (r : ReadyPlan p x) where
 
   -- the facts of a state in numbers
   pub ready-facts : (goal : Goal) (s : State) → FactNumbers (tableauFacts p s (fromBy goal p) (tableauSize p - fromBy goal p)) (tableauLog (sheetBy goal x) s)
-  ready-facts Counterexample s = subst (λ l. FactNumbers (tableauFacts p s 0 (tableauSize p - 0)) l) (sym (log-plain x s (r .plain))) (subst (λ k. FactNumbers (tableauFacts p s 0 k) (facts x s)) (let e : tableauSize p ≡ tableauSize p - 0 = omega arith in e) (r .plan .whole s))
-  ready-facts Agreement s = subst (λ l. FactNumbers (tableauFacts p s (askedSize p) (tableauSize p - askedSize p)) l) (sym (log-plain (bare x) s (r .plain))) (r .plan .agreeing s)
+  ready-facts Counterexample s = subst (λ k. FactNumbers (tableauFacts p s 0 k) (tableauLog x s)) (let e : tableauSize p ≡ tableauSize p - 0 = omega arith in e) (r .plan .whole s)
+  ready-facts Agreement s = r .plan .agreeing s
 
   pub jobs-count : (goal : Goal) → length (jobs (sheetBy goal x)) ≡ suc (rowCount p)
   jobs-count Counterexample = r .plan .copies

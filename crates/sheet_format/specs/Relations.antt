@@ -1,4 +1,4 @@
--- The log's relations: a table of columns, numbered from 1.
+-- The log's relations: a table of columns and parents, numbered from 1.
 use mathlib.Core.List.{List, [], _∷_}
 use Prim.Native.Nat.{ℕ, zero, suc}
 use lib.IntN.{ℤ, pos, negsuc}
@@ -12,6 +12,15 @@ relations = 2 ∷ 1 ∷ 3 ∷ 2 ∷ 2 ∷ 2 ∷ 3 ∷ 2 ∷ 4 ∷ 1 ∷ []
 abbrev pub columnsAt : ℕ → ℕ
 columnsAt zero = 0
 columnsAt (suc n) = getD relations n 0
+
+-- the parent of each, 0 where it has none: in a log that counts, the parent has each row that the relation has. Beats and noise are signals.
+abbrev pub parentNumbers : List ℕ
+parentNumbers = 0 ∷ 0 ∷ 0 ∷ 0 ∷ 4 ∷ 4 ∷ 0 ∷ 0 ∷ 0 ∷ 0 ∷ []
+
+-- the parent of a relation; 0 where it has none, or there is no such relation
+unfoldable pub parentOf : ℕ → ℕ
+parentOf zero = 0
+parentOf (suc n) = getD parentNumbers n 0
 
 unfoldable pub columnsOf : ℤ → ℕ
 columnsOf (pos n) = columnsAt n

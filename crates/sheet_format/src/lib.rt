@@ -34,6 +34,9 @@ pub const VARIABLES: i32 = 12;
 // The relations' columns, from relation 1 on: Rower, Strap, Worn, Sig, Beat, Noise, Pulse, Coach, Seat, Pause.
 pub const COLUMNS: [usize; 10] = [2, 1, 3, 2, 2, 2, 3, 2, 4, 1];
 
+// The relations' parents: in a log that counts, a relation's parent has each of its rows. Beats and noise are signals; 0 is no parent.
+pub const PARENTS: [usize; 10] = [0, 0, 0, 0, 4, 4, 0, 0, 0, 0];
+
 // The most atoms of the question or the list, and of a view; the lists, of which a sheet has one; the most views; the most rows, of all views
 // together.
 pub const MOST_ATOMS: usize = 6;

@@ -12,7 +12,7 @@ use Rattle.sheet_format.specs.Limits.{constant-end}
 use Rattle.sheet_format.specs.Line.{natural}
 use Rattle.sheet_format.proofs.Lists.{no-way}
 use Rattle.sheet_format.specs.Cause.{termOf, orOut}
-use Rattle.sheet_format.specs.Relations.{columnsOf, relations}
+use Rattle.sheet_format.specs.Relations.{columnsOf, parentOf, parentNumbers, relations}
 use Rattle.sheet_format.specs.declared.FieldTerm.the-variants.{Constant, Variable, OutOfRange}
 
 -- ---- terms
@@ -68,6 +68,24 @@ columns-at n =
 pub columns-past : (n : ℕ) → 10 ≤ n → 0 ≡ columnsOf (pos (suc n))
 unfolding columnsOf
 columns-past n h = sym (List·getD-eq-default relations 0 h)
+
+-- so it is with parents
+pub parent-none : (n : ℕ) → n ≡ 0 → 0 ≡ parentOf n
+unfolding parentOf
+parent-none zero e = refl
+parent-none (suc n) e = absurd (omega arith)
+
+pub parent-past : (n : ℕ) → 10 < n → 0 ≡ parentOf n
+unfolding parentOf
+parent-past zero h = refl
+parent-past (suc n) h = let l : 10 ≤ n = omega arith in sym (List·getD-eq-default parentNumbers 0 l)
+
+pub parent-at : (n : ℕ) → (n ≡ 0 → ⊥) → getD parentNumbers (n - 1) 0 ≡ parentOf n
+unfolding parentOf
+parent-at zero ne = absurd (ne refl)
+parent-at (suc n) ne =
+    let e : suc n - 1 ≡ n = omega arith in
+    ap (λ k. getD parentNumbers k 0) e
 
 -- ---- numbers
 

@@ -2,11 +2,12 @@
 use sheet_format::COLUMNS;
 use sheet_format::CONSTANT_END;
 use sheet_format::FieldTerm;
+use sheet_format::PARENTS;
 use sheet_format::VARIABLES;
 ghost use mathlib.Core.Path.{_≡_};
 ghost use Rattle.sheet_format.specs.Cause.{termOf};
 ghost use Rattle.sheet_format.specs.Line.{natural};
-ghost use Rattle.sheet_format.specs.Relations.{columnsOf};
+ghost use Rattle.sheet_format.specs.Relations.{columnsOf, parentOf};
 
 const LAST_VARIABLE: i32 = -VARIABLES;
 
@@ -38,6 +39,19 @@ pub fn columns(relation: i32) -> usize
         return 0;
     }
     COLUMNS[number - 1]
+}
+
+// The relation that has each row of a relation, 0 where there is none.
+pub fn parent(relation: usize) -> usize
+    ensures { λ r. ⌜ r ≡ parentOf relation ⌝ }
+{
+    if relation == 0 {
+        return 0;
+    }
+    if PARENTS.len() < relation {
+        return 0;
+    }
+    PARENTS[relation - 1]
 }
 
 // A word as a plain number; a negative one as 0.

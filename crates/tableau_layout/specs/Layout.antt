@@ -11,9 +11,13 @@ most-copies = 1 + most-rows
 abbrev pub slot-end : ℕ
 slot-end = most-copies * names
 
--- the tableau's atoms: the question's, and its view's for each listed row
+-- the atoms of the copies: the question's, and its view's for each listed row
+abbrev pub copied-atoms : ℕ
+copied-atoms = most-atoms + most-rows * most-view-atoms
+
+-- the tableau's atoms: those of the copies, and after each the one that it owes to its relation's parent
 abbrev pub tableau-atoms : ℕ
-tableau-atoms = most-atoms + most-rows * most-view-atoms
+tableau-atoms = copied-atoms * 2
 
 abbrev pub tableau-numbers : ℕ
 tableau-numbers = tableau-atoms * fact-width

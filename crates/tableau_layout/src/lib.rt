@@ -15,8 +15,11 @@ pub const MOST_COPIES: usize = 1 + MOST_ROWS;
 
 pub const SLOTS: usize = MOST_COPIES * NAMES;
 
-// The tableau's atoms: the question's, and its view's for each listed row.
-pub const TABLEAU_ATOMS: usize = MOST_ATOMS + MOST_ROWS * MOST_VIEW_ATOMS;
+// The atoms of the copies: the question's, and its view's for each listed row.
+pub const COPIED_ATOMS: usize = MOST_ATOMS + MOST_ROWS * MOST_VIEW_ATOMS;
+
+// The tableau's atoms: those of the copies, and after each the one that it owes to its relation's parent.
+pub const TABLEAU_ATOMS: usize = COPIED_ATOMS * 2;
 
 pub const TABLEAU_NUMBERS: usize = TABLEAU_ATOMS * FACT_NUMBERS;
 

@@ -1,24 +1,26 @@
 -- The copies of the tableau, stored one by one. Assumes nothing.
 use mathlib.Core.Path.{_≡_, refl, sym, ap, _∙_, subst}
-use mathlib.Core.Bool.{Bool, true, false}
-use mathlib.Core.List.{List, [], _∷_, _++_, map}
-use Prim.Native.Nat.{ℕ, zero, suc, _+_, _-_, _*_, _%_, _<_, _≤_}
+use mathlib.Core.List.{List, [], _∷_, _++_, append-assoc}
+use Prim.Native.Nat.{ℕ, zero, suc, _+_, _-_, _*_, _<_, _≤_}
 use native.Mathlib.Omega.{arith}
 use native.Mathlib.Numerals.{add-one}
-use lib.Dec.{ltb}
-use lib.ListN.{length, getD, drop, length-drop, length-map, length-append, drop-of-length-le, List·getD-append}
-use lib.Seq.{drop-cons, drop-drop, drop-at, getD-drop}
-use borrow.Author.Tests.{ltb-true, ltb-false, eq-eqb, ne-eqb}
+use lib.ListN.{length, getD, drop, set, length-drop, drop-of-length-le}
+use lib.Seq.{drop-cons, drop-drop, getD-drop, getD-set-same, getD-set-other}
+use borrow.Author.Count.{below-more}
 use Rattle.query_layout.specs.Layout.{block-width}
 use Rattle.tableau_layout.specs.Layout.{blocks-at, plan-numbers, rows-at, sizes-at, tableau-atoms, view-block}
 use Rattle.sheet_format.specs.Limits.{most-atoms, most-rows}
+use Rattle.sheet_format.specs.Line.{gather}
+use Rattle.sheet_format.specs.Relations.{parentOf}
+use Rattle.sheet_format.proofs.Lists.{map-append}
 use Rattle.query_encoding.proofs.Lists.{at-in}
+use Rattle.list_laws.proofs.Ranges.{kept-set, kept-wide}
 use Rattle.list_laws.proofs.Lists.{part-get}
-use Rattle.query_meaning.specs.Meaning.{Atom, Block}
+use Rattle.query_meaning.specs.Meaning.{Atom, Block, value}
 use Rattle.query_encoding.specs.Encoding.{termNumber, termAt, atomAt, BlockNumbers}
 use Rattle.case_verdicts.specs.Tableau.{copy}
 use Rattle.tableau_plan.specs.Plan.{blockNumbers, blockSize, slotValue}
-use Rattle.tableau_plan.specs.Parts.{KeptOutside, slotOf, placedNumber, sourceOf, emptyBlock, PlacedAtom, unplaced, atomsFrom, Sources, PlacedNumbers, TableauDone}
+use Rattle.tableau_plan.specs.Parts.{KeptOutside, slotOf, sourceOf, emptyBlock, PlacedAtom, unplaced, placedAtom, placedIn, owedAtoms, withOwed, ownAtoms, atomsFrom, Sources, PlacedNumbers, AtomAt, AtomsStored, TableauDone}
 use Rattle.tableau_plan.proofs.Blocks.{numbers-same}
 use Rattle.tableau_plan.proofs.Tableau.{slot-value, term-fine}
 
@@ -41,12 +43,7 @@ sources-kept p q n bs s h d = record {
   few = d .few;
 }
 
--- ---- one copy more
-
-placed-get : (k : ℕ) (l : List Atom) (j : ℕ) → j < length l → getD (map (λ a. record { number = k; atom = a }) l) j unplaced ≡ record { number = k; atom = atomAt l j }
-placed-get k [] j h = absurd (omega arith)
-placed-get k (a ∷ l) zero h = refl
-placed-get k (a ∷ l) (suc j) h = placed-get k l j (omega arith)
+-- ---- one atom more
 
 pub placed-same : (p q : List ℕ) (i : ℕ) (a : PlacedAtom) → ((c : ℕ) → c < 5 → getD q (i * 5 + c) 0 ≡ getD p (i * 5 + c) 0) → PlacedNumbers p i a → PlacedNumbers q i a
 placed-same p q i a e h = record {
@@ -56,126 +53,131 @@ placed-same p q i a e h = record {
       ap (slotValue s) (ap (λ y. getD q y 0) z ∙ e (1 + c) (omega arith) ∙ ap (λ y. getD p y 0) (sym z)) ∙ h .terms s c l;
 }
 
--- a relation stays, a term becomes one of the copy
-placed-relation : (k j t : ℕ) → placedNumber k (j * 5) t ≡ t
-unfolding placedNumber
-placed-relation k j t = let e : j * 5 % 5 ≡ 0 = omega arith in simp (eq-eqb (j * 5 % 5) 0 e)
+-- what is left has room
+pub stored-room : {p : List ℕ} {n : ℕ} {l left : List PlacedAtom} {a : PlacedAtom} → AtomsStored p n l (a ∷ left) → n < length l
+stored-room {p} {n} {l} {left} {a} h =
+    let e : length (drop n l) ≡ suc (length left) = ap length (h .ahead) in
+    let d = length-drop n l in
+    let w = h .within in
+    omega arith
 
-placed-term : (k j c t : ℕ) → c < 4 → placedNumber k (j * 5 + 1 + c) t ≡ slotOf k t
-unfolding placedNumber
-placed-term k j c t h = simp (ne-eqb ((j * 5 + 1 + c) % 5) 0 (λ e. omega arith))
+stored-at : {p : List ℕ} {n : ℕ} {l left : List PlacedAtom} {a : PlacedAtom} → AtomsStored p n l (a ∷ left) → getD l n unplaced ≡ a
+stored-at {p} {n} {l} {left} {a} h =
+    let z : n ≡ n + 0 = omega arith in
+    ap (λ i. getD l i unplaced) z ∙ sym (getD-drop n l 0 unplaced) ∙ ap (λ r. getD r 0 unplaced) (h .ahead)
 
-module _ (p : List ℕ) (n : ℕ) (bs : List Block) (k m : ℕ) (d : Sources p n bs) (lt : k < length bs) (few : k ≤ most-rows) (h : TableauDone p k m bs) where
-  -- the block of the copy, and how many atoms it has
-  abbrev block : Block
-  block = getD bs k emptyBlock
+stored-more : (p q : List ℕ) (n : ℕ) (l left : List PlacedAtom) (a : PlacedAtom) → KeptOutside p q (n * 5) (n * 5 + 5) → PlacedNumbers q n a → AtomsStored p n l (a ∷ left) → AtomsStored q (n + 1) l left
+stored-more p q n l left a kept here h = record {
+  within = let r = stored-room h in omega arith;
+  ahead = sym (drop-drop 1 n l) ∙ ap (drop 1) (h .ahead);
+  each = below-more (λ i. PlacedNumbers q i (getD l i unplaced)) n
+      (λ i lt. placed-same p q i _ (λ c f. kept .below (i * 5 + c) (omega arith)) (h .each i lt))
+      (subst (PlacedNumbers q n) (sym (stored-at h)) here);
+}
 
-  abbrev size : ℕ
-  size = blockSize p (sourceOf p k)
+-- the terms of an atom, and then its relation
+module _ (p q : List ℕ) (k rel from n : ℕ) (few : k ≤ most-rows) (size : length p ≡ plan-numbers) (room : n < tableau-atoms) (kept : KeptOutside p q (n * 5 + 1) (n * 5 + 1 + 4))
+    (ts : (c : ℕ) → c < 4 → getD q (n * 5 + 1 + c) 0 ≡ slotOf k (getD p (from + 1 + c) 0)) where
+  abbrev end : List ℕ
+  end = set q (n * 5) rel
 
-  abbrev own : List PlacedAtom
-  own = map (λ a. record { number = k; atom = a }) (block .atoms)
+  end-kept : KeptOutside p end (n * 5) (n * 5 + 5)
+  end-kept = kept-set p q (n * 5) (n * 5 + 5) (n * 5) rel (omega arith) (omega arith) (kept-wide p q (n * 5 + 1) (n * 5 + 1 + 4) (n * 5) (n * 5 + 5) (omega arith) (omega arith) kept)
 
-  sized : size ≡ length (block .atoms)
-  sized = d .numbers k lt .count
+  pub atom-kept : KeptOutside p end 0 rows-at
+  atom-kept = kept-wide p end (n * 5) (n * 5 + 5) 0 rows-at (omega arith) (omega arith) end-kept
 
-  pub size-few : size ≤ most-atoms
-  size-few = d .numbers k lt .few
+  atom-numbers : (a : Atom) → AtomAt p from a → PlacedNumbers end n (placedAtom k rel a)
+  atom-numbers a h = record {
+    relation = ap (λ y. getD end y 0) (let e : n * 5 + 0 ≡ n * 5 = omega arith in e) ∙ getD-set-same q (n * 5) rel 0 (let s = kept .same in omega arith);
+    terms = λ s c f.
+        let u = termAt (a .terms) c in
+        let e : getD end (n * 5 + 1 + c) 0 ≡ slotOf k (termNumber u) = getD-set-other q (n * 5) (n * 5 + 1 + c) rel 0 (λ g. absurd (omega arith)) ∙ ts c f ∙ ap (slotOf k) (h .terms c f) in
+        ap (slotValue s) e ∙ slot-value s k u few (term-fine (a .terms) (h .fine) c);
+  }
 
-  ahead : drop m (atomsFrom 0 bs) ≡ own ++ atomsFrom (suc k) (drop (suc k) bs)
-  ahead = h .left ∙ ap (atomsFrom k) (drop-cons bs k emptyBlock lt)
+  pub atom-stored : (l left : List PlacedAtom) (a : Atom) → AtomAt p from a → AtomsStored p n l (placedAtom k rel a ∷ left) → AtomsStored end (n + 1) l left
+  atom-stored l left a h d = stored-more p end n l left (placedAtom k rel a) end-kept (atom-numbers a h) d
 
-  own-length : length own ≡ size
-  own-length = length-map (block .atoms) _ ∙ sym sized
+-- an atom of a block stays where the tableau is written
+pub atom-same : (p q : List ℕ) (from : ℕ) (a : Atom) → rows-at ≤ from → KeptOutside p q 0 rows-at → AtomAt p from a → AtomAt q from a
+atom-same p q from a low k h = record {
+  relation = k .above from low ∙ h .relation;
+  terms = λ c f. k .above (from + 1 + c) (omega arith) ∙ h .terms c f;
+  fine = h .fine;
+}
 
-  pub room : m + size ≤ length (atomsFrom 0 bs)
-  room =
-      let a : length (drop m (atomsFrom 0 bs)) ≡ length own + length (atomsFrom (suc k) (drop (suc k) bs)) = ap length ahead ∙ length-append own (atomsFrom (suc k) (drop (suc k) bs)) in
-      let b = length-drop m (atomsFrom 0 bs) in
-      let c = own-length in
-      let w = h .within in
-      omega arith
+-- an atom and what it owes, by whether it owes
+pub owes-none : (k parent : ℕ) (a : Atom) (left : List PlacedAtom) → parent ≡ parentOf (a .rel) → parent ≡ 0 → placedIn k (withOwed a) ++ left ≡ placedAtom k (a .rel) a ∷ left
+owes-none k parent a left e z = ap (λ n. placedIn k (a ∷ owedAtoms n (a .terms)) ++ left) (sym e ∙ z)
 
-  own-at : (j : ℕ) → j < size → getD (atomsFrom 0 bs) (m + j) unplaced ≡ record { number = k; atom = atomAt (block .atoms) j }
-  own-at j l =
-      let c = own-length in
-      let z = sized in
-      sym (getD-drop m (atomsFrom 0 bs) j unplaced)
-      ∙ ap (λ t. getD t j unplaced) ahead
-      ∙ List·getD-append own (atomsFrom (suc k) (drop (suc k) bs)) unplaced j (omega arith)
-      ∙ placed-get k (block .atoms) j (omega arith)
+pub owes-one : (k parent : ℕ) (a : Atom) (left : List PlacedAtom) → parent ≡ parentOf (a .rel) → (parent ≡ 0 → ⊥) → placedIn k (withOwed a) ++ left ≡ placedAtom k (a .rel) a ∷ (placedAtom k parent a ∷ left)
+owes-one k parent a left e ne = ap (λ n. placedIn k (a ∷ owedAtoms n (a .terms)) ++ left) (sym e) ∙ go parent ne
+  where
+    go : (n : ℕ) → (n ≡ 0 → ⊥) → placedIn k (a ∷ owedAtoms n (a .terms)) ++ left ≡ placedAtom k (a .rel) a ∷ (placedAtom k n a ∷ left)
+    go zero some = absurd (some refl)
+    go (suc n) some = refl
 
-  module _ (q : List ℕ) (kept : KeptOutside p q (m * 5) (m * 5 + size * 5)) (xs : (x : ℕ) → x < size * 5 → getD q (m * 5 + x) 0 ≡ placedNumber k x (getD p (blocks-at + sourceOf p k * block-width + x) 0)) where
-    own-numbers : (j : ℕ) → j < size → PlacedNumbers q (m + j) (record { number = k; atom = atomAt (block .atoms) j })
-    own-numbers j l =
-        let six = size-few in
-        let z = sized in
-        record {
-          relation =
-              ap (λ y. getD q y 0) (let e : (m + j) * 5 + 0 ≡ m * 5 + j * 5 = omega arith in e)
-              ∙ xs (j * 5) (omega arith)
-              ∙ placed-relation k j _
-              ∙ sym (part-get p (blocks-at + sourceOf p k * block-width) block-width (j * 5) 0 (omega arith))
-              ∙ d .numbers k lt .relation j l;
-          terms = λ s c f.
-              let u = termAt (atomAt (block .atoms) j .terms) c in
-              let e : getD q ((m + j) * 5 + 1 + c) 0 ≡ slotOf k (termNumber u) =
-              ap (λ y. getD q y 0) (let e : (m + j) * 5 + 1 + c ≡ m * 5 + (j * 5 + 1 + c) = omega arith in e)
-              ∙ xs (j * 5 + 1 + c) (omega arith)
-              ∙ placed-term k j c _ f
-              ∙ ap (slotOf k) (sym (part-get p (blocks-at + sourceOf p k * block-width) block-width (j * 5 + 1 + c) 0 (omega arith)) ∙ d .numbers k lt .columns j l c f) in
-              ap (slotValue s) e
-              ∙ slot-value s k u few (term-fine (atomAt (block .atoms) j .terms) (d .fine k lt (atomAt (block .atoms) j) (at-in _ (block .atoms) j (omega arith))) c);
-        }
+-- the first of the atoms that are left, and the others
+pub own-first : (k j : ℕ) (own : List Atom) (left : List PlacedAtom) → j < length own
+    → ownAtoms k (drop j own) ++ left ≡ placedIn k (withOwed (atomAt own j)) ++ (ownAtoms k (drop (j + 1) own) ++ left)
+own-first k j own left lt =
+    let a = atomAt own j in
+    let rest = drop (suc j) own in
+    ap (λ t. ownAtoms k t ++ left) (drop-cons own j (record { rel = 0; terms = [] }) lt)
+    ∙ ap (λ t. t ++ left) (map-append (λ b. record { number = k; atom = b }) (withOwed a) (gather withOwed rest))
+    ∙ append-assoc (placedIn k (withOwed a)) (ownAtoms k rest) left
+    ∙ ap (λ n. placedIn k (withOwed a) ++ (ownAtoms k (drop n own) ++ left)) (sym (add-one j))
 
-    each-number : (i : ℕ) → i < m + size → PlacedNumbers q i (getD (atomsFrom 0 bs) i unplaced)
-    each-number i l = go (ltb i m) refl
-      where
-        go : (t : Bool) → ltb i m ≡ t → PlacedNumbers q i (getD (atomsFrom 0 bs) i unplaced)
-        go true e =
-            let w = ltb-true i m e in
-            placed-same p q i _ (λ c f. kept .below (i * 5 + c) (omega arith)) (h .each i w)
-        go false e =
-            let w = ltb-false i m e in
-            let z : m + (i - m) ≡ i = omega arith in
-            subst (λ y. PlacedNumbers q y (getD (atomsFrom 0 bs) y unplaced)) z (subst (PlacedNumbers q (m + (i - m))) (sym (own-at (i - m) (omega arith))) (own-numbers (i - m) (omega arith)))
+pub own-none : (k j : ℕ) (own : List Atom) (left : List PlacedAtom) → length own ≤ j → ownAtoms k (drop j own) ++ left ≡ left
+own-none k j own left le = ap (λ t. ownAtoms k t ++ left) (drop-of-length-le own le)
 
-    pub copy-more : TableauDone q (k + 1) (m + size) bs
-    copy-more = record {
-      within = room;
-      left =
-          sym (drop-drop size m (atomsFrom 0 bs))
-          ∙ ap (drop size) ahead
-          ∙ drop-at own (atomsFrom (suc k) (drop (suc k) bs)) size own-length
-          ∙ ap (λ i. atomsFrom i (drop i bs)) (sym (add-one k));
-      each = each-number;
-    }
+-- ---- one copy more
+
+module _ (p : List ℕ) (n : ℕ) (bs : List Block) (k b : ℕ) (is : b ≡ sourceOf p k) (d : Sources p n bs) (lt : k < length bs) where
+  abbrev pub copyBlock : Block
+  copyBlock = getD bs k emptyBlock
+
+  numbers : BlockNumbers (blockNumbers p b) (blockSize p b) copyBlock
+  numbers = subst (λ c. BlockNumbers (blockNumbers p c) (blockSize p c) copyBlock) (sym is) (d .numbers k lt)
+
+  pub copy-few : blockSize p b ≤ most-atoms
+  copy-few = numbers .few
+
+  pub copy-size : blockSize p b ≡ length (copyBlock .atoms)
+  copy-size = numbers .count
+
+  pub copy-atoms : (j : ℕ) → j < blockSize p b → AtomAt p (blocks-at + b * block-width + j * 5) (atomAt (copyBlock .atoms) j)
+  copy-atoms j l =
+      let six = copy-few in
+      let z = copy-size in
+      let o = blocks-at + b * block-width in
+      record {
+        relation = sym (part-get p o block-width (j * 5) 0 (omega arith)) ∙ numbers .relation j l;
+        terms = λ c f.
+            let e : o + j * 5 + 1 + c ≡ o + (j * 5 + 1 + c) = omega arith in
+            ap (λ y. getD p y 0) e ∙ sym (part-get p o block-width (j * 5 + 1 + c) 0 (omega arith)) ∙ numbers .columns j l c f;
+        fine = d .fine k lt (atomAt (copyBlock .atoms) j) (at-in _ (copyBlock .atoms) j (omega arith));
+      }
+
+-- what is left begins with the copy's atoms
+pub copy-ahead : (k : ℕ) (bs : List Block) → k < length bs → atomsFrom k (drop k bs) ≡ ownAtoms k (getD bs k emptyBlock .atoms) ++ atomsFrom (suc k) (drop (suc k) bs)
+copy-ahead k bs lt = ap (atomsFrom k) (drop-cons bs k emptyBlock lt)
 
 pub copies-start : (p : List ℕ) (bs : List Block) → TableauDone p 0 0 bs
-copies-start p bs = record { within = omega arith; left = refl; each = λ i h. absurd (omega arith) }
+copies-start p bs = record { within = omega arith; ahead = refl; each = λ i h. absurd (omega arith) }
 
--- all copies have been stored: all atoms are there
-pub copies-all : (p : List ℕ) (k m : ℕ) (bs : List Block) → length bs ≤ k → TableauDone p k m bs → m ≡ length (atomsFrom 0 bs)
-copies-all p k m bs le h =
-    let a : length (drop m (atomsFrom 0 bs)) ≡ 0 = ap length (h .left ∙ ap (atomsFrom k) (drop-of-length-le bs le)) in
+-- how many atoms have been stored
+pub copies-length : (p : List ℕ) (k m : ℕ) (bs : List Block) → TableauDone p k m bs → length (atomsFrom 0 bs) ≡ m + length (atomsFrom k (drop k bs))
+copies-length p k m bs h =
+    let a : length (drop m (atomsFrom 0 bs)) ≡ length (atomsFrom k (drop k bs)) = ap length (h .ahead) in
     let b = length-drop m (atomsFrom 0 bs) in
     let w = h .within in
     omega arith
 
--- the same, where b is the block of the copy
-pub copy-stored : (p q : List ℕ) (n : ℕ) (bs : List Block) (k m b : ℕ) → b ≡ sourceOf p k → Sources p n bs → k < length bs → k ≤ most-rows → TableauDone p k m bs → KeptOutside p q (m * 5) (m * 5 + blockSize p b * 5)
-    → ((x : ℕ) → x < blockSize p b * 5 → getD q (m * 5 + x) 0 ≡ placedNumber k x (getD p (blocks-at + b * block-width + x) 0)) → TableauDone q (k + 1) (m + blockSize p b) bs
-copy-stored p q n bs k m b e d lt few h =
-    subst
-    (λ b. KeptOutside p q (m * 5) (m * 5 + blockSize p b * 5) → ((x : ℕ) → x < blockSize p b * 5 → getD q (m * 5 + x) 0 ≡ placedNumber k x (getD p (blocks-at + b * block-width + x) 0)) → TableauDone q (k + 1) (m + blockSize p b) bs)
-    (sym e)
-    (λ kept xs. copy-more p n bs k m d lt few h q kept xs)
-
--- a copy is not too large, and has room
-pub copy-few : (p : List ℕ) (n : ℕ) (bs : List Block) (k m b : ℕ) → b ≡ sourceOf p k → Sources p n bs → k < length bs → k ≤ most-rows → TableauDone p k m bs → (blockSize p b ≤ most-atoms) × (m + blockSize p b ≤ tableau-atoms)
-copy-few p n bs k m b e d lt few h =
-    let s = size-few p n bs k m d lt few h in
-    let r = room p n bs k m d lt few h in
-    let f = d .few in
-    let z : blockSize p b ≡ blockSize p (sourceOf p k) = ap (blockSize p) e in
-    (omega arith, omega arith)
+-- all copies have been stored: all atoms are there
+pub copies-all : (p : List ℕ) (k m : ℕ) (bs : List Block) → length bs ≤ k → TableauDone p k m bs → m ≡ length (atomsFrom 0 bs)
+copies-all p k m bs le h =
+    let a = copies-length p k m bs h in
+    let b : length (atomsFrom k (drop k bs)) ≡ 0 = ap (λ l. length (atomsFrom k l)) (drop-of-length-le bs le) in
+    omega arith

@@ -45,12 +45,12 @@ block-put p q b n blk lt s k e = record {
 }
 
 -- the four counts
-module _ (p : List ℕ) (a l v : ℕ) (s : length p ≡ plan-numbers) where
+module _ (p : List ℕ) (a k l v : ℕ) (s : length p ≡ plan-numbers) where
   one : List ℕ
   one = set p tableau-size-at a
 
   two : List ℕ
-  two = set one asked-size-at (getD p sizes-at 0)
+  two = set one asked-size-at k
 
   three : List ℕ
   three = set two row-count-at l
@@ -62,19 +62,19 @@ module _ (p : List ℕ) (a l v : ℕ) (s : length p ≡ plan-numbers) where
   unfolding one two three four
   counted =
       let a1 = length-set p tableau-size-at a ∙ s in
-      let a2 = length-set one asked-size-at (getD p sizes-at 0) ∙ a1 in
+      let a2 = length-set one asked-size-at k ∙ a1 in
       let a3 = length-set two row-count-at l ∙ a2 in
       (a1, a2, a3, length-set three view-count-at v ∙ a3)
 
-  pub closed : Closed p (set (set (set (set p tableau-size-at a) asked-size-at (getD p sizes-at 0)) row-count-at l) view-count-at v) a l v
+  pub closed : Closed p (set (set (set (set p tableau-size-at a) asked-size-at k) row-count-at l) view-count-at v) a k l v
   unfolding one two three four
   closed =
       let n = counted in
       record {
         same = n .3 ∙ sym s;
-        kept = λ y h. getD-set-other three view-count-at y v 0 (λ g. absurd (omega arith)) ∙ getD-set-other two row-count-at y l 0 (λ g. absurd (omega arith)) ∙ getD-set-other one asked-size-at y (getD p sizes-at 0) 0 (λ g. absurd (omega arith)) ∙ getD-set-other p tableau-size-at y a 0 (λ g. absurd (omega arith));
-        atoms-is = getD-set-other three view-count-at tableau-size-at v 0 (λ g. absurd (omega arith)) ∙ getD-set-other two row-count-at tableau-size-at l 0 (λ g. absurd (omega arith)) ∙ getD-set-other one asked-size-at tableau-size-at (getD p sizes-at 0) 0 (λ g. absurd (omega arith)) ∙ getD-set-same p tableau-size-at a 0 (omega arith);
-        asked-is = getD-set-other three view-count-at asked-size-at v 0 (λ g. absurd (omega arith)) ∙ getD-set-other two row-count-at asked-size-at l 0 (λ g. absurd (omega arith)) ∙ getD-set-same one asked-size-at (getD p sizes-at 0) 0 (omega arith);
+        kept = λ y h. getD-set-other three view-count-at y v 0 (λ g. absurd (omega arith)) ∙ getD-set-other two row-count-at y l 0 (λ g. absurd (omega arith)) ∙ getD-set-other one asked-size-at y k 0 (λ g. absurd (omega arith)) ∙ getD-set-other p tableau-size-at y a 0 (λ g. absurd (omega arith));
+        atoms-is = getD-set-other three view-count-at tableau-size-at v 0 (λ g. absurd (omega arith)) ∙ getD-set-other two row-count-at tableau-size-at l 0 (λ g. absurd (omega arith)) ∙ getD-set-other one asked-size-at tableau-size-at k 0 (λ g. absurd (omega arith)) ∙ getD-set-same p tableau-size-at a 0 (omega arith);
+        asked-is = getD-set-other three view-count-at asked-size-at v 0 (λ g. absurd (omega arith)) ∙ getD-set-other two row-count-at asked-size-at l 0 (λ g. absurd (omega arith)) ∙ getD-set-same one asked-size-at k 0 (omega arith);
         listed-is = getD-set-other three view-count-at row-count-at v 0 (λ g. absurd (omega arith)) ∙ getD-set-same two row-count-at l 0 (omega arith);
         views-is = getD-set-same three view-count-at v 0 (omega arith);
       }

@@ -1,6 +1,6 @@
 -- The tableau: its terms under a state, its facts, and its copies one by one. Assumes nothing.
 use mathlib.Core.Path.{_≡_, refl, sym, ap, _∙_}
-use mathlib.Core.List.{List, [], _∷_, _++_, map}
+use mathlib.Core.List.{List, [], _∷_, _++_, map, append-assoc}
 use mathlib.Core.Logic.{inl, inr}
 use Prim.Native.Nat.{ℕ, zero, suc, _+_, _-_, _*_, _<_, _≤_}
 use native.Mathlib.Omega.{arith}
@@ -10,15 +10,17 @@ use Rattle.query_layout.specs.Layout.{names}
 use Rattle.sheet_format.specs.Limits.{constant-end, most-rows}
 use Rattle.tableau_layout.specs.Layout.{slot-end}
 use Rattle.sheet_format.specs.Line.{gather}
+use Rattle.sheet_format.specs.Relations.{parentOf}
 use Rattle.sheet_format.proofs.Lists.{map-append}
-use Rattle.query_meaning.specs.Meaning.{Term, con, var, Fact, value, fact, factOf, Atom, Block}
+use Rattle.query_meaning.specs.Meaning.{Term, con, var, Fact, value, row, fact, factOf, Atom, Block}
 use Rattle.query_encoding.specs.Encoding.{termNumber, termAt, FactNumbers}
 use Rattle.case_verdicts.specs.Accepted.{width, FineTerm, Fine}
 use Rattle.case_verdicts.specs.Sheets.{top}
+use Rattle.case_verdicts.specs.Table.{Table, relation, owed}
 use Rattle.case_verdicts.specs.Verdict.{Sheet}
-use Rattle.case_verdicts.specs.Tableau.{Job, Copy, later, numbered, State, copy, copyFacts, facts, jobs, listed, bare}
+use Rattle.case_verdicts.specs.Tableau.{Job, Copy, later, numbered, State, copy, copyFacts, withParents, tableauLog, jobs, listed, bare}
 use Rattle.tableau_plan.specs.Plan.{tableauAt, slotValue, tableauFacts}
-use Rattle.tableau_plan.specs.Parts.{slotOf, PlacedAtom, unplaced, atomsFrom, PlacedNumbers}
+use Rattle.tableau_plan.specs.Parts.{slotOf, PlacedAtom, unplaced, placedIn, owedAtoms, withOwed, ownAtoms, atomsFrom, PlacedNumbers}
 
 -- ---- a term of a copy under a state
 
@@ -81,7 +83,7 @@ placed-facts p s l a h =
           ∙ ap (λ (f : Fact). getD (f .row) c 0) (sym (List·getD-map (placedFact s) l i unplaced));
     }
 
--- ---- the facts of the copies
+-- ---- the facts of the copies, and what they owe
 
 blocksOf : List Job → List Block
 blocksOf js = map (λ j. j .block) js
@@ -95,34 +97,58 @@ module _ {A B : Type 0} where
   gather-map f h [] = refl
   gather-map f h (x ∷ l) = ap (λ t. f (h x) ++ t) (gather-map f h l)
 
-placed-map : (s : State) (k : ℕ) (l : List Atom) → map (placedFact s) (map (λ a. record { number = k; atom = a }) l) ≡ map (factOf (copy s k)) l
-placed-map s k [] = refl
-placed-map s k (a ∷ l) = ap (λ t. factOf (copy s k) a ∷ t) (placed-map s k l)
+gather-append : {A B : Type 0} (f : A → List B) (l m : List A) → gather f (l ++ m) ≡ gather f l ++ gather f m
+gather-append f [] m = refl
+gather-append f (x ∷ l) m = ap (λ t. f x ++ t) (gather-append f l m) ∙ sym (append-assoc (f x) (gather f l) (gather f m))
 
--- the facts of jobs whose numbers start at m
-abbrev from : State → ℕ → Copy → List Fact
-from s m c = map (factOf (copy s (m + c .number))) (c .job .block .atoms)
+gather-twice : {A B C : Type 0} (f : B → List C) (g : A → List B) (l : List A) → gather f (gather g l) ≡ gather (λ x. gather f (g x)) l
+gather-twice f g [] = refl
+gather-twice f g (x ∷ l) = gather-append f (g x) (gather g l) ∙ ap (λ t. gather f (g x) ++ t) (gather-twice f g l)
 
-from-next : (s : State) (m : ℕ) (c : Copy) → from s m (later c) ≡ from s (suc m) c
-from-next s m c = ap (λ n. map (factOf (copy s n)) (c .job .block .atoms)) (let e : m + suc (c .number) ≡ suc m + c .number = omega arith in e)
+owed-placed : (s : State) (k n : ℕ) (ts : List Term) → map (placedFact s) (placedIn k (owedAtoms n ts)) ≡ owed n (row (copy s k) ts)
+owed-placed s k zero ts = refl
+owed-placed s k (suc n) ts = refl
 
-facts-from : (s : State) (m : ℕ) (js : List Job) → gather (from s m) (numbered js) ≡ map (placedFact s) (atomsFrom m (blocksOf js))
-unfolding blocksOf
-facts-from s m [] = refl
-facts-from s m (j ∷ js) =
-    let z : m + 0 ≡ m = omega arith in
-    ap (λ n. map (factOf (copy s n)) (j .block .atoms) ++ gather (from s m) (map later (numbered js))) z
-    ∙ ap (λ t. map (factOf (copy s m)) (j .block .atoms) ++ t)
-    (gather-map (from s m) later (numbered js) ∙ gather-same (λ c. from s m (later c)) (from s (suc m)) (from-next s m) (numbered js) ∙ facts-from s (suc m) js)
-    ∙ ap (λ t. t ++ map (placedFact s) (atomsFrom (suc m) (blocksOf js))) (sym (placed-map s m (j .block .atoms)))
-    ∙ sym (map-append (placedFact s) (map (λ a. record { number = m; atom = a }) (j .block .atoms)) (atomsFrom (suc m) (blocksOf js)))
+-- a table with the format's parents
+module _ (table : Table) (same : (n : ℕ) → relation table n .parent ≡ parentOf n) where
+  with-owed : (s : State) (k : ℕ) (a : Atom) → map (placedFact s) (placedIn k (withOwed a)) ≡ withParents table (factOf (copy s k) a)
+  with-owed s k a = ap (λ t. factOf (copy s k) a ∷ t) (owed-placed s k (parentOf (a .rel)) (a .terms) ∙ ap (λ n. owed n (row (copy s k) (a .terms))) (sym (same (a .rel))))
 
-copies-from : (s : State) (c : Copy) → copyFacts s c ≡ from s 0 c
-copies-from s c = ap (λ n. map (factOf (copy s n)) (c .job .block .atoms)) (let e : c .number ≡ 0 + c .number = omega arith in e)
+  placed-map : (s : State) (k : ℕ) (l : List Atom) → map (placedFact s) (ownAtoms k l) ≡ gather (withParents table) (map (factOf (copy s k)) l)
+  placed-map s k [] = refl
+  placed-map s k (a ∷ l) =
+      ap (map (placedFact s)) (map-append (λ b. record { number = k; atom = b }) (withOwed a) (gather withOwed l))
+      ∙ map-append (placedFact s) (placedIn k (withOwed a)) (ownAtoms k l)
+      ∙ ap (λ t. t ++ map (placedFact s) (ownAtoms k l)) (with-owed s k a)
+      ∙ ap (λ t. withParents table (factOf (copy s k) a) ++ t) (placed-map s k l)
 
-pub facts-placed : (x : Sheet) (s : State) → facts x s ≡ map (placedFact s) (atomsFrom 0 (map (λ (j : Job). j .block) (jobs x)))
-unfolding blocksOf
-facts-placed x s = gather-same (copyFacts s) (from s 0) (copies-from s) (numbered (jobs x)) ∙ facts-from s 0 (jobs x)
+  -- the facts of jobs whose numbers start at m
+  abbrev from : State → ℕ → Copy → List Fact
+  from s m c = gather (withParents table) (map (factOf (copy s (m + c .number))) (c .job .block .atoms))
 
-pub bare-placed : (x : Sheet) (s : State) → facts (bare x) s ≡ map (placedFact s) (atomsFrom 1 (map (λ (j : Job). j .block) (gather listed (x .views))))
-bare-placed x s = facts-placed (bare x) s
+  from-next : (s : State) (m : ℕ) (c : Copy) → from s m (later c) ≡ from s (suc m) c
+  from-next s m c = ap (λ n. gather (withParents table) (map (factOf (copy s n)) (c .job .block .atoms))) (let e : m + suc (c .number) ≡ suc m + c .number = omega arith in e)
+
+  facts-from : (s : State) (m : ℕ) (js : List Job) → gather (from s m) (numbered js) ≡ map (placedFact s) (atomsFrom m (blocksOf js))
+  unfolding blocksOf
+  facts-from s m [] = refl
+  facts-from s m (j ∷ js) =
+      let z : m + 0 ≡ m = omega arith in
+      ap (λ n. gather (withParents table) (map (factOf (copy s n)) (j .block .atoms)) ++ gather (from s m) (map later (numbered js))) z
+      ∙ ap (λ t. gather (withParents table) (map (factOf (copy s m)) (j .block .atoms)) ++ t)
+      (gather-map (from s m) later (numbered js) ∙ gather-same (λ c. from s m (later c)) (from s (suc m)) (from-next s m) (numbered js) ∙ facts-from s (suc m) js)
+      ∙ ap (λ t. t ++ map (placedFact s) (atomsFrom (suc m) (blocksOf js))) (sym (placed-map s m (j .block .atoms)))
+      ∙ sym (map-append (placedFact s) (ownAtoms m (j .block .atoms)) (atomsFrom (suc m) (blocksOf js)))
+
+  copies-from : (s : State) (c : Copy) → gather (withParents table) (copyFacts s c) ≡ from s 0 c
+  copies-from s c = ap (λ n. gather (withParents table) (map (factOf (copy s n)) (c .job .block .atoms))) (let e : c .number ≡ 0 + c .number = omega arith in e)
+
+pub log-placed : (x : Sheet) (s : State) → ((n : ℕ) → relation (x .table) n .parent ≡ parentOf n) → tableauLog x s ≡ map (placedFact s) (atomsFrom 0 (map (λ (j : Job). j .block) (jobs x)))
+unfolding blocksOf tableauLog
+log-placed x s same =
+    gather-twice (withParents (x .table)) (copyFacts s) (numbered (jobs x))
+    ∙ gather-same (λ c. gather (withParents (x .table)) (copyFacts s c)) (from (x .table) same s 0) (copies-from (x .table) same s) (numbered (jobs x))
+    ∙ facts-from (x .table) same s 0 (jobs x)
+
+pub bare-placed : (x : Sheet) (s : State) → ((n : ℕ) → relation (x .table) n .parent ≡ parentOf n) → tableauLog (bare x) s ≡ map (placedFact s) (atomsFrom 1 (map (λ (j : Job). j .block) (gather listed (x .views))))
+bare-placed x s same = log-placed (bare x) s same

@@ -10,26 +10,28 @@ use Rattle.tableau_layout.specs.Layout.{blocks-at, most-blocks, plan-numbers, r
 use Rattle.sheet_format.specs.Limits.{most-rows}
 use Rattle.query_encoding.proofs.Lists.{at-in}
 use Rattle.sheet_format.specs.Line.{Line, gather}
-use Rattle.query_meaning.specs.Meaning.{con, Atom, Block, In}
+use Rattle.sheet_format.specs.Relations.{parentOf}
+use Rattle.query_meaning.specs.Meaning.{Term, con, Atom, Block, In}
 use Rattle.query_meaning.specs.Blocks.{View, blocks, nth, blockAt}
 use Rattle.query_encoding.specs.Encoding.{BlockNumbers, FactNumbers, padded}
 use Rattle.case_verdicts.specs.Verdict.{Sheet}
 use Rattle.case_verdicts.specs.Handed.{rowAtoms, size}
 use Rattle.case_verdicts.specs.Accepted.{Fine}
 use Rattle.case_verdicts.specs.Sheets.{top, isView, sheetOf}
-use Rattle.case_verdicts.specs.Tableau.{Job, State, listed, jobs, facts, bare}
+use Rattle.case_verdicts.specs.Tableau.{Job, State, listed, jobs, tableauLog, bare}
 use Rattle.case_verdicts.proofs.Lists.{total, total-each, total-append, total-map}
 use Rattle.case_verdicts.proofs.Order.{block-question, list-count, block-list, block-view, block-count}
 use Rattle.case_verdicts.proofs.Sizes.{accepted-size}
+use Rattle.case_verdicts.proofs.Tables.{ten-parents}
 use Rattle.case_verdicts.proofs.Accepted.{accepted-sheet}
 use Rattle.tableau_plan.specs.Plan.{rowAt, rowValues, blockNumbers, blockSize, tableauSize, askedSize, rowCount, viewCount, listCount, listAt, tableauFacts, RowOf, Plan}
-use Rattle.tableau_plan.specs.Parts.{KeptOutside, Blocks, ViewRow, unlisted, rowsFrom, RowNumbers, RowsDone, sourceOf, emptyBlock, PlacedAtom, unplaced, atomsFrom, Sources, PlacedNumbers, TableauDone, Closed}
+use Rattle.tableau_plan.specs.Parts.{KeptOutside, Blocks, ViewRow, unlisted, rowsFrom, RowNumbers, RowsDone, sourceOf, emptyBlock, PlacedAtom, unplaced, owedAtoms, withOwed, ownAtoms, atomsFrom, Sources, PlacedNumbers, TableauDone, Closed}
 use Rattle.query_blocks.specs.Parts.{AcceptedLines}
 use Rattle.tableau_plan.proofs.Blocks.{accepted-views, numbers-same}
 use Rattle.tableau_plan.proofs.Rows.{flatFrom, rows-walked, jobOf, views-all, view-jobs, OfView, flat-of, flat-place}
 use Rattle.tableau_plan.proofs.Taken.{row-same, all-taken}
-use Rattle.tableau_plan.proofs.Tableau.{placed-facts, facts-placed, bare-placed}
-use Rattle.tableau_plan.proofs.Copies.{placed-same, copies-all}
+use Rattle.tableau_plan.proofs.Tableau.{placed-facts, log-placed, bare-placed}
+use Rattle.tableau_plan.proofs.Copies.{sources-kept, placed-same, copies-start, copies-length, copies-all}
 
 -- ---- lists
 
@@ -48,13 +50,26 @@ nth-in (w ∷ ws) (suc j) h = inr (nth-in ws j (omega arith))
 abbrev jobSize : Job → ℕ
 jobSize j = length (j .block .atoms)
 
-atoms-length : (k : ℕ) (js : List Job) → length (atomsFrom k (map (λ (j : Job). j .block) js)) ≡ total jobSize js
-atoms-length k [] = refl
-atoms-length k (j ∷ js) =
-    let f : Atom → PlacedAtom = λ a. record { number = k; atom = a } in
-    let a = length-append (map f (j .block .atoms)) (atomsFrom (suc k) (map (λ (j : Job). j .block) js)) in
-    let b = length-map (j .block .atoms) f in
-    let c = atoms-length (suc k) js in
+owed-few : (n : ℕ) (ts : List Term) → length (owedAtoms n ts) ≤ 1
+owed-few zero ts = omega arith
+owed-few (suc n) ts = omega arith
+
+-- each owes at most one
+own-few : (l : List Atom) → length (gather withOwed l) ≤ length l * 2
+own-few [] = omega arith
+own-few (a ∷ l) =
+    let e = length-append (withOwed a) (gather withOwed l) in
+    let o = owed-few (parentOf (a .rel)) (a .terms) in
+    let r = own-few l in
+    omega arith
+
+atoms-few : (k : ℕ) (js : List Job) → length (atomsFrom k (map (λ (j : Job). j .block) js)) ≤ total jobSize js * 2
+atoms-few k [] = omega arith
+atoms-few k (j ∷ js) =
+    let a = length-append (ownAtoms k (j .block .atoms)) (atomsFrom (suc k) (map (λ (j : Job). j .block) js)) in
+    let b : length (ownAtoms k (j .block .atoms)) ≡ length (gather withOwed (j .block .atoms)) = length-map (gather withOwed (j .block .atoms)) _ in
+    let c = own-few (j .block .atoms) in
+    let d = atoms-few (suc k) js in
     omega arith
 
 view-size : (w : View) → total jobSize (listed w) ≡ length (w .rows) * length (w .block .atoms)
@@ -121,7 +136,7 @@ module _ (ls : List Line) (ok : AcceptedLines ls) where
 
   few-atoms : length (atomsFrom 0 blockList) ≤ tableau-atoms
   few-atoms =
-      let a = atoms-length 0 (jobs sheet) in
+      let a = atoms-few 0 (jobs sheet) in
       let b = rows-size views in
       let c = accepted-size ls ok in
       omega arith
@@ -173,8 +188,9 @@ module _ (ls : List Line) (ok : AcceptedLines ls) where
         }
 
   -- ---- all parts together
-  module _ (q1 q2 q3 p : List ℕ) (nb i v r m : ℕ) (s : length q1 ≡ plan-numbers) (bl : Blocks q1 ls nb) (k2 : KeptOutside q1 q2 rows-at blocks-at) (few : r ≤ most-rows) (end : length ls ≤ i) (rd : RowsDone q2 ls i v r) (k3 : KeptOutside q2 q3 0 rows-at)
-      (most : m ≤ tableau-atoms) (td : (bs : List Block) → Sources q2 r bs → TableauDone q3 (r + 1) m bs) (cl : Closed q3 p m r (nb - 2)) where
+  module _ (q1 q2 q3 q4 p : List ℕ) (nb i v r a m : ℕ) (s : length q1 ≡ plan-numbers) (bl : Blocks q1 ls nb) (k2 : KeptOutside q1 q2 rows-at blocks-at) (few : r ≤ most-rows) (end : length ls ≤ i) (rd : RowsDone q2 ls i v r)
+      (k3 : KeptOutside q2 q3 0 rows-at) (first : (n : ℕ) (bs : List Block) → 0 < length bs → Sources q2 n bs → TableauDone q2 0 0 bs → TableauDone q3 1 a bs)
+      (k4 : KeptOutside q3 q4 0 rows-at) (most : m ≤ tableau-atoms) (td : (bs : List Block) → Sources q3 r bs → TableauDone q3 1 a bs → TableauDone q4 (r + 1) m bs) (cl : Closed q4 p m a r (nb - 2)) where
     count : r ≡ length (rowsFrom 0 ls)
     count = all-taken q2 ls i v r end rd
 
@@ -187,8 +203,8 @@ module _ (ls : List Line) (ok : AcceptedLines ls) where
     agree : SameFrom q2 p rows-at
     agree = record {
       long = k2 .same ∙ s;
-      long-too = cl .same ∙ k3 .same ∙ k2 .same ∙ s;
-      same = λ y g h. cl .kept y h ∙ k3 .above y g;
+      long-too = cl .same ∙ k4 .same ∙ k3 .same ∙ k2 .same ∙ s;
+      same = λ y g h. cl .kept y h ∙ k4 .above y g ∙ k3 .above y g;
     }
 
     agree-blocks : SameFrom q2 p blocks-at
@@ -208,49 +224,58 @@ module _ (ls : List Line) (ok : AcceptedLines ls) where
     row-numbers : (k : ℕ) → k < r → RowNumbers p k (getD (rowsFrom 0 ls) k unlisted)
     row-numbers k h = row-same q2 p k (getD (rowsFrom 0 ls) k unlisted) (λ c f. agree .same (rows-at + k * 5 + c) (omega arith) (omega arith)) (rd .each k h)
 
-    done : TableauDone q3 (r + 1) m blockList
-    done = td blockList (sources q2 r each2 count (rd .each))
+    standing : Sources q2 r blockList
+    standing = sources q2 r each2 count (rd .each)
+
+    -- the question's copy
+    asked : TableauDone q3 1 a blockList
+    asked = first r blockList (let l = list-length in omega arith) standing (copies-start q2 blockList)
+
+    done : TableauDone q4 (r + 1) m blockList
+    done = td blockList (sources-kept q2 q3 r blockList (k2 .same ∙ s) k3 standing) asked
 
     abbrev placed : List PlacedAtom
     placed = atomsFrom 0 blockList
 
     size-is : m ≡ length placed
-    size-is = let l = list-length in let c = count in copies-all q3 (r + 1) m blockList (omega arith) done
+    size-is = let l = list-length in let c = count in copies-all q4 (r + 1) m blockList (omega arith) done
 
     placed-numbers : (k : ℕ) → k < length placed → PlacedNumbers p k (getD placed k unplaced)
     placed-numbers k h =
         let e = size-is in
-        placed-same q3 p k (getD placed k unplaced) (λ c f. cl .kept (k * 5 + c) (omega arith)) (done .each k (omega arith))
+        placed-same q4 p k (getD placed k unplaced) (λ c f. cl .kept (k * 5 + c) (omega arith)) (done .each k (omega arith))
 
-    whole-facts : (t : State) → FactNumbers (tableauFacts p t 0 (tableauSize p)) (facts sheet t)
+    whole-facts : (t : State) → FactNumbers (tableauFacts p t 0 (tableauSize p)) (tableauLog sheet t)
     whole-facts t =
         let e : tableauSize p ≡ length placed = cl .atoms-is ∙ size-is in
         let f = placed-facts p t placed 0 (λ k h. let z : 0 + k ≡ k = omega arith in subst (λ y. PlacedNumbers p y (getD placed k unplaced)) (sym z) (placed-numbers k h)) in
-        subst (λ n. FactNumbers (tableauFacts p t 0 n) (facts sheet t)) (sym e) (subst (FactNumbers (tableauFacts p t 0 (length placed))) (sym (facts-placed sheet t)) f)
+        subst (λ n. FactNumbers (tableauFacts p t 0 n) (tableauLog sheet t)) (sym e) (subst (FactNumbers (tableauFacts p t 0 (length placed))) (sym (log-placed sheet t ten-parents)) f)
 
     -- the question's atoms come first
     abbrev own : List PlacedAtom
-    own = map (λ a. record { number = 0; atom = a }) (sheet .question .atoms)
+    own = ownAtoms 0 (sheet .question .atoms)
 
     abbrev others : List PlacedAtom
     others = atomsFrom 1 (map (λ (j : Job). j .block) rest)
 
     own-length : length own ≡ askedSize p
     own-length =
-        let q = subst (BlockNumbers (blockNumbers q2 0) (blockSize q2 0)) (block-question ls ok) (each2 0 (omega arith)) in
-        length-map (sheet .question .atoms) (λ a. record { number = 0; atom = a }) ∙ sym (q .count) ∙ sym (k3 .above sizes-at (omega arith)) ∙ sym (cl .asked-is)
+        let c = copies-length q3 1 a blockList asked in
+        let b = length-append own others in
+        let e = cl .asked-is in
+        omega arith
 
     both-length : length placed ≡ askedSize p + length others
     both-length = length-append own others ∙ ap (λ n. n + length others) own-length
 
-    agreeing-facts : (t : State) → FactNumbers (tableauFacts p t (askedSize p) (tableauSize p - askedSize p)) (facts (bare sheet) t)
+    agreeing-facts : (t : State) → FactNumbers (tableauFacts p t (askedSize p) (tableauSize p - askedSize p)) (tableauLog (bare sheet) t)
     agreeing-facts t =
         let e : tableauSize p ≡ length placed = cl .atoms-is ∙ size-is in
         let b = both-length in
         let n : tableauSize p - askedSize p ≡ length others = omega arith in
         let f = placed-facts p t others (askedSize p)
         (λ k h. subst (PlacedNumbers p (askedSize p + k)) (ap (λ l. getD placed (l + k) unplaced) (sym own-length) ∙ getD-append-add own others k unplaced) (placed-numbers (askedSize p + k) (omega arith))) in
-        subst (λ n. FactNumbers (tableauFacts p t (askedSize p) n) (facts (bare sheet) t)) (sym n) (subst (FactNumbers (tableauFacts p t (askedSize p) (length others))) (sym (bare-placed sheet t)) f)
+        subst (λ n. FactNumbers (tableauFacts p t (askedSize p) n) (tableauLog (bare sheet) t)) (sym n) (subst (FactNumbers (tableauFacts p t (askedSize p) (length others))) (sym (bare-placed sheet t ten-parents)) f)
 
     views-count : viewCount p ≡ length views
     views-count = let n = blocks-count in let c = cl .views-is in omega arith

@@ -2,18 +2,19 @@
 use mathlib.Core.Path.{_≡_}
 use mathlib.Core.Bool.{cond}
 use mathlib.Core.List.{List, [], _∷_, _++_, map}
-use Prim.Native.Nat.{ℕ, zero, suc, _+_, _-_, _*_, _%_, _<_, _≤_}
-use lib.Dec.{eqb, ltb}
+use Prim.Native.Nat.{ℕ, zero, suc, _+_, _-_, _*_, _<_, _≤_}
+use lib.Dec.{ltb}
 use lib.ListN.{length, getD, drop}
 use Rattle.query_layout.specs.Layout.{block-width, names}
-use Rattle.tableau_layout.specs.Layout.{blocks-at, most-blocks, plan-numbers, sizes-at, slot-end, tableau-atoms, tableau-size-at, question-block, view-block}
+use Rattle.tableau_layout.specs.Layout.{blocks-at, most-blocks, plan-numbers, sizes-at, slot-end, tableau-atoms, tableau-size-at, view-block}
 use Rattle.sheet_format.specs.Limits.{constant-end}
+use Rattle.sheet_format.specs.Relations.{parentOf}
 use Rattle.list_laws.specs.Kept as ranges
-use Rattle.sheet_format.specs.Line.{Line, natural}
+use Rattle.sheet_format.specs.Line.{Line, gather, natural}
 use Rattle.sheet_format.specs.Cause.{kind, rest, refusalOf}
-use Rattle.query_meaning.specs.Meaning.{value, Atom, Block, In}
+use Rattle.query_meaning.specs.Meaning.{Term, value, Atom, Block, In}
 use Rattle.query_meaning.specs.Blocks.{isRow, allBlocks, nowhere, blockAt}
-use Rattle.query_encoding.specs.Encoding.{termAt, BlockNumbers, padded}
+use Rattle.query_encoding.specs.Encoding.{termNumber, termAt, BlockNumbers, padded}
 use Rattle.case_verdicts.specs.Accepted.{Fine}
 use Rattle.case_verdicts.specs.Sheets.{top, isView}
 use Rattle.case_verdicts.specs.Tableau.{State, copy}
@@ -68,10 +69,6 @@ pub record RowsDone (p : List ℕ) (ls : List Line) (i v r : ℕ) : Type 0 where
 unfoldable pub slotOf : ℕ → ℕ → ℕ
 slotOf k t = cond (ltb t names) (k * names + t) (cond (ltb t (constant-end + names)) (t + (slot-end - names)) 0)
 
--- number x of the atoms of copy k
-unfoldable pub placedNumber : ℕ → ℕ → ℕ → ℕ
-placedNumber k x t = cond (eqb (x % 5) 0) t (slotOf k t)
-
 -- the block of a copy, by the rows
 abbrev pub sourceOf : List ℕ → ℕ → ℕ
 sourceOf p zero = 0
@@ -88,10 +85,30 @@ pub record PlacedAtom : Type 0 where
 abbrev pub unplaced : PlacedAtom
 unplaced = record { number = 0; atom = record { rel = 0; terms = [] } }
 
+-- the terms of an atom with a relation, in copy k
+abbrev pub placedAtom : ℕ → ℕ → Atom → PlacedAtom
+placedAtom k rel a = record { number = k; atom = record { rel = rel; terms = a .terms } }
+
+abbrev pub placedIn : ℕ → List Atom → List PlacedAtom
+placedIn k l = map (λ a. record { number = k; atom = a }) l
+
+-- the terms as an atom of relation p, for p not 0
+abbrev pub owedAtoms : ℕ → List Term → List Atom
+owedAtoms zero ts = []
+owedAtoms (suc p) ts = record { rel = suc p; terms = ts } ∷ []
+
+-- an atom and the one that it owes: its terms in its relation's parent
+abbrev pub withOwed : Atom → List Atom
+withOwed a = a ∷ owedAtoms (parentOf (a .rel)) (a .terms)
+
+-- so for each atom of copy k
+abbrev pub ownAtoms : ℕ → List Atom → List PlacedAtom
+ownAtoms k l = placedIn k (gather withOwed l)
+
 -- the atoms of the blocks, which are copies from k on
 abbrev pub atomsFrom : ℕ → List Block → List PlacedAtom
 atomsFrom k [] = []
-atomsFrom k (b ∷ bs) = map (λ a. record { number = k; atom = a }) (b .atoms) ++ atomsFrom (suc k) bs
+atomsFrom k (b ∷ bs) = ownAtoms k (b .atoms) ++ atomsFrom (suc k) bs
 
 -- the blocks of a tableau with n rows stand in p
 pub record Sources (p : List ℕ) (n : ℕ) (bs : List Block) : Type 0 where
@@ -106,18 +123,28 @@ pub record PlacedNumbers (p : List ℕ) (i : ℕ) (a : PlacedAtom) : Type 0 wher
   pub relation : tableauAt p i 0 ≡ a .atom .rel
   pub terms : (s : State) (c : ℕ) → c < 4 → slotValue s (getD p (i * 5 + 1 + c) 0) ≡ value (copy s (a .number)) (termAt (a .atom .terms) c)
 
+-- an atom of a block stands from a place on
+pub record AtomAt (p : List ℕ) (from : ℕ) (a : Atom) : Type 0 where
+  pub relation : getD p from 0 ≡ a .rel
+  pub terms : (c : ℕ) → c < 4 → getD p (from + 1 + c) 0 ≡ termNumber (termAt (a .terms) c)
+  pub fine : Fine top (a .terms)
+
+-- the first n of the atoms stand in the tableau, and these are left
+pub record AtomsStored (p : List ℕ) (n : ℕ) (l left : List PlacedAtom) : Type 0 where
+  pub within : n ≤ length l
+  pub ahead : drop n l ≡ left
+  pub each : (i : ℕ) → i < n → PlacedNumbers p i (getD l i unplaced)
+
 -- the atoms of the first k copies, which are n, stand in the tableau
-pub record TableauDone (p : List ℕ) (k n : ℕ) (bs : List Block) : Type 0 where
-  pub within : n ≤ length (atomsFrom 0 bs)
-  pub left : drop n (atomsFrom 0 bs) ≡ atomsFrom k (drop k bs)
-  pub each : (i : ℕ) → i < n → PlacedNumbers p i (getD (atomsFrom 0 bs) i unplaced)
+abbrev pub TableauDone : List ℕ → ℕ → ℕ → List Block → Type 0
+TableauDone p k n bs = AtomsStored p n (atomsFrom 0 bs) (atomsFrom k (drop k bs))
 
 -- ---- the counts
 
-pub record Closed (p q : List ℕ) (atoms listed views : ℕ) : Type 0 where
+pub record Closed (p q : List ℕ) (atoms asked listed views : ℕ) : Type 0 where
   pub same : length q ≡ length p
   pub kept : (y : ℕ) → y < tableau-size-at → getD q y 0 ≡ getD p y 0
   pub atoms-is : tableauSize q ≡ atoms
-  pub asked-is : askedSize q ≡ blockSize p question-block
+  pub asked-is : askedSize q ≡ asked
   pub listed-is : rowCount q ≡ listed
   pub views-is : viewCount q ≡ views

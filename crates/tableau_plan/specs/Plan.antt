@@ -13,9 +13,9 @@ use Rattle.query_meaning.specs.Meaning.{Term, con, Block, In}
 use Rattle.query_meaning.specs.Blocks.{View, nowhere, nth}
 use Rattle.query_encoding.specs.Encoding.{BlockNumbers, FactNumbers, padded}
 use Rattle.case_verdicts.specs.Verdict.{Sheet}
-use Rattle.case_verdicts.specs.Tableau.{Job, State, jobs, facts, bare}
+use Rattle.case_verdicts.specs.Tableau.{Job, State, jobs, tableauLog, bare}
 
--- ---- the layout of the 1,184 numbers
+-- ---- the layout of the numbers
 
 -- number c of atom i of the tableau: 0 its relation, 1 to 4 its terms
 abbrev pub tableauAt : List ℕ → ℕ → ℕ → ℕ
@@ -32,7 +32,8 @@ blockNumbers p b = take block-width (drop (blocks-at + b * block-width) p)
 abbrev pub blockSize : List ℕ → ℕ → ℕ
 blockSize p b = getD p (sizes-at + b) 0
 
--- how many atoms the tableau has, how many of them, in front, are the question's, how many rows there are, and how many views
+-- how many atoms the tableau has with those that are owed, how many of them, in front, are the question's, how many rows there are, and how
+-- many views
 abbrev pub tableauSize : List ℕ → ℕ
 tableauSize p = getD p tableau-size-at 0
 
@@ -83,9 +84,9 @@ pub record Plan (p : List ℕ) (x : Sheet) : Type 0 where
   pub rows-few : rowCount p ≤ most-rows
   pub lists-few : listCount p ≤ most-lists
   pub views-few : viewCount p ≤ most-views
-  -- the tableau's facts, with the question's and without
-  pub whole : (s : State) → FactNumbers (tableauFacts p s 0 (tableauSize p)) (facts x s)
-  pub agreeing : (s : State) → FactNumbers (tableauFacts p s (askedSize p) (tableauSize p - askedSize p)) (facts (bare x) s)
+  -- the tableau's facts and the rows that they owe, with the question's and without
+  pub whole : (s : State) → FactNumbers (tableauFacts p s 0 (tableauSize p)) (tableauLog x s)
+  pub agreeing : (s : State) → FactNumbers (tableauFacts p s (askedSize p) (tableauSize p - askedSize p)) (tableauLog (bare x) s)
   -- the blocks
   pub question : BlockNumbers (blockNumbers p question-block) (blockSize p question-block) (x .question)
   pub lists : listCount p ≡ length (x .lists)

@@ -22,19 +22,20 @@ use tableau_layout::TABLEAU_ATOMS;
 use tableau_layout::TABLEAU_SIZE_AT;
 use tableau_layout::VIEW_BLOCKS;
 ghost use mathlib.Core.Path.{_≡_};
-ghost use mathlib.Core.List.{List};
+ghost use mathlib.Core.List.{List, _∷_, _++_};
 ghost use Prim.Native.Nat.{ℕ, _+_, _-_, _*_, _/_, _<_, _≤_};
 ghost use lib.IntN.{pos};
 ghost use lib.ListN.{length, getD};
 ghost use Rattle.query_layout.specs.Layout.{block-width};
 ghost use Rattle.tableau_layout.specs.Layout.{blocks-at, most-blocks, plan-numbers, rows-at, tableau-atoms};
-ghost use Rattle.sheet_format.specs.Limits.{most-rows};
+ghost use Rattle.sheet_format.specs.Limits.{most-atoms, most-rows};
 ghost use Rattle.sheet_format.specs.Line.{natural, wordLines};
 ghost use Rattle.sheet_format.specs.Cause.{refusalOf};
-ghost use Rattle.query_meaning.specs.Meaning.{Block};
+ghost use Rattle.query_meaning.specs.Meaning.{Atom, Block};
+ghost use Rattle.query_encoding.specs.Encoding.{atomAt};
 ghost use Rattle.case_verdicts.specs.Sheets.{sheetOf};
 ghost use Rattle.tableau_plan.specs.Plan.{Plan};
-ghost use Rattle.tableau_plan.specs.Parts.{KeptOutside, BlockStored, Blocks, slotOf, placedNumber, sourceOf, RowsDone, Sources, TableauDone, Closed};
+ghost use Rattle.tableau_plan.specs.Parts.{KeptOutside, BlockStored, Blocks, slotOf, sourceOf, RowsDone, PlacedAtom, placedAtom, placedIn, withOwed, ownAtoms, AtomAt, AtomsStored, Sources, TableauDone, Closed};
 ghost use Rattle.query_blocks.specs.Parts.{AcceptedLines};
 
 // Terms of a block are below this.
@@ -171,27 +172,57 @@ fn slot(copy: usize, term: usize) -> usize
     0
 }
 
-// Number x of a copy's atoms: a relation as it is, or a term.
-fn placed(copy: usize, x: usize, number: usize) -> usize
-    requires { ⌜ copy ≤ most-rows ⌝ }
-    ensures { λ r. ⌜ r ≡ placedNumber copy x number ⌝ }
+// The terms of an atom of a copy, at a place.
+fn place_terms(p: &mut [usize], copy: usize, from: usize, at: usize)
+    requires { ⌜ (length (now p) ≡ plan-numbers) × (copy ≤ most-rows) × (rows-at ≤ from) × (from + 4 ≤ plan-numbers) × (at + 4 ≤ rows-at) ⌝ }
+    ensures { λ r. ⌜ KeptOutside (now (p .entry)) (now (p .exit)) at (at + 4) × ((c : ℕ) → c < 4 → getD (now (p .exit)) (at + c) 0 ≡ slotOf copy (getD (now (p .entry)) (from + c) 0)) ⌝ }
 {
-    if x % FACT_NUMBERS == 0 {
-        return number;
+    let mut c = 0;
+    while c < COLUMNS {
+        p[at + c] = slot(copy, p[from + c]);
+        c += 1;
     }
-    slot(copy, number)
 }
 
-// The atoms of a copy, n numbers.
-fn put_atoms(p: &mut [usize], copy: usize, from: usize, at: usize, n: usize)
-    requires { ⌜ (length (now p) ≡ plan-numbers) × (copy ≤ most-rows) × (rows-at ≤ from) × (from + n ≤ plan-numbers) × (at + n ≤ rows-at) ⌝ }
-    ensures { λ r. ⌜ KeptOutside (now (p .entry)) (now (p .exit)) at (at + n) × ((x : ℕ) → x < n → getD (now (p .exit)) (at + x) 0 ≡ placedNumber copy x (getD (now (p .entry)) (from + x) 0)) ⌝ }
+// The terms of an atom of a copy with a relation, as the tableau's atom `at`; the next place.
+fn place_atom(p: &mut [usize], copy: usize, relation: usize, from: usize, at: usize) -> usize
+    requires { ⌜ (length (now p) ≡ plan-numbers) × (copy ≤ most-rows) × (rows-at ≤ from) × (from + 5 ≤ plan-numbers) × (at ≤ tableau-atoms) ⌝ }
+    ensures { λ r. ⌜ (r ≤ tableau-atoms) × KeptOutside (now (p .entry)) (now (p .exit)) 0 rows-at × ((l left : List PlacedAtom) (a : Atom) → length l ≤ tableau-atoms → AtomAt (now (p .entry)) from a → AtomsStored (now (p .entry)) at l (placedAtom copy relation a ∷ left) → AtomsStored (now (p .exit)) r l left) ⌝ }
 {
-    let mut x = 0;
-    while x < n {
-        p[at + x] = placed(copy, x, p[from + x]);
-        x += 1;
+    if TABLEAU_ATOMS <= at {
+        return at;
     }
+    place_terms(p, copy, from + 1, at * FACT_NUMBERS + 1);
+    p[at * FACT_NUMBERS] = relation;
+    at + 1
+}
+
+// An atom of a copy, and the one that it owes to its relation's parent; the next place.
+fn put_atom(p: &mut [usize], copy: usize, from: usize, at: usize) -> usize
+    requires { ⌜ (length (now p) ≡ plan-numbers) × (copy ≤ most-rows) × (rows-at ≤ from) × (from + 5 ≤ plan-numbers) × (at ≤ tableau-atoms) ⌝ }
+    ensures { λ r. ⌜ (r ≤ tableau-atoms) × KeptOutside (now (p .entry)) (now (p .exit)) 0 rows-at × ((l left : List PlacedAtom) (a : Atom) → length l ≤ tableau-atoms → AtomAt (now (p .entry)) from a → AtomsStored (now (p .entry)) at l (placedIn copy (withOwed a) ++ left) → AtomsStored (now (p .exit)) r l left) ⌝ }
+{
+    let relation = p[from];
+    let next = place_atom(p, copy, relation, from, at);
+    let parent = sheet_terms::parent(relation);
+    if parent == 0 {
+        return next;
+    }
+    place_atom(p, copy, parent, from, next)
+}
+
+// The n atoms of a copy, each with the one that it owes; the next place.
+fn put_atoms(p: &mut [usize], copy: usize, from: usize, n: usize, at: usize) -> usize
+    requires { ⌜ (length (now p) ≡ plan-numbers) × (copy ≤ most-rows) × (n ≤ most-atoms) × (rows-at ≤ from) × (from + n * 5 ≤ plan-numbers) × (at ≤ tableau-atoms) ⌝ }
+    ensures { λ r. ⌜ (r ≤ tableau-atoms) × KeptOutside (now (p .entry)) (now (p .exit)) 0 rows-at × ((l left : List PlacedAtom) (own : List Atom) → length l ≤ tableau-atoms → n ≡ length own → ((j : ℕ) → j < n → AtomAt (now (p .entry)) (from + j * 5) (atomAt own j)) → AtomsStored (now (p .entry)) at l (ownAtoms copy own ++ left) → AtomsStored (now (p .exit)) r l left) ⌝ }
+{
+    let mut next = at;
+    let mut j = 0;
+    while j < n {
+        next = put_atom(p, copy, from + j * FACT_NUMBERS, next);
+        j += 1;
+    }
+    next
 }
 
 // The block of a copy: the question, or the view of a row.
@@ -209,7 +240,7 @@ fn source(p: &[usize], copy: usize) -> usize
     0
 }
 
-// One copy more, its atoms from atom `at` on.
+// One copy more, its atoms from atom `at` on; the next place.
 fn put_copy(p: &mut [usize], copy: usize, at: usize) -> usize
     requires { ⌜ (length (now p) ≡ plan-numbers) × (copy ≤ most-rows) × (at ≤ tableau-atoms) ⌝ }
     ensures { λ r. ⌜ (r ≤ tableau-atoms) × KeptOutside (now (p .entry)) (now (p .exit)) 0 rows-at × ((n : ℕ) (bs : List Block) → copy < length bs → Sources (now (p .entry)) n bs → TableauDone (now (p .entry)) copy at bs → TableauDone (now (p .exit)) (copy + 1) r bs) ⌝ }
@@ -219,26 +250,16 @@ fn put_copy(p: &mut [usize], copy: usize, at: usize) -> usize
     if MOST_ATOMS < n {
         return at;
     }
-    if TABLEAU_ATOMS - at < n {
-        return at;
-    }
-    put_atoms(
-        p,
-        copy,
-        BLOCKS_AT + b * BLOCK_NUMBERS,
-        at * FACT_NUMBERS,
-        n * FACT_NUMBERS,
-    );
-    at + n
+    put_atoms(p, copy, BLOCKS_AT + b * BLOCK_NUMBERS, n, at)
 }
 
-// The tableau of the blocks and rows, and how many atoms it has.
-fn put_tableau(p: &mut [usize], n: usize) -> usize
-    requires { ⌜ (length (now p) ≡ plan-numbers) × (n ≤ most-rows) ⌝ }
-    ensures { λ r. ⌜ (r ≤ tableau-atoms) × KeptOutside (now (p .entry)) (now (p .exit)) 0 rows-at × ((bs : List Block) → Sources (now (p .entry)) n bs → TableauDone (now (p .exit)) (n + 1) r bs) ⌝ }
+// The copies of the rows, after the question's, which has the first `asked` atoms; how many atoms the tableau has then.
+fn put_tableau(p: &mut [usize], n: usize, asked: usize) -> usize
+    requires { ⌜ (length (now p) ≡ plan-numbers) × (n ≤ most-rows) × (asked ≤ tableau-atoms) ⌝ }
+    ensures { λ r. ⌜ (r ≤ tableau-atoms) × KeptOutside (now (p .entry)) (now (p .exit)) 0 rows-at × ((bs : List Block) → Sources (now (p .entry)) n bs → TableauDone (now (p .entry)) 1 asked bs → TableauDone (now (p .exit)) (n + 1) r bs) ⌝ }
 {
-    let mut at = 0;
-    let mut copy = 0;
+    let mut at = asked;
+    let mut copy = 1;
     while copy <= n {
         at = put_copy(p, copy, at);
         copy += 1;
@@ -247,18 +268,17 @@ fn put_tableau(p: &mut [usize], n: usize) -> usize
 }
 
 // The four counts.
-fn put_counts(p: &mut [usize], atoms: usize, listed: usize, blocks: usize)
+fn put_counts(p: &mut [usize], atoms: usize, asked: usize, listed: usize, blocks: usize)
     requires { ⌜ length (now p) ≡ plan-numbers ⌝ }
-    ensures { λ r. ⌜ Closed (now (p .entry)) (now (p .exit)) atoms listed (blocks - 2) ⌝ }
+    ensures { λ r. ⌜ Closed (now (p .entry)) (now (p .exit)) atoms asked listed (blocks - 2) ⌝ }
 {
-    let asked = p[SIZES_AT];
     p[TABLEAU_SIZE_AT] = atoms;
     p[TABLEAU_SIZE_AT + 1] = asked;
     p[TABLEAU_SIZE_AT + 2] = listed;
     p[TABLEAU_SIZE_AT + 3] = view_of(view_of(blocks));
 }
 
-// The plan of an accepted number form, in 1,184 words; more or fewer words are left as they are.
+// The plan of an accepted number form, where there are as many words as a plan has; more or fewer words are left as they are.
 pub fn plan(ws: &[i32], p: &mut [usize])
     ensures { λ r. ⌜ (length (now (p .entry)) ≡ plan-numbers → refusalOf (wordLines (now (ws .entry))) .number ≡ 0 → Plan (now (p .exit)) (sheetOf (wordLines (now (ws .entry))))) ⌝ }
     ensures { λ r. ⌜ ((length (now (p .entry)) ≡ plan-numbers → ⊥) → now (p .exit) ≡ now (p .entry)) ⌝ }
@@ -268,6 +288,7 @@ pub fn plan(ws: &[i32], p: &mut [usize])
     }
     let blocks = put_blocks(ws, p);
     let listed = put_rows(ws, p);
-    let atoms = put_tableau(p, listed);
-    put_counts(p, atoms, listed, blocks);
+    let asked = put_copy(p, 0, 0);
+    let atoms = put_tableau(p, listed, asked);
+    put_counts(p, atoms, asked, listed, blocks);
 }

@@ -2,6 +2,7 @@
 //
 // A sheet's words are its number form in 602 words: seven to a line, the field count, the kind and the fields after it, and zeros after the
 // last line.
+use judge_result::LEAST_ROOM;
 use sheet_format::CONSTANT_END;
 use sheet_format::Ending;
 use sheet_format::LINE_WORDS;
@@ -15,6 +16,13 @@ ghost use lib.ListN.{length};
 const FACT: usize = 5;
 
 const ANSWER: usize = 4;
+
+// The relations of beats, noise and signals.
+const SIG: i32 = 4;
+
+const BEAT: i32 = 5;
+
+const NOISE: i32 = 6;
 
 const ANSWERS: usize = 1024;
 
@@ -116,10 +124,13 @@ fn is_case(sheet: &[u8], words: &[i32], facts: &[i32]) -> bool
     agrees(sheet, words, facts)
 }
 
-// Whether each view's answers are its listed rows.
+// Whether each beat and each noise is a signal, and each view's answers are its listed rows.
 fn agrees(sheet: &[u8], words: &[i32], facts: &[i32]) -> bool
     requires { ⌜ length (now words) ≡ 602 ⌝ }
 {
+    if !are_signals(facts) {
+        return false;
+    }
     let blocks = heads(words, MOST_LINES);
     let mut block = 2;
     while block < blocks {
@@ -127,6 +138,58 @@ fn agrees(sheet: &[u8], words: &[i32], facts: &[i32]) -> bool
         if !is_listed(sheet, words, facts, block) {
             return false;
         }
+    }
+    true
+}
+
+// Whether the row of each beat and each noise is a signal's too.
+fn are_signals(facts: &[i32]) -> bool {
+    let mut i = 0;
+    while i < facts.len() / FACT {
+        if owes_signal(facts, i) {
+            if !is_signal(facts, i) {
+                return false;
+            }
+        }
+        i += 1;
+    }
+    true
+}
+
+// Whether fact i is a beat or noise.
+fn owes_signal(facts: &[i32], i: usize) -> bool
+    requires { ⌜ i * 5 + 5 ≤ length (now facts) ⌝ }
+{
+    let relation = facts[i * FACT];
+    relation == BEAT || relation == NOISE
+}
+
+// Whether the row of fact i is a signal's.
+fn is_signal(facts: &[i32], i: usize) -> bool
+    requires { ⌜ i * 5 + 5 ≤ length (now facts) ⌝ }
+{
+    let mut k = 0;
+    while k < facts.len() / FACT {
+        if facts[k * FACT] == SIG {
+            if is_row(facts, k, i) {
+                return true;
+            }
+        }
+        k += 1;
+    }
+    false
+}
+
+// Whether facts k and i have the same row.
+fn is_row(facts: &[i32], k: usize, i: usize) -> bool
+    requires { ⌜ (k * 5 + 5 ≤ length (now facts)) × (i * 5 + 5 ≤ length (now facts)) ⌝ }
+{
+    let mut c = 1;
+    while c < FACT {
+        if facts[k * FACT + c] != facts[i * FACT + c] {
+            return false;
+        }
+        c += 1;
     }
     true
 }
@@ -336,7 +399,7 @@ fn is_bare(sheet: &[u8], words: &[i32], facts: &[i32]) -> bool
 fn is_case_without(sheet: &[u8], words: &[i32], facts: &[i32], i: usize) -> bool
     requires { ⌜ length (now words) ≡ 602 ⌝ }
 {
-    let mut rest = [0i32; 640];
+    let mut rest = [0i32; LEAST_ROOM];
     let n = put_without(facts, i, &mut rest);
     is_case(sheet, words, &rest[0..n])
 }

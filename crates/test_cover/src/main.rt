@@ -10,7 +10,7 @@
 // where they are not. Of a case that was handed over four marks more, "=" where it is so and "!" where it is not:
 //
 //     its facts are facts, ascend, and have values that stand in the sheet or are made up
-//     each view's answers are its listed rows
+//     each beat and each noise is a signal, and each view's answers are its listed rows
 //     the missing answer is the least of the question's that the list lacks
 //     with any one fact dropped it is no case
 //
@@ -18,11 +18,15 @@
 // which of these are shown, since the case is free: 0 none, 1 the missing answer, 2 all. With any other verdict all are.
 mod checks;
 
+use judge_result::LEAST_ROOM;
 use libc::STDOUT_FILENO;
 ghost use Prim.Native.Nat.{_≤_};
 
-// No result is longer: it has a name of at most 8192 bytes, at most 704 words of twelve bytes each, and eight numbers of some twenty.
-const ROOM: usize = 17408;
+// The words that are lent, at most.
+const LENT: usize = LEAST_ROOM + 64;
+
+// No result is longer: it has a name of at most 8192 bytes, as many words of twelve bytes each, and eight numbers of some twenty.
+const ROOM: usize = 8192 + LENT * 12 + 512;
 
 // Runs every case: the count is one that no input reaches.
 fn main() {
@@ -82,9 +86,9 @@ fn run_parts(parts: &[u8], out: &mut [u8], at: usize) -> usize {
 fn call(text: &[u8], room: usize, shown: usize, out: &mut [u8], at: usize) -> usize {
     let mut bytes = [0u8; 8704];
     let n = test_bytes::bytes(text, &mut bytes);
-    let mut lent = [0i32; 704];
+    let mut lent = [0i32; LENT];
     test_lent::put_marks(&mut lent);
-    let k = least(room, 704);
+    let k = least(room, LENT);
     show(&bytes[0..n], shown, &mut lent[0..k], out, at)
 }
 

@@ -75,7 +75,7 @@ fn run_parts(numbers: &[u8], texts: &[u8], out: &mut [u8]) -> usize {
 fn call(sheet: &[u8], block: usize, facts: &[u8], room: usize, out: &mut [u8]) -> usize {
     let mut bytes = [0u8; 8704];
     let n = test_bytes::bytes(sheet, &mut bytes);
-    let mut words = [0i32; 704];
+    let mut words = [0i32; 1344];
     let m = test_words::words(facts, FACT, &mut words);
     let mut lent = [0i32; 8192];
     test_lent::put_marks(&mut lent);

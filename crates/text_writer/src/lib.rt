@@ -15,8 +15,8 @@ ghost use Rattle.text_buffer.specs.Puts.{Put};
 ghost use Rattle.text_buffer.specs.Words.{bytes};
 ghost use Rattle.text_writer.specs.Texts.{withoutBlanks, wordBytes, numberBytes, variableLetter, termBytes, termsBytes, relationBytes};
 
-// The room that the text of a sheet, and all that is said in words, want: as many bytes as a sheet may have.
-pub const TEXT_ROOM: usize = MOST_SHEET_BYTES;
+// The room that the text of a sheet, and all that is said in words, want: twice as many bytes as a sheet may have, for the facts of a case.
+pub const TEXT_ROOM: usize = MOST_SHEET_BYTES * 2;
 
 // A byte that is no blank.
 fn put_unless_blank(out: &mut [u8], at: usize, b: u8) -> usize

@@ -15,7 +15,7 @@ returns : tie.Need-returns
 returns c =
     let s = c .before .before .before in
     let g = c .before .all-given in
-    λ ready clean.
+    λ ready clean owes.
     left-not (s .args .p .now) (s .args .facts .now)
     (subst (λ b. GivenToBy b (s .args .p .now) (s .args .facts .now) (rowCount (s .args .p .now))) (not-true (g .result) (c .if1 .taken)) (g .ensures ready))
 
@@ -27,10 +27,10 @@ returns-2 c =
     let b = c .before .before in
     let s = b .before .before .before in
     let g = b .before .all-given in
-    λ ready clean.
+    λ ready clean owes.
     left-seen (s .args .p .now) (s .args .facts .now) (s .args .seen)
     (subst (λ b. GivenToBy b (s .args .p .now) (s .args .facts .now) (rowCount (s .args .p .now))) (not-false (g .result) (b .if1 .left)) (g .ensures ready))
-    clean (c .before .lacks .ensures ready (c .if2 .taken))
+    clean owes (c .before .lacks .ensures ready (c .if2 .taken))
 
 missing-requires : tie.Need-missing-requires
 missing-requires c κs = search needs
@@ -41,10 +41,10 @@ returns-3 c =
     let s = b .before .before .before in
     let g = b .before .all-given in
     let m = c .missing in
-    λ ready clean.
+    λ ready clean owes.
     left-by (m .result .some) (s .args .p .now) (s .args .facts .now) (m .result .values)
     (subst (λ b. GivenToBy b (s .args .p .now) (s .args .facts .now) (rowCount (s .args .p .now))) (not-false (g .result) (b .if1 .left)) (g .ensures ready))
-    clean (m .ensures ready)
+    clean owes (m .ensures ready)
 
 pub is-left-spec : {M : Type 1} → statement M
 is-left-spec =

@@ -67,7 +67,7 @@ loop-again c =
     let at-close-gap = c .before .before .before .before .before .before .before .before .before in
     let at-if1 = at-close-gap .before .before in
     let at-drops = at-if1 .before in
-    let at-loop-test = at-drops .before .before .before in
+    let at-loop-test = at-drops .before .before .before .before in
     let at-loop = at-loop-test .before in
     let start = at-loop .before .before .before .before .before .before in
     let o = c .before .before .before .before .before .leave-out in
@@ -87,7 +87,7 @@ loop-again c =
           let long = length-take-le (l .m * 5) (l .facts) fit in
           let was = l .inv .5 ready k in
           let left = subst (λ (b : Bool). CaseBy b (a .p .now) (without ms (l .i))) (at-if1 .if1 .taken)
-          (left-without (d .result .some) (a .p .now) ms (take ((l .m - 1) * 5) (l .room)) (l .m) (l .i) long t (l .inv .4 t) (was .still .0 .1) (d .ensures ready)) in
+          (left-without (d .result .some) (a .p .now) ms (take ((l .m - 1) * 5) (l .room)) (l .m) (l .i) long t (l .inv .4 t) (was .still .0 .1) (d .ensures ready (was .still .2) (l .inv .4 t))) in
           subst (λ (ks : List ℕ). TriedFact (a .p .now) (take (a .n * 5) (a .facts .now)) (a .n) ks (l .m - 1) (a .n) (l .i)) (sym (g .ensures))
           (tried-dropped (a .p .now) (take (a .n * 5) (a .facts .now)) (a .n) ms (l .m) (l .i) long t (omega arith) left was),
     )
@@ -106,14 +106,14 @@ loop-less-2 c = search needs
 
 loop-again-2 : tie.Need-loop-again-2 Inv-loop μ-loop
 loop-again-2 c =
-    let at-loop = c .before .before .before .before .before .before .before .before .before in
+    let at-loop = c .before .before .before .before .before .before .before .before .before .before in
     let start = at-loop .before .before .before .before .before .before in
     let q = c .before .put-back in
     let d = c .before .before .before .before .before .drops in
     let l = at-loop .loop in
     let a = start .args in
     let ms = take (l .m * 5) (l .facts) in
-    let t = c .before .before .before .before .before .before .before .before .loop-test .taken in
+    let t = c .before .before .before .before .before .before .before .before .before .loop-test .taken in
     let fit : l .m * 5 ≤ length (l .facts) = omega (arith, l .inv .1, l .inv .2, start .pre .1) in (
       omega arith,
       omega arith,
@@ -125,7 +125,7 @@ loop-again-2 c =
           let was = l .inv .5 ready k in
           tried-kept (a .p .now) (take (a .n * 5) (a .facts .now)) (a .n) ms (l .m) (a .n) (l .i)
           (subst (λ (b : Bool). CaseBy b (a .p .now) (without ms (l .i))) (c .before .before .before .before .if1 .left)
-          (left-without (d .result .some) (a .p .now) ms (take ((l .m - 1) * 5) (l .room)) (l .m) (l .i) long t (l .inv .4 t) (was .still .0 .1) (d .ensures ready)))
+          (left-without (d .result .some) (a .p .now) ms (take ((l .m - 1) * 5) (l .room)) (l .m) (l .i) long t (l .inv .4 t) (was .still .0 .1) (d .ensures ready (was .still .2) (l .inv .4 t))))
           was,
     )
 

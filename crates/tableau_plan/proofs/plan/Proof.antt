@@ -9,12 +9,6 @@ use Rattle.tableau_plan.proofs.Whole.{plan-of}
 use borrow.Author.Needs.{needs}
 use Rattle.tableau_plan.proofs.plan.Statement.{statement}
 use Rattle.tableau_plan.proofs.plan.Tie as tie
-use Rattle.tableau_plan.proofs.plan.Reads as reads
-use Rattle.tableau_plan.proofs.plan.Lts as lts
-use Rattle.tableau_plan.proofs.put_blocks.Reads as put-blocks-reads
-use Rattle.tableau_plan.proofs.put_counts.Reads as put-counts-reads
-use Rattle.tableau_plan.proofs.put_rows.Reads as put-rows-reads
-use Rattle.tableau_plan.proofs.put_tableau.Reads as put-tableau-reads
 
 returns : tie.Need-returns
 returns c = (λ long. absurd (c .if1 .taken long), λ _. refl)
@@ -24,6 +18,9 @@ put-blocks-requires c κs = search needs
 
 put-rows-requires : tie.Need-put-rows-requires
 put-rows-requires c κs = search needs
+
+put-copy-requires : tie.Need-put-copy-requires
+put-copy-requires c κs = search needs
 
 put-tableau-requires : tie.Need-put-tableau-requires
 put-tableau-requires c κs = search needs
@@ -36,7 +33,9 @@ same-length c = search needs
 
 returns-2 : tie.Need-returns-2
 returns-2 c =
-    let at-put-rows = c .before .before .before .before .before .before .before .before .before .before in
+    let at-put-tableau = c .before .before .before .before .before .before in
+    let at-put-copy = at-put-tableau .before .before .before .before in
+    let at-put-rows = at-put-copy .before .before .before .before in
     let at-put-blocks = at-put-rows .before .before .before .before in
     let at-if1 = at-put-blocks .before .before in
     let start = at-if1 .before .before in (
@@ -44,11 +43,13 @@ returns-2 c =
           let w = start .args .ws .now in
           let b = at-put-blocks .put-blocks in
           let r = at-put-rows .put-rows in
-          let t = c .before .before .before .before .before .before .put-tableau in
+          let q = at-put-copy .put-copy in
+          let t = at-put-tableau .put-tableau in
           let n = c .before .before .put-counts in
           let l = lines-length w in
           let (v, d) = r .ensures .2 ok in
-          plan-of (wordLines w) ok (b .last .1 .0) (r .last .1 .0) (t .last .0) (n .last .0) (b .result) (length w / 7) v (r .result) (t .result) (b .ensures .0) (b .ensures .1 ok) (r .ensures .1) (r .ensures .0) (omega arith) d (t .ensures .1) (t .ensures .0) (t .ensures .2) (n .ensures),
+          plan-of (wordLines w) ok (b .last .1 .0) (r .last .1 .0) (q .last .0) (t .last .0) (n .last .0) (b .result) (length w / 7) v (r .result) (q .result) (t .result) (b .ensures .0) (b .ensures .1 ok) (r .ensures .1) (r .ensures .0) (omega arith) d
+          (q .ensures .1) (q .ensures .2) (t .ensures .1) (t .ensures .0) (t .ensures .2) (n .ensures),
       λ other. absurd (other (at-if1 .if1 .left)),
     )
 
@@ -59,6 +60,7 @@ plan-spec =
     returns
     put-blocks-requires
     put-rows-requires
+    put-copy-requires
     put-tableau-requires
     put-counts-requires
     same-length

@@ -1,66 +1,78 @@
--- `plan::put_atoms` meets its contract. The loop's invariant: the first x numbers have been stored. Assumes nothing.
-use mathlib.Core.Path.{ap, _∙_}
-use Prim.Native.Nat.{_≤_, _-_, _+_}
+-- `plan::put_atoms` meets its contract. The loop's invariant: the first j atoms have been stored, each with what it owes. Assumes nothing.
+use mathlib.Core.Path.{_≡_, _∙_, subst}
+use mathlib.Core.List.{List, _++_}
+use Prim.Native.Nat.{ℕ, _≤_, _<_, _-_, _+_, _*_}
 use native.Mathlib.Omega.{arith}
 use borrow.Author.Needs.{needs}
-use lib.ListN.{getD}
-use Rattle.list_laws.proofs.Ranges.{shifted, placed-none, placed-more, placed-all}
-use Rattle.list_laws.specs.Kept.{Filled}
-use Rattle.tableau_plan.specs.Parts.{placedNumber}
+use lib.ListN.{length, drop}
+use Rattle.tableau_layout.specs.Layout.{rows-at, tableau-atoms}
+use Rattle.list_laws.proofs.Ranges.{kept-none, kept-more}
+use Rattle.query_meaning.specs.Meaning.{Atom}
+use Rattle.query_encoding.specs.Encoding.{atomAt}
+use Rattle.tableau_plan.specs.Parts.{KeptOutside, PlacedAtom, ownAtoms, AtomAt, AtomsStored}
+use Rattle.tableau_plan.proofs.Copies.{atom-same, own-first, own-none}
 use Rattle.tableau_plan.proofs.put_atoms.Statement.{statement}
 use Rattle.tableau_plan.proofs.put_atoms.Tie as tie
 
 abbrev Inv-loop : tie.InvT-loop
-Inv-loop p₀ copy from at n x₀ p x = (x ≤ n) × Filled 0 p₀ p at (at + x) (shifted at (λ y. placedNumber copy y (getD p₀ (from + y) 0)))
+Inv-loop p₀ copy from n at next₀ j₀ p next j =
+    (j ≤ n)
+    × (next ≤ tableau-atoms)
+    × KeptOutside p₀ p 0 rows-at
+    × ((l left : List PlacedAtom) (own : List Atom) → length l ≤ tableau-atoms → n ≡ length own → ((i : ℕ) → i < n → AtomAt p₀ (from + i * 5) (atomAt own i)) → AtomsStored p₀ at l (ownAtoms copy own ++ left) → AtomsStored p next l (ownAtoms copy (drop j own) ++ left))
 
 abbrev μ-loop : tie.MeasureT-loop
-μ-loop p₀ copy from at n x₀ p x = n - x
+μ-loop p₀ copy from n at next₀ j₀ p next j = n - j
 
 loop-holds : tie.Need-loop-holds Inv-loop μ-loop
-loop-holds c = (omega arith, placed-none (c .before .args .p .now) (c .before .args .at) _)
+loop-holds c = (omega arith, omega arith, kept-none (c .before .args .p .now) 0 rows-at, λ l left own few count stand d. d)
 
-add-placed : tie.Need-add-placed Inv-loop μ-loop
-add-placed c = search needs
+mul-put-atom : tie.Need-mul-put-atom Inv-loop μ-loop
+mul-put-atom c = search needs
 
-mul-placed : tie.Need-mul-placed Inv-loop μ-loop
-mul-placed c = search needs
+add-put-atom : tie.Need-add-put-atom Inv-loop μ-loop
+add-put-atom c = search needs
 
-slice-read-placed : tie.Need-slice-read-placed Inv-loop μ-loop
-slice-read-placed c = let h = c .before .before .loop .inv .1 .kept .same in omega arith
+put-atom-requires : tie.Need-put-atom-requires Inv-loop μ-loop
+put-atom-requires c κs =
+    let l = c .before .before .loop in
+    let s = c .before .before .before .before in
+    let k = l .inv .2 .same in
+    (k ∙ s .pre .0, s .pre .1, omega arith, omega arith, l .inv .1)
 
-placed-requires : tie.Need-placed-requires Inv-loop μ-loop
-placed-requires c κs = search needs
-
-add-p : tie.Need-add-p Inv-loop μ-loop
-add-p c = search needs
-
-mul-p : tie.Need-mul-p Inv-loop μ-loop
-mul-p c = search needs
-
-slice-write-p : tie.Need-slice-write-p Inv-loop μ-loop
-slice-write-p c = let h = c .before .before .before .loop .inv .1 .kept .same in omega arith
-
-add-x : tie.Need-add-x Inv-loop μ-loop
-add-x c = search needs
+add-j : tie.Need-add-j Inv-loop μ-loop
+add-j c = search needs
 
 loop-less : tie.Need-loop-less Inv-loop μ-loop
 loop-less c = search needs
 
 loop-again : tie.Need-loop-again Inv-loop μ-loop
 loop-again c =
-    let l = c .before .before .before .loop in
-    let a = c .before .before .before .before .before .args in
-    let k = l .inv .1 .kept .above (a .from + l .x) (omega arith) in
-    (omega arith, placed-more (a .p .now) (l .p) (a .at) (l .x) (c .placed .result) (λ y. placedNumber (a .copy) y (getD (a .p .now) (a .from + y) 0)) (omega arith) (c .placed .ensures ∙ ap (placedNumber (a .copy) (l .x)) k) (l .inv .1))
+    let o = c .before .before .before .before .before .loop in
+    let s = c .before .before .before .before .before .before .before in
+    let a = s .args in
+    let w = c .before .before .put-atom in (
+      omega arith,
+      w .ensures .0,
+      kept-more (a .p .now) (o .p) (w .last .0) 0 rows-at (o .inv .2) (w .ensures .1),
+      λ l left own few count stand d.
+          let lt : o .j < length own = omega arith in
+          w .ensures .2 l (ownAtoms (a .copy) (drop (o .j + 1) own) ++ left) (atomAt own (o .j)) few
+          (atom-same (a .p .now) (o .p) (a .from + o .j * 5) (atomAt own (o .j)) (omega arith) (o .inv .2) (stand (o .j) (omega arith)))
+          (subst (AtomsStored (o .p) (o .next) l) (own-first (a .copy) (o .j) own left lt) (o .inv .3 l left own few count stand d)),
+    )
 
 same-length : tie.Need-same-length Inv-loop μ-loop
-same-length c = c .before .loop .inv .1 .kept .same
+same-length c = c .before .loop .inv .2 .same
 
 returns : tie.Need-returns Inv-loop μ-loop
 returns c =
-    let l = c .before .loop in
-    let a = c .before .before .before .args in
-    placed-all (a .p .now) (l .p) (a .at) (l .x) (a .n) (λ y. placedNumber (a .copy) y (getD (a .p .now) (a .from + y) 0)) (omega arith) (l .inv .1)
+    let o = c .before .loop in
+    let a = c .before .before .before .args in (
+      o .inv .1,
+      o .inv .2,
+      λ l left own few count stand d. subst (AtomsStored (o .p) (o .next) l) (own-none (a .copy) (o .j) own left (omega arith)) (o .inv .3 l left own few count stand d),
+    )
 
 pub put-atoms-spec : {M : Type 1} → statement M
 put-atoms-spec =
@@ -69,14 +81,10 @@ put-atoms-spec =
     Inv-loop
     μ-loop
     loop-holds
-    add-placed
-    mul-placed
-    slice-read-placed
-    placed-requires
-    add-p
-    mul-p
-    slice-write-p
-    add-x
+    mul-put-atom
+    add-put-atom
+    put-atom-requires
+    add-j
     loop-less
     loop-again
     same-length

@@ -1,11 +1,14 @@
--- `plan::put_copy` meets its contract: the copy's block has room, and its atoms are stored. Assumes nothing.
-use Prim.Native.Nat.{_+_, _*_}
+-- `plan::put_copy` meets its contract: the copy's block is not too large, and its atoms are stored. Assumes nothing.
+use mathlib.Core.Path.{ap, sym, subst}
+use Prim.Native.Nat.{suc}
 use native.Mathlib.Omega.{arith}
-use lib.ListN.{getD}
+use native.Mathlib.Numerals.{add-one}
+use lib.ListN.{drop}
 use borrow.Author.Needs.{needs}
-use Rattle.tableau_layout.specs.Layout.{rows-at, sizes-at}
-use Rattle.list_laws.proofs.Ranges.{kept-none, kept-wide}
-use Rattle.tableau_plan.proofs.Copies.{copy-stored, copy-few}
+use Rattle.tableau_layout.specs.Layout.{rows-at}
+use Rattle.list_laws.proofs.Ranges.{kept-none}
+use Rattle.tableau_plan.specs.Parts.{atomsFrom, AtomsStored, TableauDone}
+use Rattle.tableau_plan.proofs.Copies.{copyBlock, copy-few, copy-size, copy-atoms, copy-ahead}
 use Rattle.tableau_plan.proofs.put_copy.Statement.{statement}
 use Rattle.tableau_plan.proofs.put_copy.Tie as tie
 
@@ -32,25 +35,7 @@ returns c =
       omega arith,
       kept-none (a .p .now) 0 rows-at,
       λ n bs lt d h.
-          let (f, g) = copy-few (a .p .now) n bs (a .copy) (a .at) (o .result) (o .ensures .0 (d .low (a .copy) lt)) d lt (s .pre .1) h in
-          absurd (omega arith),
-    )
-
-sub-if2 : tie.Need-sub-if2
-sub-if2 c = search needs
-
-same-length-2 : tie.Need-same-length-2
-same-length-2 c = search needs
-
-returns-2 : tie.Need-returns-2
-returns-2 c =
-    let s = c .before .before .before .before .before .before in
-    let a = s .args in
-    let o = c .before .before .before .source in (
-      omega arith,
-      kept-none (a .p .now) 0 rows-at,
-      λ n bs lt d h.
-          let (f, g) = copy-few (a .p .now) n bs (a .copy) (a .at) (o .result) (o .ensures .0 (d .low (a .copy) lt)) d lt (s .pre .1) h in
+          let f = copy-few (a .p .now) n bs (a .copy) (o .result) (o .ensures .0 (d .low (a .copy) lt)) d lt in
           absurd (omega arith),
     )
 
@@ -60,30 +45,27 @@ mul-put-atoms c = search needs
 add-put-atoms : tie.Need-add-put-atoms
 add-put-atoms c = search needs
 
-mul-put-atoms-2 : tie.Need-mul-put-atoms-2
-mul-put-atoms-2 c = search needs
-
-mul-put-atoms-3 : tie.Need-mul-put-atoms-3
-mul-put-atoms-3 c = search needs
-
 put-atoms-requires : tie.Need-put-atoms-requires
 put-atoms-requires c κs = search needs
 
-add-result : tie.Need-add-result
-add-result c = search needs
+same-length-2 : tie.Need-same-length-2
+same-length-2 c = search needs
 
-same-length-3 : tie.Need-same-length-3
-same-length-3 c = search needs
-
-returns-3 : tie.Need-returns-3
-returns-3 c =
-    let s = c .before .before .before .before .before .before .before .before .before .before in
+returns-2 : tie.Need-returns-2
+returns-2 c =
+    let s = c .before .before .before .before .before .before .before .before .before in
     let a = s .args in
-    let o = c .before .before .before .before .before .before .before .source in
+    let o = c .before .before .before .before .before .before .source in
     let w = c .before .before .put-atoms in (
-      omega arith,
-      kept-wide (a .p .now) (w .last .0) (a .at * 5) (a .at * 5 + getD (a .p .now) (sizes-at + o .result) 0 * 5) 0 rows-at (omega arith) (omega arith) (w .ensures .0),
-      λ n bs lt d h. copy-stored (a .p .now) (w .last .0) n bs (a .copy) (a .at) (o .result) (o .ensures .0 (d .low (a .copy) lt)) d lt (s .pre .1) h (w .ensures .0) (w .ensures .1),
+      w .ensures .0,
+      w .ensures .1,
+      λ n bs lt d h.
+          let is = o .ensures .0 (d .low (a .copy) lt) in
+          let p = a .p .now in
+          let k = a .copy in
+          subst (λ i. AtomsStored (w .last .0) (w .result) (atomsFrom 0 bs) (atomsFrom i (drop i bs))) (sym (add-one k))
+          (w .ensures .2 (atomsFrom 0 bs) (atomsFrom (suc k) (drop (suc k) bs)) (copyBlock p n bs k (o .result) is d lt .atoms) (d .few) (copy-size p n bs k (o .result) is d lt) (copy-atoms p n bs k (o .result) is d lt)
+          (subst (AtomsStored p (a .at) (atomsFrom 0 bs)) (copy-ahead k bs lt) h)),
     )
 
 pub put-copy-spec : {M : Type 1} → statement M
@@ -96,14 +78,8 @@ put-copy-spec =
     slice-read-n
     same-length
     returns
-    sub-if2
-    same-length-2
-    returns-2
     mul-put-atoms
     add-put-atoms
-    mul-put-atoms-2
-    mul-put-atoms-3
     put-atoms-requires
-    add-result
-    same-length-3
-    returns-3)
+    same-length-2
+    returns-2)

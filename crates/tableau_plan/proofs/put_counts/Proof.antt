@@ -7,9 +7,6 @@ use Rattle.tableau_plan.proofs.Laws.{closed}
 use Rattle.tableau_plan.proofs.put_counts.Statement.{statement}
 use Rattle.tableau_plan.proofs.put_counts.Tie as tie
 
-slice-read-asked : tie.Need-slice-read-asked
-slice-read-asked c = search needs
-
 slice-write-p : tie.Need-slice-write-p
 slice-write-p c = search needs
 
@@ -51,15 +48,14 @@ same-length c = search needs
 
 returns : tie.Need-returns
 returns c =
-    let a = c .before .before .before .before .args in
+    let a = c .before .before .before .args in
     let e : c .view-of2 .result ≡ a .blocks - 2 = omega arith in
-    rw e (closed (a .p .now) (a .atoms) (a .listed) (a .blocks - 2) (c .before .before .before .before .pre))
+    rw e (closed (a .p .now) (a .atoms) (a .asked) (a .listed) (a .blocks - 2) (c .before .before .before .pre))
 
 pub put-counts-spec : {M : Type 1} → statement M
 put-counts-spec =
     tie.close
     (tie.spec
-    slice-read-asked
     slice-write-p
     add-p
     mul-p

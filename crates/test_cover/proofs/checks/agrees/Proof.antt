@@ -10,6 +10,12 @@ Inv-loop sheet words facts blocks block₀ block = Unit {0}
 abbrev μ-loop : tie.MeasureT-loop
 μ-loop sheet words facts blocks block₀ block = blocks - block
 
+are-signals-requires : tie.Need-are-signals-requires Inv-loop μ-loop
+are-signals-requires c κs = search needs
+
+returns : tie.Need-returns Inv-loop μ-loop
+returns c = search needs
+
 heads-requires : tie.Need-heads-requires Inv-loop μ-loop
 heads-requires c κs = search needs
 
@@ -22,8 +28,8 @@ add-block c = search needs
 is-listed-requires : tie.Need-is-listed-requires Inv-loop μ-loop
 is-listed-requires c κs = search needs
 
-returns : tie.Need-returns Inv-loop μ-loop
-returns c = search needs
+returns-2 : tie.Need-returns-2 Inv-loop μ-loop
+returns-2 c = search needs
 
 loop-less : tie.Need-loop-less Inv-loop μ-loop
 loop-less c = search needs
@@ -31,8 +37,8 @@ loop-less c = search needs
 loop-again : tie.Need-loop-again Inv-loop μ-loop
 loop-again c = search needs
 
-returns-2 : tie.Need-returns-2 Inv-loop μ-loop
-returns-2 c = search needs
+returns-3 : tie.Need-returns-3 Inv-loop μ-loop
+returns-3 c = search needs
 
 pub agrees-spec : {M : Type 1} → statement M
 agrees-spec =
@@ -40,11 +46,13 @@ agrees-spec =
     (tie.spec
     Inv-loop
     μ-loop
+    are-signals-requires
+    returns
     heads-requires
     loop-holds
     add-block
     is-listed-requires
-    returns
+    returns-2
     loop-less
     loop-again
-    returns-2)
+    returns-3)

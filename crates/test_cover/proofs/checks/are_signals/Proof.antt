@@ -1,0 +1,51 @@
+-- The measure is the facts that are left.
+use Prim.Native.Nat.{_-_, _/_}
+use borrow.Author.Needs.{needs}
+use lib.ListN.{length}
+use Rattle.test_cover.proofs.checks.are_signals.Statement.{statement}
+use Rattle.test_cover.proofs.checks.are_signals.Tie as tie
+
+abbrev Inv-loop : tie.InvT-loop
+Inv-loop facts i₀ i = Unit {0}
+
+abbrev μ-loop : tie.MeasureT-loop
+μ-loop facts i₀ i = length facts / 5 - i
+
+loop-holds : tie.Need-loop-holds Inv-loop μ-loop
+loop-holds c = search needs
+
+owes-signal-requires : tie.Need-owes-signal-requires Inv-loop μ-loop
+owes-signal-requires c κs = search needs
+
+is-signal-requires : tie.Need-is-signal-requires Inv-loop μ-loop
+is-signal-requires c κs = search needs
+
+returns : tie.Need-returns Inv-loop μ-loop
+returns c = search needs
+
+add-i : tie.Need-add-i Inv-loop μ-loop
+add-i c = search needs
+
+loop-less : tie.Need-loop-less Inv-loop μ-loop
+loop-less c = search needs
+
+loop-again : tie.Need-loop-again Inv-loop μ-loop
+loop-again c = search needs
+
+returns-2 : tie.Need-returns-2 Inv-loop μ-loop
+returns-2 c = search needs
+
+pub are-signals-spec : {M : Type 1} → statement M
+are-signals-spec =
+    tie.close
+    (tie.spec
+    Inv-loop
+    μ-loop
+    loop-holds
+    owes-signal-requires
+    is-signal-requires
+    returns
+    add-i
+    loop-less
+    loop-again
+    returns-2)
