@@ -1,7 +1,7 @@
 //! Sheets to measure by: pages as clubs have them, and families that are built to be hard, each with a size.
 
 use crate::joins::{Body, Facts, Join, Value};
-use crate::sheet::{self, page, view, Atom, Block, Sheet, View, COLUMNS, MOST_CONSTANT, MOST_ROWS, MOST_VIEWS};
+use crate::sheet::{owed_to, self, page, view, Atom, Block, Sheet, View, COLUMNS, MOST_CONSTANT, MOST_ROWS, MOST_VIEWS};
 use std::collections::BTreeSet;
 
 /// Numbers that look drawn by chance and are the same in each run.
@@ -73,12 +73,12 @@ fn free(n: i32, ticks: i32) -> Vec<View> {
     vec![view("(a): Sig(a,b)", single(1..=n)), view("(b): Sig(a,b)", single(1..=ticks))]
 }
 
-const FOUR_JOINED: &str = "(): Beat(a,b), Beat(a,c), Beat(a,d), Beat(b,c), Beat(b,d), Beat(c,d)";
+const FOUR_JOINED: &str = "(): Coach(a,b), Coach(a,c), Coach(a,d), Coach(b,c), Coach(b,d), Coach(c,d)";
 
-/// n free choices of two; then four beats that are all joined and have three colours. Covered.
+/// n free choices of two; then four coaches that are all joined and have three colours. Covered.
 fn choices_first(n: i32) -> Sheet {
     let mut views = free(n, 2);
-    views.push(view("(x,y): Beat(x,y)", unequal(3)));
+    views.push(view("(x,y): Coach(x,y)", unequal(3)));
     page(FOUR_JOINED, NEVER, views)
 }
 
@@ -86,15 +86,15 @@ fn choices_first(n: i32) -> Sheet {
 fn choices_wide(n: i32) -> Sheet {
     let mut views = vec![view("(a): Seat(a,b,c,d)", single(1..=n))];
     views.extend(["b", "c", "d"].map(|column| view(&format!("({column}): Seat(a,b,c,d)"), single([1, 2]))));
-    views.push(view("(x,y): Beat(x,y)", unequal(3)));
+    views.push(view("(x,y): Coach(x,y)", unequal(3)));
     page(FOUR_JOINED, NEVER, views)
 }
 
 /// A contradiction that takes two choices of two, before n free choices of three. Covered.
 fn choices_after(n: i32) -> Sheet {
     let mut views = free(n, 3);
-    views.push(view("(x,y): Beat(x,y)", unequal(2)));
-    page("(): Beat(a,b), Beat(b,c), Beat(c,a)", NEVER, views)
+    views.push(view("(x,y): Coach(x,y)", unequal(2)));
+    page("(): Coach(a,b), Coach(b,c), Coach(c,a)", NEVER, views)
 }
 
 /// n choices of two; whatever two (or three) of them are, the list covers, and only when these are made.
@@ -244,13 +244,13 @@ fn for_all_exists(dice: &mut Dice, guesses: i32, values: usize, rows: usize) -> 
     };
     page(
         NEVER,
-        "(): Rower(i,a), Rower(j,b), Noise(i,j), Pulse(a,b,y), Sig(y,z), Beat(z,a)",
+        "(): Rower(i,a), Rower(j,b), Noise(i,j), Pulse(a,b,y), Coach(y,z), Beat(z,a)",
         vec![
             view("(i): Rower(i,c)", single(1..=guesses)),
             view("(c): Rower(i,c)", single(1..=values as i32)),
             view("(i,j): Noise(i,j)", (1..guesses).map(|i| vec![i, i + 1]).collect()),
             view("(a,b,y): Pulse(a,b,y)", table(3, rows)),
-            view("(y,z): Sig(y,z)", table(2, rows / 2)),
+            view("(y,z): Coach(y,z)", table(2, rows / 2)),
             view("(z,a): Beat(z,a)", table(2, rows / 2)),
         ],
     )
@@ -270,8 +270,8 @@ fn product_pairs(n: i32) -> Sheet {
     let back = (1..=n).map(|i| vec![i + 100, i % n + 1]).collect();
     page(
         "(): Strap(1)",
-        "(): Sig(a,b), Beat(b,c), Sig(d,e), Beat(e,f), Sig(g,h), Beat(h,g)",
-        vec![view("(a,b): Sig(a,b)", there), view("(a,b): Beat(a,b)", back)],
+        "(): Sig(a,b), Coach(b,c), Sig(d,e), Coach(e,f), Sig(g,h), Coach(h,g)",
+        vec![view("(a,b): Sig(a,b)", there), view("(a,b): Coach(a,b)", back)],
     )
 }
 
@@ -343,7 +343,20 @@ fn product_joined(n: i32) -> Sheet {
 fn largest() -> Sheet {
     let rows = (0..40).map(|i| (0..4).map(|c| i + 100 * c).collect()).collect();
     let pulses: Vec<String> = (0..6).map(|i| format!("Pulse(1,2,{i})")).collect();
-    page(&format!("(): {}", pulses.join(", ")), NEVER, vec![view("(a,b,c,d): Sig(a,b), Beat(b,c), Noise(c,d)", rows)])
+    page(&format!("(): {}", pulses.join(", ")), NEVER, vec![view("(a,b,c,d): Rower(a,b), Sig(b,c), Coach(c,d)", rows)])
+}
+
+/// Each fact owes another one.
+fn largest_owing() -> Sheet {
+    let rows = (0..40).map(|i| (0..4).map(|c| i + 100 * c).collect()).collect();
+    let asked: Vec<String> = (0..6).map(|i| format!("{}({},{})", ["Beat", "Noise"][i % 2], 400 + i, 500 + i)).collect();
+    page(&format!("(): {}", asked.join(", ")), NEVER, vec![view("(a,b,c,d): Beat(a,b), Noise(b,c), Beat(c,d)", rows)])
+}
+
+fn largest_owing_made_up() -> Sheet {
+    let rows = (0..40).map(|i| vec![i, i + 100]).collect();
+    let asked: Vec<String> = (1..=6).map(|i| format!("{}(a,{i})", ["Beat", "Noise"][i % 2])).collect();
+    page(&format!("(): {}", asked.join(", ")), NEVER, vec![view("(a,d): Beat(a,b), Noise(b,c), Beat(c,d)", rows)])
 }
 
 fn largest_made_up() -> Sheet {
@@ -440,10 +453,10 @@ fn six_each(n: i32) -> Vec<View> {
     ]
 }
 
-/// Six choices for each of n rowers; then four beats that are all joined and have three colours. Covered.
+/// Six choices for each of n rowers; then four coaches that are all joined and have three colours. Covered.
 fn many_then_elsewhere(n: i32) -> Sheet {
     let mut views = six_each(n);
-    views.push(view("(x,y): Beat(x,y)", unequal(3)));
+    views.push(view("(x,y): Coach(x,y)", unequal(3)));
     page(FOUR_JOINED, NEVER, views)
 }
 
@@ -740,7 +753,9 @@ fn some_page(dice: &mut Dice) -> Sheet {
         let relation = dice.one(&relations);
         log.insert((relation, KINDS[relation].iter().map(|k| some_value(dice, *k)).collect::<Vec<i32>>()));
     }
-    let log: Log = log.into_iter().collect();
+    // Only logs count that have the rows they owe.
+    let owed: Vec<(usize, Vec<i32>)> = log.iter().filter_map(|(r, row)| owed_to(*r).map(|other| (other, row.clone()))).collect();
+    let log: Log = log.into_iter().chain(owed).collect::<BTreeSet<_>>().into_iter().collect();
     let (question, kinds) = loop {
         let most = 1 + dice.below(4);
         if let Some(found) = some_block(dice, most, &relations, None) {
@@ -913,6 +928,8 @@ pub fn hard() -> Vec<Sample> {
     }
     add("largest case", "126 facts".into(), largest());
     add("largest case", "126 facts, made up".into(), largest_made_up());
+    add("largest case", "252 facts".into(), largest_owing());
+    add("largest case", "252 facts, made up".into(), largest_owing_made_up());
     add("forced step by step", "452 made up".into(), largest_forced());
     for (crews, rowers, more, dropped) in [(2, 4, 0, 0), (2, 4, 2, 0), (4, 3, 0, 0), (8, 2, 0, 0), (1, 6, 3, 0)] {
         for question in 0..3 {

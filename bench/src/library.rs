@@ -48,7 +48,7 @@ pub fn library_judge(_: &[u8], _: &mut [i32]) -> Outcome {
 
 /// The sheets of a set, at most.
 pub const SHEETS: usize = 16;
-const STRETCH: usize = 640;
+const STRETCH: usize = 1_260;
 
 /// The judgements of a set.
 #[cfg(sets)]
@@ -205,7 +205,7 @@ pub fn is_enough(count: usize, elapsed: Duration, runs: Duration) -> bool {
 
 /// The first judgement's stack, the time of the fastest of some, and what the program cover would print.
 fn timed(sheet: &[u8], time: Duration) -> (usize, Duration, String) {
-    let mut words = [0i32; 640];
+    let mut words = [0i32; STRETCH];
     paint();
     let start = Instant::now();
     let mut outcome = library_judge(sheet, &mut words);

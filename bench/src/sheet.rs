@@ -2,6 +2,11 @@
 
 /// Columns of the relations 1 to 10; there is no relation 0.
 pub const COLUMNS: [usize; 11] = [0, 2, 1, 3, 2, 2, 2, 3, 2, 4, 1];
+/// The relation that must have each row of a relation as well: beats and noise are signals.
+pub fn owed_to(relation: usize) -> Option<usize> {
+    (relation == 5 || relation == 6).then_some(4)
+}
+
 pub const NAMES: [&str; 11] = ["", "Rower", "Strap", "Worn", "Sig", "Beat", "Noise", "Pulse", "Coach", "Seat", "Pause"];
 
 const MOST_BYTES: usize = 8192;

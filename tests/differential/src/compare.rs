@@ -11,6 +11,9 @@ use crate::sheet::{self, Taken};
 use crate::slips::{self, is, Slip};
 use std::time::{Duration, Instant};
 
+/// The words that a verdict wants.
+const JUDGE_WORDS: usize = 1_260;
+
 pub const CALLS: [&str; 6] = ["read", "write", "line", "evaluate", "judge", "judge_set"];
 
 /// What came of one input.
@@ -275,7 +278,7 @@ fn plain_verdicts(sheet: &sheet::Sheet, known: Known, log: &[meaning::Fact]) -> 
 }
 
 fn judge(random: &mut Random, show: bool) -> Outcome {
-    let length = if random.percent(50) { 640 } else { lent(random, 640) };
+    let length = if random.percent(50) { JUDGE_WORDS } else { lent(random, JUDGE_WORDS) };
     let (name, bytes, known, log) = to_judge(random);
     let mut out = Lent::new(length, random, word);
     let start = Instant::now();
@@ -299,7 +302,7 @@ fn judge(random: &mut Random, show: bool) -> Outcome {
             notes.push("1 with listed rows");
         }
         if told.verdict == 1 && told.count >= 100 {
-            notes.push(if told.count == 126 { "1 with 126 facts" } else { "1 with 100 to 125 facts" });
+            notes.push(if told.count == 252 { "1 with 252 facts" } else { "1 with 100 to 251 facts" });
         }
         Ok(right)
     });
@@ -328,7 +331,7 @@ pub fn check_judgement(
     out: &Lent<i32>,
     mut right: impl FnMut(&sheet::Sheet) -> Result<Vec<usize>, String>,
 ) -> Result<(), String> {
-    let taken = sheet::of_bytes(bytes).and_then(|(_, taken)| if out.length() < 640 { sheet::refuse(13, 0) } else { Ok(taken) });
+    let taken = sheet::of_bytes(bytes).and_then(|(_, taken)| if out.length() < JUDGE_WORDS { sheet::refuse(13, 0) } else { Ok(taken) });
     let taken = match taken {
         Err(refusal) if *told != Judgement::refused(refusal) => return Err(format!("expected {:?}", Judgement::refused(refusal))),
         Err(_) if !out.is(&[]) => return Err("a refusal changed what was lent".into()),
@@ -398,11 +401,11 @@ pub const TAMPERINGS: [&str; 10] = [
 /// Spoils a right judgement of "not covered" in one way; whether that is found. Nothing where the input does not have that verdict.
 pub fn tampered(seed: u64, index: u64, way: usize) -> Option<bool> {
     let mut random = Random::new(seed, 5, index);
-    let length = if random.percent(50) { 640 } else { lent(&mut random, 640) };
+    let length = if random.percent(50) { JUDGE_WORDS } else { lent(&mut random, JUDGE_WORDS) };
     let (_, bytes, _, _) = to_judge(&mut random);
     let mut out = Lent::new(length, &mut random, word);
     let mut told = library::judge(&bytes, &mut out);
-    if told.verdict != 1 || told.count < 2 || told.count > 126 {
+    if told.verdict != 1 || told.count < 2 || told.count > 252 {
         return None;
     }
     let mut words = out.after()[..told.count * 5].to_vec();

@@ -1,6 +1,6 @@
 //! Sheets to judge up to every limit, many of them exactly at one, and which limits a sheet meets.
 
-use crate::generate::{any, atom, facts, head, list_like, taken, Lines, Stock};
+use crate::generate::{any, atom, closed, facts, head, list_like, taken, Lines, Stock};
 use crate::large::{answers, Steps};
 use crate::meaning::Fact;
 use crate::random::Random;
@@ -147,6 +147,7 @@ fn drawn(random: &mut Random) -> Option<Lines> {
     };
     let count = random.between(4, 24);
     let log = facts(random, &relations, &values, count);
+    let log = if random.percent(90) { closed(log) } else { log };
     let (mut shown, mut atoms) = (Lines::new(), Lines::new());
     for _ in 0..views - 1 {
         let mut tries = 0;
@@ -203,13 +204,19 @@ fn drawn(random: &mut Random) -> Option<Lines> {
     taken(&lines).map(|_| lines)
 }
 
-/// A sheet with listed rows of three facts each that no other row gives, and a question of six more: cases of 126 facts.
+/// A sheet with listed rows of three facts each that no other row gives, and a question of six more: cases of 126 facts, and of 252 where
+/// all are beats and noise, which owe a signal each.
 fn largest(random: &mut Random) -> Lines {
+    let owing = random.percent(40);
     let mut relations: Vec<usize> = vec![1, 3, 4, 5, 6, 7, 8, 9];
     for at in 0..8 {
         relations.swap(at, random.between(at, 7));
     }
-    let rest: Vec<usize> = relations.split_off(3).into_iter().chain([2, 10]).collect();
+    let mut rest: Vec<usize> = relations.split_off(3).into_iter().chain([2, 10]).collect();
+    if owing {
+        relations = vec![5, 6, 5];
+        rest = vec![5, 6, 5, 6, 5, 6];
+    }
     let mut next = 0;
     let mut term = |random: &mut Random, often: usize| {
         next += 1;
@@ -238,7 +245,8 @@ fn largest(random: &mut Random) -> Lines {
         shift += if random.percent(8) { 0 } else { 1 };
         let atom = |(at, relation): (usize, &usize)| {
             let more = (2..COLUMNS[*relation]).map(|column| -((2 + 4 * at + column) as i64));
-            [4, *relation as i64, -1, 100 + shift].into_iter().chain(more).map(|t| t.max(-12)).collect()
+            let own = if owing { 1_000 * at as i64 } else { 0 };
+            [4, *relation as i64, -1, 100 + shift + own].into_iter().chain(more).map(|t| t.max(-12)).collect()
         };
         lines.push(vec![3, -1]);
         lines.extend(relations.iter().enumerate().map(atom).collect::<Lines>());

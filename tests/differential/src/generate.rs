@@ -1,6 +1,6 @@
 //! Inputs: sheets that are right, at the limits, damaged or random; facts likewise; small sheets to judge.
 
-use crate::meaning::{answers, Fact, MADE_UP, MOST_VALUE};
+use crate::meaning::{answers, owed, Fact, MADE_UP, MOST_VALUE};
 use crate::random::Random;
 use crate::sheet::{blocks, bytes_of, Sheet, COLUMNS, MOST_CONSTANT};
 use std::collections::{BTreeMap, BTreeSet};
@@ -493,6 +493,15 @@ pub fn facts(random: &mut Random, relations: &[usize], values: &[i64], count: us
     all
 }
 
+/// The facts with the rows that they owe.
+pub fn closed(mut log: Vec<Fact>) -> Vec<Fact> {
+    let owed: Vec<Fact> = log.iter().filter_map(owed).collect();
+    log.extend(owed);
+    log.sort();
+    log.dedup();
+    log
+}
+
 /// A sheet, a block number and fact words to evaluate, and the name of what they are.
 pub fn evaluation(random: &mut Random) -> (&'static str, Vec<u8>, usize, Vec<i32>) {
     if random.percent(12) {
@@ -535,7 +544,7 @@ pub fn evaluation(random: &mut Random) -> (&'static str, Vec<u8>, usize, Vec<i32
         let many = random.percent(6);
         if many {
             // As many facts as may be, or one more.
-            let length = random.pick(&[127, 128, 128, 129, 129, 130]);
+            let length = random.pick(&[255, 256, 256, 257, 257, 258]);
             while log.len() < length {
                 let relation = random.between(1, 10);
                 let mut fact = [0; 5];
@@ -580,7 +589,7 @@ fn damage_facts(random: &mut Random, words: &mut Vec<i32>) {
     }
     let at = random.below(count) * 5;
     match random.below(10) {
-        9 => words.resize(random.pick(&[640, 641, 645, 646, 5_000, 5_001]), 1),
+        9 => words.resize(random.pick(&[640, 641, 1_280, 1_281, 1_285, 1_286, 5_000, 5_001]), 1),
         0 => words.truncate(words.len() - random.between(1, 4)),
         1 => {
             let other = random.below(count) * 5;
@@ -690,6 +699,7 @@ pub fn small(random: &mut Random) -> Lines {
         values.push(random.pick(&[3, 7, 9]));
         let count = random.between(0, 5);
         let log = facts(random, &stock.relations, &values, count);
+        let log = if random.percent(85) { closed(log) } else { log };
         let planted = random.percent(75);
         for _ in 0..random.pick(&[0, 1, 1, 2, 2, 3, 4]) {
             let mut view_columns = random.pick(&[0, 1, 1, 2, 2, 3, 4]);
@@ -746,6 +756,8 @@ pub fn pinned(random: &mut Random) -> (Lines, Vec<Fact>) {
         let count = random.pick(&[0, 2, 4, 8, 12, 20]);
         let log: Vec<Fact> =
             facts(random, &relations, &values, count).into_iter().filter(|f| relations.contains(&(f[0] as usize))).collect();
+        // Where signals are listed, rows that are owed may be missing: then no log agrees.
+        let log = if relations.contains(&4) && random.percent(30) { log } else { closed(log) };
         let columns = random.pick(&[0, 1, 1, 2, 3]);
         let atoms = random.pick(&[1, 1, 2, 2, 3]);
         let question = block(random, &stock, 1, columns, atoms);
@@ -791,7 +803,7 @@ pub fn planted(random: &mut Random) -> (Lines, Vec<Fact>) {
         let mut values = stock.constants.clone();
         values.extend([3, 4, 5, 6, 9]);
         let count = random.between(3, 12);
-        let log = facts(random, &stock.relations, &values, count);
+        let log = closed(facts(random, &stock.relations, &values, count));
         let columns = random.pick(&[0, 1, 1, 2]);
         let atoms = random.between(1, 4);
         let question = block(random, &stock, 1, columns, atoms);

@@ -164,7 +164,7 @@ pub fn all() -> (usize, Vec<String>) {
             hold(name, side, "write", expected_words, ended(write), told(sheet::write(&words, 4214)), &mut failed);
             let evaluate = library::evaluate(&bytes, 1, &[], &mut lender.words(0));
             hold(name, side, "evaluate", expected, ended(evaluate), told(meaning::evaluate(&bytes, 1, &[], 0)), &mut failed);
-            let judge = library::judge(&bytes, &mut lender.words(640));
+            let judge = library::judge(&bytes, &mut lender.words(1_260));
             hold(name, side, "judge", expected, (judge.number, judge.line), told(sheet::of_bytes(&bytes)), &mut failed);
         }
     }
@@ -174,11 +174,11 @@ pub fn all() -> (usize, Vec<String>) {
         let straps = |count: i32| (0..count).flat_map(strap).collect::<Vec<i32>>();
         let one = |relation: i32, value: i32, unused: i32| vec![relation, value, 0, unused, 0];
         vec![
-            ("facts", 1, straps(128), 4, 0),
-            ("facts", 1, straps(129), 4, 12),
+            ("facts", 1, straps(256), 4, 0),
+            ("facts", 1, straps(257), 4, 12),
             ("fact words by fives", 1, straps(1), 4, 0),
             ("fact words by fives", 1, straps(2)[..6].to_vec(), 4, 11),
-            ("facts' words, first by fives, then their number", 1, straps(130)[..646].to_vec(), 4, 11),
+            ("facts' words, first by fives, then their number", 1, straps(258)[..1_286].to_vec(), 4, 11),
             ("a fact's greatest value", 1, one(2, 10_000_999, 0), 4, 0),
             ("a fact's greatest value", 1, one(2, 10_001_000, 0), 4, 11),
             ("a fact's least value", 1, one(2, 0, 0), 4, 0),
@@ -213,7 +213,7 @@ pub fn all() -> (usize, Vec<String>) {
         let write = library::write(&words, &mut lender.bytes(lent));
         hold("bytes for write", "", "write", (number, 0), ended(write), told(sheet::write(&words, lent)), &mut failed);
     }
-    for (lent, number) in [(640, 0), (639, 13)] {
+    for (lent, number) in [(1_260, 0), (1_259, 13)] {
         let judge = library::judge(&plain, &mut lender.words(lent));
         hold("words for judge", "", "judge", (number, 0), (judge.number, judge.line), (number, 0), &mut failed);
     }

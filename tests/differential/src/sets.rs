@@ -9,7 +9,7 @@ use crate::sheet;
 use crate::slips::{is, Slip};
 use std::time::Instant;
 
-const STRETCH: usize = 640;
+const STRETCH: usize = 1_260;
 
 /// How many sheets: few, so that a run of many sets ends, and sometimes as many as there may be and one more.
 fn how_many(random: &mut Random) -> usize {
@@ -137,17 +137,17 @@ pub fn edges(random: &mut Random) -> (usize, Vec<String>) {
     let empty = |n: usize| vec![0; n];
     let cases: [(usize, Vec<usize>, usize, usize); 14] = [
         (0, vec![], 0, 0),
-        (1, vec![], 640, 14),
-        (0, vec![0], 639, 13),
-        (0, vec![0], 640, 0),
-        (0, vec![1], 640, 14),
-        (1, vec![0], 640, 14),
-        (2, vec![2, 1, 2], 1920, 14),
-        (2, vec![1, 3], 1280, 14),
-        (2, vec![3, 2], 1280, 14),
-        (0, empty(16), 10_240, 0),
-        (0, empty(16), 10_239, 13),
-        (0, empty(17), 10_880, 14),
+        (1, vec![], STRETCH, 14),
+        (0, vec![0], STRETCH - 1, 13),
+        (0, vec![0], STRETCH, 0),
+        (0, vec![1], STRETCH, 14),
+        (1, vec![0], STRETCH, 14),
+        (2, vec![2, 1, 2], 3 * STRETCH, 14),
+        (2, vec![1, 3], 2 * STRETCH, 14),
+        (2, vec![3, 2], 2 * STRETCH, 14),
+        (0, empty(16), 16 * STRETCH, 0),
+        (0, empty(16), 16 * STRETCH - 1, 13),
+        (0, empty(17), 17 * STRETCH, 14),
         (0, empty(17), 0, 14),
         (1, vec![2], 0, 14),
     ];

@@ -5,6 +5,11 @@ use crate::slips::{is, Slip};
 /// The columns of each relation, by its number.
 pub const COLUMNS: [usize; 11] = [0, 2, 1, 3, 2, 2, 2, 3, 2, 4, 1];
 
+/// The relation that must have a relation's rows as well: each beat and each noise is a signal.
+pub fn owed_to(relation: usize) -> Option<usize> {
+    (relation == 5 || relation == 6).then_some(4)
+}
+
 /// Constants are 0 to this.
 pub const MOST_CONSTANT: i64 = 9_999_999;
 

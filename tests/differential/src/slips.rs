@@ -41,12 +41,13 @@ pub enum Slip {
     EqualEndsFallBack,
     SeventeenSheetsTaken,
     LastEndUnasked,
+    OwedRowsUnasked,
 }
 
 use Slip::*;
 
 /// Each slip with the call that it is looked for in, by its place in main's table of calls.
-pub const ALL: [(Slip, usize); 36] = [
+pub const ALL: [(Slip, usize); 37] = [
     (MinusZeroTaken, 0),
     (UnclosedLastLineTaken, 0),
     (ConstantOneTooHigh, 0),
@@ -83,6 +84,7 @@ pub const ALL: [(Slip, usize); 36] = [
     (EqualEndsFallBack, 5),
     (SeventeenSheetsTaken, 5),
     (LastEndUnasked, 5),
+    (OwedRowsUnasked, 4),
 ];
 
 static CURRENT: AtomicUsize = AtomicUsize::new(None as usize);
