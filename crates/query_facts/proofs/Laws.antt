@@ -166,11 +166,11 @@ module _ (ws : List ℤ) where
 
 -- ---- accepted facts
 
-never : {A : Type 0} {n : ℕ} → suc n ≡ 0 → A
+pub never : {A : Type 0} {n : ℕ} → suc n ≡ 0 → A
 never e = absurd (omega arith)
 
 -- none of them is wrong
-by-fact-right : (b : List ℤ) (fs : List (List ℤ)) (i : ℕ) → factByFact b fs .number ≡ 0 → i < length fs → wrongFact (getD fs i []) ≡ false
+pub by-fact-right : (b : List ℤ) (fs : List (List ℤ)) (i : ℕ) → factByFact b fs .number ≡ 0 → i < length fs → wrongFact (getD fs i []) ≡ false
 unfolding factByFact
 by-fact-right b [] i e h = absurd (omega arith)
 by-fact-right b (f ∷ fs) i e h = go (by-fact-right f fs) (wrongFact f) refl (not (null b) && not (above b f)) i e h
@@ -183,7 +183,7 @@ by-fact-right b (f ∷ fs) i e h = go (by-fact-right f fs) (wrongFact f) refl (n
     go ih false g false zero e h = g
     go ih false g false (suc i) e h = ih i e (omega arith)
 
-accepted : (ws : List ℤ) → factsRefusal ws .number ≡ 0 → (length ws % 5 ≡ 0) × (factByFact [] (factsIn ws) .number ≡ 0)
+pub accepted : (ws : List ℤ) → factsRefusal ws .number ≡ 0 → (length ws % 5 ≡ 0) × (factByFact [] (factsIn ws) .number ≡ 0)
 unfolding factsRefusal
 accepted ws e = go (eqb (length ws % 5) 0) refl (ltb most-fact-words (length ws)) e
   where
@@ -199,7 +199,7 @@ pub logOf-length : (ws : List ℤ) → length (logOf ws) ≡ length ws / 5
 unfolding logOf
 logOf-length ws = length-map (factsIn ws) factIn ∙ facts-length ws
 
-log-at : (ws : List ℤ) (i : ℕ) → factAt (logOf ws) i ≡ factIn (getD (factsIn ws) i [])
+pub log-at : (ws : List ℤ) (i : ℕ) → factAt (logOf ws) i ≡ factIn (getD (factsIn ws) i [])
 unfolding logOf columnsOf
 log-at ws i = List·getD-map factIn (factsIn ws) i []
 
@@ -215,7 +215,7 @@ row-length f e =
     let d = length-drop 1 f in
     length-map (used f) natural ∙ length-take (columnsOf (relationOf f)) (drop 1 f) ∙ (omega arith)
 
-fact-length : (ws : List ℤ) (i : ℕ) → i < length ws / 5 → length (getD (factsIn ws) i []) ≡ 5
+pub fact-length : (ws : List ℤ) (i : ℕ) → i < length ws / 5 → length (getD (factsIn ws) i []) ≡ 5
 fact-length ws i h = ap length (fact-words ws i h) ∙ length-slice (5 * i) (5 * i + 5) ws (omega arith) ∙ (omega arith)
 
 -- the rows fit their relations
@@ -231,7 +231,7 @@ shaped-log ws r f m =
 -- ---- the log in plain numbers
 
 -- a column's word is its value, in an unused column too
-value-at : (f : List ℤ) → length f ≡ 5 → wrongFact f ≡ false → (c : ℕ) → c < 4 → getD f (1 + c) (pos 0) ≡ getD (used f) c (pos 0)
+pub value-at : (f : List ℤ) → length f ≡ 5 → wrongFact f ≡ false → (c : ℕ) → c < 4 → getD f (1 + c) (pos 0) ≡ getD (used f) c (pos 0)
 value-at f e w c h = go (ltb c n) refl
   where
     n : ℕ
@@ -255,7 +255,7 @@ value-at f e w c h = go (ltb c n) refl
         ∙ sym (List·getD-eq-default (used f) (pos 0) o)
 
 -- a number is that of the word in its place
-number-at : (ws : List ℤ) (n : ℕ) → getD (map natural ws) n 0 ≡ natural (getD ws n (pos 0))
+pub number-at : (ws : List ℤ) (n : ℕ) → getD (map natural ws) n 0 ≡ natural (getD ws n (pos 0))
 number-at ws n = List·getD-map natural ws n (pos 0)
 
 module _ (ws : List ℤ) (r : factsRefusal ws .number ≡ 0) where
