@@ -23,3 +23,4 @@ pub mod Sizes
 pub mod Verdicts
 pub mod Words
 pub mod Plain
+pub mod OneList

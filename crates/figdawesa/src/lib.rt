@@ -45,7 +45,7 @@ pub extern "C" fn figdawesa_line(sheet: &[u8], number: usize) -> Stretch
     part(p.start, p.end)
 }
 
-// The answers that given facts give a block of a sheet: 1 the question, 2 the list, 2 + n view n.
+// The answers that given facts give a block of a sheet: 1 the question, then the lists, then the views.
 #[no_mangle]
 pub extern "C" fn figdawesa_evaluate(
     sheet: &[u8],
@@ -58,7 +58,7 @@ pub extern "C" fn figdawesa_evaluate(
     in_numbers(evaluate::evaluate(sheet, block, facts, out))
 }
 
-// The verdict of a sheet; where the list does not cover, a case in the lent words.
+// The verdict of a sheet; where no list covers, a case in the lent words.
 #[no_mangle]
 pub extern "C" fn figdawesa_judge(sheet: &[u8], out: &mut [i32]) -> Outcome
     ensures { λ r. ⌜ Judged (now (sheet .entry)) (now (out .entry)) (now (out .exit)) (judgementOf r) ⌝ }

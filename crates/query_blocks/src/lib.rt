@@ -157,7 +157,7 @@ fn nothing() -> Numbers
     }
 }
 
-// Block k of an accepted number form: 1 the question, 2 the list, 2 + n view n.
+// Block k of an accepted number form: 1 the question, then the lists, then the views.
 pub fn block(ws: &[i32], k: usize) -> Numbers
     ensures { λ r. ⌜ (refusalOf (wordLines (now (ws .entry))) .number ≡ 0 → BlockFound (wordLines (now (ws .entry))) k (r .some) (r .atoms) (r .numbers)) ⌝ }
 {

@@ -167,7 +167,7 @@ fn put_atoms(
     }
 }
 
-// Whether the list is given all rows that the question is given and that have the row's values in the columns before k.
+// Whether a list is given all rows that the question is given and that have the row's values in the columns before k.
 fn is_covered(
     q: &[usize; BLOCK_NUMBERS],
     qn: usize,
@@ -191,7 +191,7 @@ fn is_covered(
     query_answers::gives(l, ln, &room[..(m + n) * FACT_NUMBERS], row)
 }
 
-// A column before which a row's values say that the list is given what the question is given, the first that was found; 4 if there is none.
+// A column before which a row's values say that a list is given what the question is given, the first that was found; 4 if there is none.
 pub fn covered_from(
     q: &[usize; BLOCK_NUMBERS],
     qn: usize,

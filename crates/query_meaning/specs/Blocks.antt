@@ -1,4 +1,4 @@
--- The blocks of a sheet's lines, in their order: the question, the list, the views.
+-- The blocks of a sheet's lines, in their order: the question, the lists, the views.
 use mathlib.Core.Bool.{Bool, true, false, cond}
 use mathlib.Core.List.{List, [], _∷_, map}
 use Prim.Native.Nat.{ℕ, zero, suc}
@@ -46,7 +46,7 @@ unfoldable pub blocks : (Kind → Bool) → List Line → List View
 blocks p [] = []
 blocks p (l ∷ ls) = cond (p (kind l)) (viewOf l ls ∷ blocks p ls) (blocks p ls)
 
--- all of them: block 1 is the question, 2 the list, 2 + n view n
+-- all of them: block 1 is the question, then come the lists, then the views
 abbrev pub allBlocks : List Line → List View
 allBlocks ls = blocks isHead ls
 

@@ -178,6 +178,7 @@ fn by_lines(ws: &[i32]) -> Refusal
         block: 0,
         last: 0,
         atoms: 0,
+        lists: 0,
         views: 0,
         rows: 0,
         asked: 0,

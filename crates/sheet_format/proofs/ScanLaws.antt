@@ -7,7 +7,7 @@ use native.Mathlib.Omega.{arith}
 use lib.Dec.{eqb, ltb, leb}
 use lib.ListN.{length}
 use borrow.Author.Tests.{eqb-true, eqb-false, leb-true, leb-false, ltb-true, ltb-false, not-false}
-use Rattle.sheet_format.specs.Limits.{most-rows, most-lines}
+use Rattle.sheet_format.specs.Limits.{most-lists, most-views, most-rows, most-lines}
 use Rattle.sheet_format.specs.Line.{Line, all, null}
 use Rattle.sheet_format.specs.Cause.{Kind, question, saved, view, atom, row, other, kind, inPlace, possible, misplaced, wrongColumns, outOfRange, tooMany, atomsOf, cause, start, nextBy, next, refusal, missing, scan, heads, unsafe, atoms, refusalOf}
 use Rattle.sheet_format.specs.declared.Refusal.{Refusal}
@@ -107,12 +107,13 @@ scan-malformed p = scan-malformed-from p start [] 1 (omega arith)
 
 -- k lines lead to g: each block has its head and its atoms, and the views their rows
 record LinesWithin (g : Seen) (k : ℕ) : Type 0 where
-  lines : k ≤ 4 * g .views + g .rows + g .atoms + min (g .block) 1 + 7 * (min (g .block) 2 - 1) + 3 * (g .block - 2)
+  lines : k ≤ 7 * g .lists + 4 * g .views + g .rows + g .atoms + min (g .block) 1 + 3 * (g .block - 2)
   blocks : g .block ≤ 3
   lasts : g .last ≤ 5 * g .block
   no-atoms : g .atoms ≤ 6 * g .block
   some-atoms : g .atoms ≤ 6 - 3 * (g .block - 2)
-  some-views : g .views ≤ 8
+  some-lists : g .lists ≤ most-lists
+  some-views : g .views ≤ most-views
   some-rows : g .rows ≤ most-rows
 
 within-start : LinesWithin start 0
@@ -127,13 +128,13 @@ atoms-left g b e = go (eqb (g .block) 3) refl (leb-false (atomsOf (g .block)) (g
 
 within-next : (g : Seen) (c : Kind) (n k : ℕ) → LinesWithin g k → inPlace g c ≡ true → tooMany g c ≡ false → LinesWithin (nextBy g c n) (k + 1)
 within-next g question n k w p r = let e = eqb-true (g .block) 0 p in omega arith
-within-next g saved n k w p r = let e = eqb-true (g .block) 1 p in omega arith
-within-next g view n k w p r = let e = leb-true 2 (g .block) p in let f = leb-false 8 (g .views) r in omega arith
+within-next g saved n k w p r = let q = both (leb 1 (g .block)) (leb (g .block) 2) p in let e = leb-true 1 (g .block) (q .0) in let f = leb-true (g .block) 2 (q .1) in let h = leb-false most-lists (g .lists) r in omega arith
+within-next g view n k w p r = let e = leb-true 2 (g .block) p in let f = leb-false most-views (g .views) r in omega arith
 within-next g atom n k w p r = let e = leb-true 1 (g .last) (both _ _ p .0) in let f = atoms-left g (w .blocks) r in omega arith
 within-next g row n k w p r = let e = eqb-true (g .block) 3 (both _ _ p .0) in let f = leb-false most-rows (g .rows) r in omega arith
 within-next g other n k w p r = true-false (sym p)
 
-scan-long-from : (p : List Line) (g : Seen) (b : Line) (n k : ℕ) → 1 ≤ n → LinesWithin g k → 86 < k + length p → 0 < scan g b n p .line
+scan-long-from : (p : List Line) (g : Seen) (b : Line) (n k : ℕ) → 1 ≤ n → LinesWithin g k → most-lines < k + length p → 0 < scan g b n p .line
 unfolding next
 scan-long-from [] g b n k le w h = absurd (omega arith)
 scan-long-from (l ∷ p) g b n k le w h =
@@ -141,7 +142,7 @@ scan-long-from (l ∷ p) g b n k le w h =
     (λ e. let q = clean-line g b l e in
     scan-long-from p (next g l) l (n + 1) (k + 1) (omega arith) (within-next g (kind l) _ k w (q .placed) (q .room)) (omega arith))
 
--- more than 86 lines are refused at a line
+-- more lines than that are refused at a line
 pub scan-long : (p : List Line) → most-lines < length p → 0 < scan start [] 1 p .line
 scan-long p h = scan-long-from p start [] 1 0 (omega arith) within-start (omega arith)
 
@@ -171,11 +172,11 @@ lines-formed (l ∷ p) g b n h = go (lines-formed p (next g l) l (n + 1)) (eqb (
 pub accepted-lines : (p : List Line) → refusalOf p .number ≡ 0 → all (λ l. not (null l)) p ≡ true
 accepted-lines p h = lines-formed p start [] 1 (accepted-scan p h)
 
--- there are at most 86 lines
+-- there are no more lines than that
 pub accepted-length : (p : List Line) → refusalOf p .number ≡ 0 → length p ≤ most-lines
-accepted-length p h = go (ltb 86 (length p)) refl
+accepted-length p h = go (ltb most-lines (length p)) refl
   where
-    go : (t : Bool) → ltb 86 (length p) ≡ t → length p ≤ most-lines
+    go : (t : Bool) → ltb most-lines (length p) ≡ t → length p ≤ most-lines
     go true e = true-false (sym (accepted-scan p h) ∙ scan-number p start [] 1 (scan-long p (ltb-true _ _ e)))
     go false e = ltb-false _ _ e
 

@@ -6,7 +6,7 @@ use lib.Dec.{eqb, ltb, leb}
 use lib.IntN.{ℤ, pos, negsuc}
 use lib.Signed.{ltZ}
 use lib.ListN.{length}
-use Rattle.sheet_format.specs.Limits.{constant-end, most-variables, most-atoms, most-view-atoms, most-views, most-rows}
+use Rattle.sheet_format.specs.Limits.{constant-end, most-variables, most-atoms, most-view-atoms, most-lists, most-views, most-rows}
 use Rattle.sheet_format.specs.Relations.{columnsOf}
 use Rattle.sheet_format.specs.Line.{Line, all, null}
 use Rattle.sheet_format.specs.declared.Refusal.{Refusal}
@@ -74,11 +74,11 @@ constant z = isConstant (termOf z)
 -- ---- the causes of a line: g is what the lines before it leave, `before` the line before it
 
 -- 3: a kind that is none, or not in its place, or a field count that its kind cannot have.
--- The question's head comes first; the list's head in the question's block; a view's head in the list's block or a view's; an atom after
+-- The question's head comes first; a list's head in the question's block or a list's; a view's head in a list's block or a view's; an atom after
 -- a head or an atom; a row after a view's atom or a row.
 abbrev pub inPlace : Seen → Kind → Bool
 inPlace g question = eqb (g .block) 0
-inPlace g saved = eqb (g .block) 1
+inPlace g saved = leb 1 (g .block) && leb (g .block) 2
 inPlace g view = leb 2 (g .block)
 inPlace g atom = leb 1 (g .last) && leb (g .last) 4
 inPlace g row = eqb (g .block) 3 && leb 4 (g .last)
@@ -113,19 +113,19 @@ outOfRange atom l = not (all term (terms l))
 outOfRange row l = not (all constant (rest l))
 outOfRange other l = false
 
--- 6: more atoms, views or rows than there may be
+-- 6: more atoms, lists, views or rows than there may be
 abbrev pub atomsOf : ℕ → ℕ
 atomsOf b = cond (eqb b 3) most-view-atoms most-atoms
 
 abbrev pub tooMany : Seen → Kind → Bool
 tooMany g question = false
-tooMany g saved = false
+tooMany g saved = leb most-lists (g .lists)
 tooMany g view = leb most-views (g .views)
 tooMany g atom = leb (atomsOf (g .block)) (g .atoms)
 tooMany g row = leb most-rows (g .rows)
 tooMany g other = false
 
--- 7: the list's head and the question's differ in length, or a row and its head
+-- 7: a list's head and the question's differ in length, or a row and its head
 abbrev pub wrongLength : Seen → Kind → Line → Bool
 wrongLength g question l = false
 wrongLength g saved l = not (eqb (length (rest l)) (g .asked))
@@ -163,14 +163,14 @@ cause g before l =
 -- ---- what a line leaves for the next
 
 abbrev pub start : Seen
-start = record { block = 0; last = 0; atoms = 0; views = 0; rows = 0; asked = 0; columns = 0 }
+start = record { block = 0; last = 0; atoms = 0; lists = 0; views = 0; rows = 0; asked = 0; columns = 0 }
 
 abbrev pub nextBy : Seen → Kind → ℕ → Seen
-nextBy g question n = record { block = 1; last = 1; atoms = 0; views = g .views; rows = g .rows; asked = n; columns = n }
-nextBy g saved n = record { block = 2; last = 2; atoms = 0; views = g .views; rows = g .rows; asked = g .asked; columns = n }
-nextBy g view n = record { block = 3; last = 3; atoms = 0; views = g .views + 1; rows = g .rows; asked = g .asked; columns = n }
-nextBy g atom n = record { block = g .block; last = 4; atoms = g .atoms + 1; views = g .views; rows = g .rows; asked = g .asked; columns = g .columns }
-nextBy g row n = record { block = g .block; last = 5; atoms = g .atoms; views = g .views; rows = g .rows + 1; asked = g .asked; columns = g .columns }
+nextBy g question n = record { block = 1; last = 1; atoms = 0; lists = g .lists; views = g .views; rows = g .rows; asked = n; columns = n }
+nextBy g saved n = record { block = 2; last = 2; atoms = 0; lists = g .lists + 1; views = g .views; rows = g .rows; asked = g .asked; columns = n }
+nextBy g view n = record { block = 3; last = 3; atoms = 0; lists = g .lists; views = g .views + 1; rows = g .rows; asked = g .asked; columns = n }
+nextBy g atom n = record { block = g .block; last = 4; atoms = g .atoms + 1; lists = g .lists; views = g .views; rows = g .rows; asked = g .asked; columns = g .columns }
+nextBy g row n = record { block = g .block; last = 5; atoms = g .atoms; lists = g .lists; views = g .views; rows = g .rows + 1; asked = g .asked; columns = g .columns }
 nextBy g other n = g
 
 unfoldable pub next : Seen → Line → Seen
@@ -192,7 +192,7 @@ none = refusal 0 0
 abbrev pub orAt : ℕ → ℕ → Refusal → Refusal
 orAt c n r = cond (eqb c 0) r (refusal c n)
 
--- 3 at the end: the question or the list is missing
+-- 3 at the end: the question or every list is missing
 abbrev pub missing : Seen → Refusal
 missing g = cond (ltb (g .block) 2) (refusal 3 0) none
 

@@ -9,11 +9,11 @@ most-sheet-bytes = 8192
 
 -- the number form has at most so many words, and reading wants room for as many
 abbrev pub most-words : ℕ
-most-words = 602
+most-words = 749
 
 -- writing wants room for so many bytes
 abbrev pub most-bytes : ℕ
-most-bytes = 4214
+most-bytes = 5243
 
 -- ---- fields and lines
 
@@ -44,16 +44,16 @@ constant-end = 10000000
 abbrev pub most-variables : ℕ
 most-variables = 12
 
--- atoms of the question or the list, and of a view
+-- atoms of the question or a list, and of a view
 abbrev pub most-atoms : ℕ
 most-atoms = 6
 
 abbrev pub most-view-atoms : ℕ
 most-view-atoms = 3
 
--- a sheet has one saved list
+-- saved lists, one after another
 abbrev pub most-lists : ℕ
-most-lists = 1
+most-lists = 4
 
 abbrev pub most-views : ℕ
 most-views = 8
@@ -64,6 +64,6 @@ most-rows = 40
 
 -- ---- what follows from these
 
--- an accepted sheet has at most so many lines: a head and its atoms for question, list and views, and the rows (a law shows it)
+-- an accepted sheet has at most so many lines: a head and its atoms for question, lists and views, and the rows (a law shows it)
 abbrev pub most-lines : ℕ
-most-lines = 86
+most-lines = 107

@@ -4,10 +4,10 @@
 pub const MOST_SHEET_BYTES: usize = 8192;
 
 // The number form's words, at most, and the room that reading wants.
-pub const MOST_WORDS: usize = 602;
+pub const MOST_WORDS: usize = 749;
 
 // The room that writing wants.
-pub const MOST_BYTES: usize = 4214;
+pub const MOST_BYTES: usize = 5243;
 
 // The bytes of a field, and the words of a line: the field count, then the fields.
 pub const FIELD_BYTES: usize = 8;
@@ -37,20 +37,19 @@ pub const COLUMNS: [usize; 10] = [2, 1, 3, 2, 2, 2, 3, 2, 4, 1];
 // The relations' parents: in a log that counts, a relation's parent has each of its rows. Beats and noise are signals; 0 is no parent.
 pub const PARENTS: [usize; 10] = [0, 0, 0, 0, 4, 4, 0, 0, 0, 0];
 
-// The most atoms of the question or the list, and of a view; the lists, of which a sheet has one; the most views; the most rows, of all views
-// together.
+// The most atoms of the question or a list, and of a view; the most lists; the most views; the most rows, of all views together.
 pub const MOST_ATOMS: usize = 6;
 
 pub const MOST_VIEW_ATOMS: usize = 3;
 
-pub const MOST_LISTS: usize = 1;
+pub const MOST_LISTS: usize = 4;
 
 pub const MOST_VIEWS: usize = 8;
 
 pub const MOST_ROWS: usize = 40;
 
 // The lines of an accepted sheet, at most: this follows from the limits above.
-pub const MOST_LINES: usize = 86;
+pub const MOST_LINES: usize = 107;
 
 // The kinds of a line, and of a block by its head; 0 is none.
 pub const QUESTION_KIND: usize = 1;
@@ -117,12 +116,13 @@ pub enum FieldTerm {
     OutOfRange,
 }
 
-// What a line's place goes by: the kind of the block and of the line before (0 for none), the block's atoms, the views and rows so far, the
-// lengths of the question's head and of the block's.
+// What a line's place goes by: the kind of the block and of the line before (0 for none), the block's atoms, the lists, views and rows so
+// far, the lengths of the question's head and of the block's.
 pub struct Seen {
     pub block: usize,
     pub last: usize,
     pub atoms: usize,
+    pub lists: usize,
     pub views: usize,
     pub rows: usize,
     pub asked: usize,

@@ -11,6 +11,7 @@ use lib.Dec.{eqb, leb}
 use lib.IntN.{ℤ, pos}
 use lib.ListN.{length, getD, take, drop}
 use lib.Seq.{slice, slice-cons, slice-empty, length-slice, take-all, take-nil, drop-drop}
+use Rattle.sheet_format.specs.Limits.{most-lists}
 use Rattle.sheet_format.specs.Field.{fits}
 use Rattle.sheet_format.specs.Line.{Line, all, count, isZero, wordLine, wellFormedWords}
 use Rattle.sheet_format.specs.Cause.{Kind, rest, second, terms, term, constant, above, atomsOf, cause, inPlace, possible, wrongColumns, outOfRange, tooMany, kindOf, next, nextBy, stepOf}
@@ -172,7 +173,7 @@ module _ {ws : List ℤ} {n : ℕ} (h : CountedFields ws n) where
     question-cause = rw (fields-rest n ws, fields-length)
 
     pub saved-cause : causeBy g [] saved (fields n ws)
-        ≡ cond (not (eqb (g .block) 1 && leb n 5)) 3 (cond (not (all term (slice 2 (n + 1) ws))) 5 (cond (not (eqb (n - 1) (g .asked))) 7 0))
+        ≡ cond (not ((leb 1 (g .block) && leb (g .block) 2) && leb n 5)) 3 (cond (not (all term (slice 2 (n + 1) ws))) 5 (cond (leb most-lists (g .lists)) 6 (cond (not (eqb (n - 1) (g .asked))) 7 0)))
     saved-cause = rw (fields-rest n ws, fields-length, rest-length)
 
     pub view-cause : causeBy g [] view (fields n ws)

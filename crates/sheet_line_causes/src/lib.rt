@@ -11,6 +11,7 @@ use sheet_format::MISPLACED;
 use sheet_format::MOST_ATOMS;
 use sheet_format::MOST_FIELDS;
 use sheet_format::MOST_HEAD_FIELDS;
+use sheet_format::MOST_LISTS;
 use sheet_format::MOST_ROWS;
 use sheet_format::MOST_VIEW_ATOMS;
 use sheet_format::MOST_VIEWS;
@@ -161,14 +162,18 @@ fn question_cause(g: Seen, words: &[i32], n: usize) -> usize
     0
 }
 
-// The list's head: in the question's block, and as long as the question's head.
+// A list's head: in the question's block or a list's, and as long as the question's head.
 fn saved_cause(g: Seen, words: &[i32], n: usize) -> usize
     requires { ⌜ CountedFields (now words) n ⌝ }
     ensures { λ r. ⌜ r ≡ causeBy g [] saved (fields n (now (words .entry))) ⌝ }
 {
     let block = g.block;
+    let lists = g.lists;
     let asked = g.asked;
-    if block != QUESTION_KIND {
+    if block < QUESTION_KIND {
+        return MISPLACED;
+    }
+    if SAVED_KIND < block {
         return MISPLACED;
     }
     if MOST_HEAD_FIELDS < n {
@@ -177,13 +182,16 @@ fn saved_cause(g: Seen, words: &[i32], n: usize) -> usize
     if !all_pass(Test::AnyTerm, words, 2, n + 1) {
         return OUT_OF_RANGE;
     }
+    if MOST_LISTS <= lists {
+        return TOO_MANY;
+    }
     if n - 1 != asked {
         return WRONG_LENGTH;
     }
     0
 }
 
-// A view's head: in the list's block or a view's.
+// A view's head: in a list's block or a view's.
 fn view_cause(g: Seen, words: &[i32], n: usize) -> usize
     requires { ⌜ CountedFields (now words) n ⌝ }
     ensures { λ r. ⌜ r ≡ causeBy g [] view (fields n (now (words .entry))) ⌝ }
@@ -341,6 +349,7 @@ fn next(g: Seen, kind: i32, n: usize) -> Seen
             block: QUESTION_KIND,
             last: QUESTION_KIND,
             atoms: 0,
+            lists: g.lists,
             views: g.views,
             rows: g.rows,
             asked: n,
@@ -350,6 +359,7 @@ fn next(g: Seen, kind: i32, n: usize) -> Seen
             block: SAVED_KIND,
             last: SAVED_KIND,
             atoms: 0,
+            lists: g.lists + 1,
             views: g.views,
             rows: g.rows,
             asked: g.asked,
@@ -359,6 +369,7 @@ fn next(g: Seen, kind: i32, n: usize) -> Seen
             block: VIEW_KIND,
             last: VIEW_KIND,
             atoms: 0,
+            lists: g.lists,
             views: g.views + 1,
             rows: g.rows,
             asked: g.asked,
@@ -368,6 +379,7 @@ fn next(g: Seen, kind: i32, n: usize) -> Seen
             block: g.block,
             last: ATOM_KIND,
             atoms: g.atoms + 1,
+            lists: g.lists,
             views: g.views,
             rows: g.rows,
             asked: g.asked,
@@ -377,6 +389,7 @@ fn next(g: Seen, kind: i32, n: usize) -> Seen
             block: g.block,
             last: ROW_KIND,
             atoms: g.atoms,
+            lists: g.lists,
             views: g.views,
             rows: g.rows + 1,
             asked: g.asked,

@@ -7,7 +7,7 @@ use borrow.Author.Tests.{lt-ltb, le-ltb}
 use lib.IntN.{ℤ}
 use lib.ListN.{length, take}
 use Rattle.sheet_format.proofs.Endings.{refused-way, short-way, done-way}
-use Rattle.sheet_format.specs.Limits.{most-sheet-bytes, most-words}
+use Rattle.sheet_format.specs.Limits.{most-lines, most-sheet-bytes, most-words}
 use Rattle.sheet_format.specs.Line.{byteLines, wordLines, wordsOf}
 use Rattle.sheet_format.specs.Cause.{refusal, refusalOf}
 use Rattle.sheet_format.specs.Sheet.{over, sheetRefusal, readEnding, readWords}
@@ -52,7 +52,7 @@ module _ (s : List ℕ) (ws : List ℤ) (n : ℕ) (p : Parsed s ws n) (short : l
   read-short out r e z lt = short-way (sheetRefusal s) most-words (length (byteLines s)) (wordsOf (byteLines s)) out (ap (λ x. x .number) (sym (number-same r e)) ∙ z) lt
 
   -- lines that are not refused fit the words that reading wants
-  pub read-fits : (r : Refusal) → r ≡ refusalOf (wordLines (take (n * 7) ws)) → r .number ≡ 0 → n ≤ 86
+  pub read-fits : (r : Refusal) → r ≡ refusalOf (wordLines (take (n * 7) ws)) → r .number ≡ 0 → n ≤ most-lines
   read-fits r e z = let c = p .count in let k = accepted-length (p .lines) (ap (λ x. x .number) (sym (e ∙ lines-same)) ∙ z) in omega arith
 
   pub read-done : (out after : List ℤ) (r : Refusal) → r ≡ refusalOf (wordLines (take (n * 7) ws)) → r .number ≡ 0 → most-words ≤ length out → Wrote out after 0 (n * 7) (take (n * 7) ws) → Read s out after (Done n)

@@ -44,7 +44,7 @@ line-stays-open s at lt h = let l = length-drop at s in open-line (drop at s) (o
 pub record Parsing (s : List ℕ) (ws : List ℤ) (n at : ℕ) : Type 0 where
   pub lines : List Line
   pub count : length lines ≡ n
-  pub few : n ≤ 87
+  pub few : n ≤ most-lines + 1
   pub inside : at ≤ length s
   pub room : length ws ≡ (most-lines + 1) * line-words
   pub words : take (n * 7) ws ≡ wordsOf lines
@@ -56,11 +56,11 @@ unfolding wordsOf
 parsing-none s ws h = record { lines = []; count = refl; few = omega arith; inside = omega arith; room = h; words = refl; good = tt; rest = refl }
 
 -- lines that are the front of the sheet's, and refused at one of them
-parsed-front : (s : List ℕ) (ws : List ℤ) (n : ℕ) (p q : List Line) → length p ≡ n → n ≤ 87 → take (n * 7) ws ≡ wordsOf p → Goods p → byteLines s ≡ p ++ q
+parsed-front : (s : List ℕ) (ws : List ℤ) (n : ℕ) (p q : List Line) → length p ≡ n → n ≤ most-lines + 1 → take (n * 7) ws ≡ wordsOf p → Goods p → byteLines s ≡ p ++ q
     → 0 < scan start [] 1 p .line → (refusalOf p .number ≡ 0 → ⊥) → Parsed s ws n
 parsed-front s ws n p q l f w g e h never = record { lines = p; count = l; few = f; words = w; good = g; alike = sym (ap refusalOf e ∙ refused-front p q h); whole = λ z. absurd (never z) }
 
-pub parsed-long : (s : List ℕ) (ws : List ℤ) (n at : ℕ) → n ≡ 87 → Parsing s ws n at → Parsed s ws n
+pub parsed-long : (s : List ℕ) (ws : List ℤ) (n at : ℕ) → n ≡ most-lines + 1 → Parsing s ws n at → Parsed s ws n
 parsed-long s ws n at e p =
     let c = p .count in
     parsed-front s ws n (p .lines) (byteLines (drop at s)) c (p .few) (p .words) (p .good) (p .rest) (scan-long (p .lines) (omega arith)) (λ z. let k = accepted-length (p .lines) z in omega arith)
@@ -81,7 +81,7 @@ words-more ws us n p l e w = ap (λ k. take k us) (let q : (n + 1) * 7 ≡ n * 7
 count-more : (p : List Line) (l : Line) (n : ℕ) → length p ≡ n → length (p ++ (l ∷ [])) ≡ n + 1
 count-more p l n e = length-append p (l ∷ []) ∙ ap (λ k. k + 1) e
 
-pub parsing-more : (s : List ℕ) (ws us : List ℤ) (n at e : ℕ) → Parsing s ws n at → n < 87 → e ≡ at + beforeEnd (drop at s) → e < length s
+pub parsing-more : (s : List ℕ) (ws us : List ℤ) (n at e : ℕ) → Parsing s ws n at → n < most-lines + 1 → e ≡ at + beforeEnd (drop at s) → e < length s
     → Wrote ws us (n * 7) (n * 7 + 7) (lineWords (lineOf (take (e - at) (drop at s)))) → Parsing s us (n + 1) (e + 1)
 parsing-more s ws us n at e p f is lt w =
     let l = lineOf (take (e - at) (drop at s)) in
@@ -102,18 +102,18 @@ not-formed [] h = no-way h
 not-formed ([] ∷ p) h = no-way h
 not-formed ((z ∷ l) ∷ p) h = not-formed p h
 
-parsed-malformed : (s : List ℕ) (ws us : List ℤ) (n at : ℕ) (q : List Line) → Parsing s ws n at → n < 87 → byteLines (drop at s) ≡ [] ∷ q → Wrote ws us (n * 7) (n * 7 + 7) (lineWords []) → Parsed s us (n + 1)
+parsed-malformed : (s : List ℕ) (ws us : List ℤ) (n at : ℕ) (q : List Line) → Parsing s ws n at → n < most-lines + 1 → byteLines (drop at s) ≡ [] ∷ q → Wrote ws us (n * 7) (n * 7 + 7) (lineWords []) → Parsed s us (n + 1)
 parsed-malformed s ws us n at q p f e w =
     parsed-front s us (n + 1) (p .lines ++ ([] ∷ [])) q (count-more (p .lines) [] n (p .count)) (omega arith) (words-more ws us n (p .lines) [] (p .words) w)
     (goods-append (p .lines) ([] ∷ []) (p .good) (nil-good, tt)) (p .rest ∙ ap (λ x. p .lines ++ x) e ∙ sym (append-assoc (p .lines) ([] ∷ []) q))
     (scan-malformed (p .lines)) (λ z. not-formed (p .lines) (accepted-lines (p .lines ++ ([] ∷ [])) z))
 
-pub parsed-open : (s : List ℕ) (ws us : List ℤ) (n at : ℕ) → Parsing s ws n at → n < 87 → at < length s → at + beforeEnd (drop at s) ≡ length s
+pub parsed-open : (s : List ℕ) (ws us : List ℤ) (n at : ℕ) → Parsing s ws n at → n < most-lines + 1 → at < length s → at + beforeEnd (drop at s) ≡ length s
     → Wrote ws us (n * 7) (n * 7 + 7) (replicate 7 (pos 0)) → Parsed s us (n + 1)
 unfolding lineWords
 parsed-open s ws us n at p f lt h w = parsed-malformed s ws us n at [] p f (line-stays-open s at lt h) w
 
-pub parsed-broken : (s : List ℕ) (ws us : List ℤ) (n at e : ℕ) → Parsing s ws n at → n < 87 → e ≡ at + beforeEnd (drop at s) → e < length s
+pub parsed-broken : (s : List ℕ) (ws us : List ℤ) (n at e : ℕ) → Parsing s ws n at → n < most-lines + 1 → e ≡ at + beforeEnd (drop at s) → e < length s
     → lineOf (take (e - at) (drop at s)) ≡ [] → Wrote ws us (n * 7) (n * 7 + 7) (lineWords (lineOf (take (e - at) (drop at s)))) → Parsed s us (n + 1)
 parsed-broken s ws us n at e p f is lt h w =
     parsed-malformed s ws us n at (byteLines (drop (e + 1) s)) p f (line-closes s at e (p .inside) is lt ∙ ap (λ x. x ∷ byteLines (drop (e + 1) s)) h)

@@ -74,7 +74,7 @@ fn put_line(ws: &mut [i32], n: usize, l: [i32; LINE_WORDS])
     }
 }
 
-// The lines of a sheet as words, up to the first malformed line and to line 87; how many they are.
+// The lines of a sheet as words, up to the first malformed line and to one line more than an accepted sheet has; how many they are.
 fn parse(s: &[u8], ws: &mut [i32]) -> usize
     requires { ⌜ length (now ws) ≡ (most-lines + 1) * line-words ⌝ }
     ensures { λ r. ⌜ Parsed (now (s .entry)) (now (ws .exit)) r ⌝ }

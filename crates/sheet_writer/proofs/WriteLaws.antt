@@ -10,6 +10,7 @@ use lib.IntN.{ℤ, pos}
 use lib.ListN.{length, take, drop, getD, set}
 use lib.Seq.{take-suc, take-length, length-take-le}
 use Rattle.list_laws.proofs.Lists.{part-get, part-length}
+use Rattle.sheet_format.specs.Limits.{most-lines}
 use Rattle.sheet_format.proofs.WordLines.{sevens-get}
 use Rattle.sheet_format.proofs.WordLines as words
 use Rattle.sheet_format.specs.Field.{fieldBytes}
@@ -72,7 +73,7 @@ goods-take (suc n) [] g = tt
 goods-take (suc n) (l ∷ ls) g = (g .0, goods-take n ls (g .1))
 
 module _ (ws : List ℤ) (clean : refusalOf (wordLines ws) .number ≡ 0) where
-  pub few-lines : length ws / 7 ≤ 86
+  pub few-lines : length ws / 7 ≤ most-lines
   few-lines = let e = sevens-length (length ws / 7) ws in let h = accepted-length (wordLines ws) clean in omega arith
 
   pub line-formed : (i : ℕ) → i < length ws / 7 → null (wordLine (sevenAt ws i)) ≡ false

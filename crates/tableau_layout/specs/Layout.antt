@@ -48,7 +48,7 @@ blocks-at = rows-at + most-rows * row-width
 abbrev pub sizes-at : ℕ
 sizes-at = blocks-at + most-blocks * block-width
 
--- the counts at the end: the tableau's atoms, the question's among them, the listed rows, the views
+-- the counts at the end: the tableau's atoms, the question's among them, the listed rows, the views, the lists
 abbrev pub tableau-size-at : ℕ
 tableau-size-at = sizes-at + most-blocks
 
@@ -61,5 +61,8 @@ row-count-at = tableau-size-at + 2
 abbrev pub view-count-at : ℕ
 view-count-at = tableau-size-at + 3
 
+abbrev pub list-count-at : ℕ
+list-count-at = tableau-size-at + 4
+
 abbrev pub plan-numbers : ℕ
-plan-numbers = tableau-size-at + 4
+plan-numbers = tableau-size-at + 5

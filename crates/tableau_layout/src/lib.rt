@@ -41,7 +41,7 @@ pub const BLOCKS_AT: usize = ROWS_AT + MOST_ROWS * ROW_NUMBERS;
 
 pub const SIZES_AT: usize = BLOCKS_AT + MOST_BLOCKS * BLOCK_NUMBERS;
 
-// The counts at the end: the tableau's atoms, the question's among them, the listed rows, the views.
+// The counts at the end: the tableau's atoms, the question's among them, the listed rows, the views, the lists.
 pub const TABLEAU_SIZE_AT: usize = SIZES_AT + MOST_BLOCKS;
 
 pub const ASKED_SIZE_AT: usize = TABLEAU_SIZE_AT + 1;
@@ -50,4 +50,6 @@ pub const ROW_COUNT_AT: usize = TABLEAU_SIZE_AT + 2;
 
 pub const VIEW_COUNT_AT: usize = TABLEAU_SIZE_AT + 3;
 
-pub const PLAN_NUMBERS: usize = TABLEAU_SIZE_AT + 4;
+pub const LIST_COUNT_AT: usize = TABLEAU_SIZE_AT + 4;
+
+pub const PLAN_NUMBERS: usize = TABLEAU_SIZE_AT + 5;

@@ -6,7 +6,7 @@ use native.Mathlib.Omega.{arith}
 use lib.ListN.{length, getD, take, drop, set, length-set}
 use lib.Seq.{getD-set-same, getD-set-other, ext-getD}
 use Rattle.query_layout.specs.Layout.{block-width}
-use Rattle.tableau_layout.specs.Layout.{asked-size-at, blocks-at, most-blocks, plan-numbers, row-count-at, rows-at, sizes-at, tableau-size-at, view-block, view-count-at}
+use Rattle.tableau_layout.specs.Layout.{asked-size-at, blocks-at, list-count-at, most-blocks, plan-numbers, row-count-at, rows-at, sizes-at, tableau-size-at, view-block, view-count-at}
 use Rattle.list_laws.proofs.Lists.{part-get, part-length}
 use Rattle.tableau_plan.specs.Parts.{KeptOutside, BlockStored, sourceOf, Closed}
 
@@ -44,8 +44,8 @@ block-put p q b n blk lt s k e = record {
   size = let l = k .same in getD-set-same q (sizes-at + b) n 0 (omega arith);
 }
 
--- the four counts
-module _ (p : List ℕ) (a k l v : ℕ) (s : length p ≡ plan-numbers) where
+-- the five counts
+module _ (p : List ℕ) (a k l n v : ℕ) (s : length p ≡ plan-numbers) where
   one : List ℕ
   one = set p tableau-size-at a
 
@@ -58,23 +58,36 @@ module _ (p : List ℕ) (a k l v : ℕ) (s : length p ≡ plan-numbers) where
   four : List ℕ
   four = set three view-count-at v
 
-  counted : (length one ≡ plan-numbers) × (length two ≡ plan-numbers) × (length three ≡ plan-numbers) × (length four ≡ plan-numbers)
-  unfolding one two three four
+  five : List ℕ
+  five = set four list-count-at n
+
+  counted : (length one ≡ plan-numbers) × (length two ≡ plan-numbers) × (length three ≡ plan-numbers) × (length four ≡ plan-numbers) × (length five ≡ plan-numbers)
+  unfolding one two three four five
   counted =
       let a1 = length-set p tableau-size-at a ∙ s in
       let a2 = length-set one asked-size-at k ∙ a1 in
       let a3 = length-set two row-count-at l ∙ a2 in
-      (a1, a2, a3, length-set three view-count-at v ∙ a3)
+      let a4 = length-set three view-count-at v ∙ a3 in
+      (a1, a2, a3, a4, length-set four list-count-at n ∙ a4)
 
-  pub closed : Closed p (set (set (set (set p tableau-size-at a) asked-size-at k) row-count-at l) view-count-at v) a k l v
-  unfolding one two three four
+  -- what the last stores leave as it was
+  past-two : (y : ℕ) → y < row-count-at → getD five y 0 ≡ getD two y 0
+  unfolding one two three four five
+  past-two y h =
+      getD-set-other four list-count-at y n 0 (λ g. absurd (omega arith))
+      ∙ getD-set-other three view-count-at y v 0 (λ g. absurd (omega arith))
+      ∙ getD-set-other two row-count-at y l 0 (λ g. absurd (omega arith))
+
+  pub closed : Closed p (set (set (set (set (set p tableau-size-at a) asked-size-at k) row-count-at l) view-count-at v) list-count-at n) a k l n v
+  unfolding one two three four five
   closed =
-      let n = counted in
+      let m = counted in
       record {
-        same = n .3 ∙ sym s;
-        kept = λ y h. getD-set-other three view-count-at y v 0 (λ g. absurd (omega arith)) ∙ getD-set-other two row-count-at y l 0 (λ g. absurd (omega arith)) ∙ getD-set-other one asked-size-at y k 0 (λ g. absurd (omega arith)) ∙ getD-set-other p tableau-size-at y a 0 (λ g. absurd (omega arith));
-        atoms-is = getD-set-other three view-count-at tableau-size-at v 0 (λ g. absurd (omega arith)) ∙ getD-set-other two row-count-at tableau-size-at l 0 (λ g. absurd (omega arith)) ∙ getD-set-other one asked-size-at tableau-size-at k 0 (λ g. absurd (omega arith)) ∙ getD-set-same p tableau-size-at a 0 (omega arith);
-        asked-is = getD-set-other three view-count-at asked-size-at v 0 (λ g. absurd (omega arith)) ∙ getD-set-other two row-count-at asked-size-at l 0 (λ g. absurd (omega arith)) ∙ getD-set-same one asked-size-at k 0 (omega arith);
-        listed-is = getD-set-other three view-count-at row-count-at v 0 (λ g. absurd (omega arith)) ∙ getD-set-same two row-count-at l 0 (omega arith);
-        views-is = getD-set-same three view-count-at v 0 (omega arith);
+        same = m .4 ∙ sym s;
+        kept = λ y h. past-two y (omega arith) ∙ getD-set-other one asked-size-at y k 0 (λ g. absurd (omega arith)) ∙ getD-set-other p tableau-size-at y a 0 (λ g. absurd (omega arith));
+        atoms-is = past-two tableau-size-at (omega arith) ∙ getD-set-other one asked-size-at tableau-size-at k 0 (λ g. absurd (omega arith)) ∙ getD-set-same p tableau-size-at a 0 (omega arith);
+        asked-is = past-two asked-size-at (omega arith) ∙ getD-set-same one asked-size-at k 0 (omega arith);
+        listed-is = getD-set-other four list-count-at row-count-at n 0 (λ g. absurd (omega arith)) ∙ getD-set-other three view-count-at row-count-at v 0 (λ g. absurd (omega arith)) ∙ getD-set-same two row-count-at l 0 (omega arith);
+        lists-is = getD-set-same four list-count-at n 0 (omega arith);
+        views-is = getD-set-other four list-count-at view-count-at n 0 (λ g. absurd (omega arith)) ∙ getD-set-same three view-count-at v 0 (omega arith);
       }

@@ -19,7 +19,7 @@ use Rattle.query_meaning.specs.Meaning.{con, In}
 use Rattle.query_meaning.specs.Blocks.{View, isRow, rows, viewOf, blocks, nth}
 use Rattle.query_blocks.proofs.Accepted.{scan-first}
 use Rattle.case_verdicts.specs.Tableau.{Job, listed, jobs}
-use Rattle.case_verdicts.specs.Sheets.{isView}
+use Rattle.case_verdicts.specs.Sheets.{isSaved, isView}
 use Rattle.case_verdicts.proofs.Lists.{in-left, in-right, in-cases}
 use Rattle.tableau_plan.specs.Parts.{ViewRow, unlisted, rowsFrom}
 use Rattle.query_blocks.specs.Parts.{AcceptedLines}
@@ -35,6 +35,16 @@ pub not-view : (n : ℕ) → (n ≡ 3 → ⊥) → isView (kindAt n) ≡ false
 not-view n h = ap (λ t. isView (cond (eqb n 1) question (cond (eqb n 2) saved (cond t view (cond (eqb n 4) atom (cond (eqb n 5) row other)))))) (ne-eqb n 3 h) ∙ go (eqb n 1) (eqb n 2) (eqb n 4) (eqb n 5)
   where
     go : (a b c d : Bool) → isView (cond a question (cond b saved (cond c atom (cond d row other)))) ≡ false
+    go true b c d = refl
+    go false true c d = refl
+    go false false true d = refl
+    go false false false true = refl
+    go false false false false = refl
+
+pub not-saved : (n : ℕ) → (n ≡ 2 → ⊥) → isSaved (kindAt n) ≡ false
+not-saved n h = ap (λ t. isSaved (cond (eqb n 1) question (cond t saved (cond (eqb n 3) view (cond (eqb n 4) atom (cond (eqb n 5) row other)))))) (ne-eqb n 2 h) ∙ go (eqb n 1) (eqb n 3) (eqb n 4) (eqb n 5)
+  where
+    go : (a b c d : Bool) → isSaved (cond a question (cond b view (cond c atom (cond d row other)))) ≡ false
     go true b c d = refl
     go false true c d = refl
     go false false true d = refl
@@ -117,7 +127,7 @@ walked-by g v l ls question n p ih =
     let e = eqb-true (g .block) 0 p in
     record { outside = λ h. ih v .outside (λ z. omega arith); before = λ h. absurd (omega arith); after = λ h. absurd (omega arith) }
 walked-by g v l ls saved n p ih =
-    let e = eqb-true (g .block) 1 p in
+    let e = leb-true (g .block) 2 (and-right (leb 1 (g .block)) (leb (g .block) 2) p) in
     record { outside = λ h. ih v .outside (λ z. omega arith); before = λ h. absurd (omega arith); after = λ h. absurd (omega arith) }
 walked-by g v l ls view n p ih =
     let q : suc v - 1 ≡ v = omega arith in

@@ -22,13 +22,13 @@ use Rattle.query_encoding.specs.Encoding.{padded}
 use Rattle.query_blocks.proofs.Accepted.{accepted-clean}
 use Rattle.query_blocks.proofs.Words.{rest-word}
 use Rattle.query_blocks.proofs.Parts.{inside, formed, kind-of}
-use Rattle.case_verdicts.specs.Sheets.{isView}
+use Rattle.case_verdicts.specs.Sheets.{isSaved, isView}
 use Rattle.case_verdicts.specs.Tableau.{listed}
 use Rattle.case_verdicts.proofs.Sizes.{accepted-jobs}
 use Rattle.tableau_plan.specs.Plan.{rowAt, rowValues}
 use Rattle.tableau_plan.specs.Parts.{KeptOutside, ViewRow, unlisted, rowsFrom, RowNumbers, RowsDone}
 use Rattle.query_blocks.specs.Parts.{AcceptedLines}
-use Rattle.tableau_plan.proofs.Rows.{kind-natural, not-view, not-row, rows-view, rows-row, rows-other, flatFrom, rows-walked, jobOf, views-all, view-jobs}
+use Rattle.tableau_plan.proofs.Rows.{kind-natural, not-saved, not-view, not-row, rows-view, rows-row, rows-other, flatFrom, rows-walked, jobOf, views-all, view-jobs}
 
 -- ---- a row of at most four values
 
@@ -130,6 +130,12 @@ module _ (ws : List ℤ) (i : ℕ) (lt : i < length ws / 7) (a : AcceptedLines (
 
   pub kind-row : natural (getD ws (7 * i + 1) (pos 0)) ≡ 5 → kind (getD (wordLines ws) i []) ≡ row
   kind-row e = kind-number ∙ ap kindAt e
+
+  pub kind-saved : natural (getD ws (7 * i + 1) (pos 0)) ≡ 2 → kind (getD (wordLines ws) i []) ≡ saved
+  kind-saved e = kind-number ∙ ap kindAt e
+
+  pub kind-no-saved : (natural (getD ws (7 * i + 1) (pos 0)) ≡ 2 → ⊥) → isSaved (kind (getD (wordLines ws) i [])) ≡ false
+  kind-no-saved e = ap isSaved kind-number ∙ not-saved _ e
 
   pub kind-no-view : (natural (getD ws (7 * i + 1) (pos 0)) ≡ 3 → ⊥) → isView (kind (getD (wordLines ws) i [])) ≡ false
   kind-no-view e = ap isView kind-number ∙ not-view _ e

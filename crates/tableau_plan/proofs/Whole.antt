@@ -20,7 +20,7 @@ use Rattle.case_verdicts.specs.Accepted.{Fine}
 use Rattle.case_verdicts.specs.Sheets.{top, isView, sheetOf}
 use Rattle.case_verdicts.specs.Tableau.{Job, State, listed, jobs, tableauLog, bare}
 use Rattle.case_verdicts.proofs.Lists.{total, total-each, total-append, total-map}
-use Rattle.case_verdicts.proofs.Order.{block-question, list-count, block-list, block-view, block-count}
+use Rattle.case_verdicts.proofs.Order.{lists-few, block-count}
 use Rattle.case_verdicts.proofs.Sizes.{accepted-size}
 use Rattle.case_verdicts.proofs.Tables.{ten-parents}
 use Rattle.case_verdicts.proofs.Accepted.{accepted-sheet}
@@ -148,8 +148,8 @@ module _ (ls : List Line) (ok : AcceptedLines ls) where
   view-fine j h a m = accepted-sheet ls ok .views (nth views j) (nth-in views j h) .atoms a m .terms
 
   -- ---- the blocks of the copies stand in q
-  module _ (q : List ℕ) (r : ℕ) (each : (b : ℕ) → b < view-block (length views) → BlockNumbers (blockNumbers q b) (blockSize q b) (blockAt ls (suc b)))
-      (count : r ≡ length (rowsFrom 0 ls)) (rows : (k : ℕ) → k < r → RowNumbers q k (getD (rowsFrom 0 ls) k unlisted)) where
+  module _ (q : List ℕ) (r : ℕ) (stored : (v : ℕ) → v < length views → BlockNumbers (blockNumbers q (view-block v)) (blockSize q (view-block v)) (nth views v .block))
+      (question : BlockNumbers (blockNumbers q question-block) (blockSize q question-block) (sheet .question)) (count : r ≡ length (rowsFrom 0 ls)) (rows : (k : ℕ) → k < r → RowNumbers q k (getD (rowsFrom 0 ls) k unlisted)) where
     source-low : (k : ℕ) → k < length blockList → sourceOf q k < view-block (length views)
     source-low zero h = omega arith
     source-low (suc i) h =
@@ -159,16 +159,14 @@ module _ (ls : List Line) (ok : AcceptedLines ls) where
         omega arith
 
     source-numbers : (k : ℕ) → k < length blockList → BlockNumbers (blockNumbers q (sourceOf q k)) (blockSize q (sourceOf q k)) (getD blockList k emptyBlock)
-    source-numbers zero h = subst (BlockNumbers (blockNumbers q question-block) (blockSize q question-block)) (block-question ls ok) (each 0 (omega arith))
+    source-numbers zero h = question
     source-numbers (suc i) h =
         let n = list-length in
         let e = rows i (omega arith) .view in
-        let b = each (view-block (rowAt q i 0)) (source-low (suc i) h) in
-        let c = list-count ls ok in
-        let z : suc (view-block (rowAt q i 0)) ≡ suc (suc (length (sheet .lists) + rowAt q i 0)) = omega arith in
+        let o = row-of i (omega arith) .low in
         subst (BlockNumbers (blockNumbers q (view-block (rowAt q i 0))) (blockSize q (view-block (rowAt q i 0))))
-        (ap (blockAt ls) z ∙ block-view ls ok (rowAt q i 0) ∙ ap (λ v. nth views v .block) e ∙ sym (list-at i (omega arith)))
-        b
+        (ap (λ v. nth views v .block) e ∙ sym (list-at i (omega arith)))
+        (stored (rowAt q i 0) (omega arith))
 
     source-fine : (k : ℕ) → k < length blockList → (a : Atom) → In a (getD blockList k emptyBlock .atoms) → Fine top (a .terms)
     source-fine zero h a m = question-fine a m
@@ -188,14 +186,14 @@ module _ (ls : List Line) (ok : AcceptedLines ls) where
         }
 
   -- ---- all parts together
-  module _ (q1 q2 q3 q4 p : List ℕ) (nb i v r a m : ℕ) (s : length q1 ≡ plan-numbers) (bl : Blocks q1 ls nb) (k2 : KeptOutside q1 q2 rows-at blocks-at) (few : r ≤ most-rows) (end : length ls ≤ i) (rd : RowsDone q2 ls i v r)
+  module _ (q1 q2 q3 q4 p : List ℕ) (nb nl i v r a m : ℕ) (s : length q1 ≡ plan-numbers) (so : nl ≡ length (sheet .lists)) (bl : Blocks q1 ls nb) (k2 : KeptOutside q1 q2 rows-at blocks-at) (few : r ≤ most-rows) (end : length ls ≤ i) (rd : RowsDone q2 ls i v r)
       (k3 : KeptOutside q2 q3 0 rows-at) (first : (n : ℕ) (bs : List Block) → 0 < length bs → Sources q2 n bs → TableauDone q2 0 0 bs → TableauDone q3 1 a bs)
-      (k4 : KeptOutside q3 q4 0 rows-at) (most : m ≤ tableau-atoms) (td : (bs : List Block) → Sources q3 r bs → TableauDone q3 1 a bs → TableauDone q4 (r + 1) m bs) (cl : Closed q4 p m a r (nb - 2)) where
+      (k4 : KeptOutside q3 q4 0 rows-at) (most : m ≤ tableau-atoms) (td : (bs : List Block) → Sources q3 r bs → TableauDone q3 1 a bs → TableauDone q4 (r + 1) m bs) (cl : Closed q4 p m a r nl (nb - (1 + nl))) where
     count : r ≡ length (rowsFrom 0 ls)
     count = all-taken q2 ls i v r end rd
 
-    blocks-count : nb ≡ view-block (length views)
-    blocks-count = let c = list-count ls ok in bl .count ∙ block-count ls ok ∙ omega arith
+    blocks-count : nb ≡ 1 + nl + length views
+    blocks-count = let c = so in bl .count ∙ block-count ls ok ∙ omega arith
 
     agree2 : SameFrom q1 q2 blocks-at
     agree2 = record { long = s; long-too = k2 .same ∙ s; same = λ y g h. k2 .above y g }
@@ -210,22 +208,21 @@ module _ (ls : List Line) (ok : AcceptedLines ls) where
     agree-blocks : SameFrom q2 p blocks-at
     agree-blocks = record { long = agree .long; long-too = agree .long-too; same = λ y g h. agree .same y (omega arith) h }
 
-    each2 : (b : ℕ) → b < view-block (length views) → BlockNumbers (blockNumbers q2 b) (blockSize q2 b) (blockAt ls (suc b))
-    each2 b h =
-        let n = blocks-count in
-        let w = accepted-views ls ok in
-        block-moved q1 q2 b (blockAt ls (suc b)) (omega arith) agree2 (bl .each b (omega arith))
+    -- blocks that stand in q1 stand in q2 and in the plan
+    stood2 : (b : ℕ) (x : Block) → b < most-blocks → BlockNumbers (blockNumbers q1 b) (blockSize q1 b) x → BlockNumbers (blockNumbers q2 b) (blockSize q2 b) x
+    stood2 b x h = block-moved q1 q2 b x h agree2
 
-    each : (b : ℕ) → b < view-block (length views) → BlockNumbers (blockNumbers p b) (blockSize p b) (blockAt ls (suc b))
-    each b h =
-        let w = accepted-views ls ok in
-        block-moved q2 p b (blockAt ls (suc b)) (omega arith) agree-blocks (each2 b h)
+    stood : (b : ℕ) (x : Block) → b < most-blocks → BlockNumbers (blockNumbers q1 b) (blockSize q1 b) x → BlockNumbers (blockNumbers p b) (blockSize p b) x
+    stood b x h n = block-moved q2 p b x h agree-blocks (stood2 b x h n)
+
+    view-low : (v : ℕ) → v < length views → view-block v < most-blocks
+    view-low v h = let w = accepted-views ls ok in omega arith
 
     row-numbers : (k : ℕ) → k < r → RowNumbers p k (getD (rowsFrom 0 ls) k unlisted)
     row-numbers k h = row-same q2 p k (getD (rowsFrom 0 ls) k unlisted) (λ c f. agree .same (rows-at + k * 5 + c) (omega arith) (omega arith)) (rd .each k h)
 
     standing : Sources q2 r blockList
-    standing = sources q2 r each2 count (rd .each)
+    standing = sources q2 r (λ v h. stood2 (view-block v) (nth views v .block) (view-low v h) (bl .view v h)) (stood2 question-block (sheet .question) (omega arith) (bl .question)) count (rd .each)
 
     -- the question's copy
     asked : TableauDone q3 1 a blockList
@@ -281,15 +278,13 @@ module _ (ls : List Line) (ok : AcceptedLines ls) where
     views-count = let n = blocks-count in let c = cl .views-is in omega arith
 
     lists-count : listCount p ≡ length (sheet .lists)
-    unfolding listCount
-    lists-count = sym (list-count ls ok)
+    lists-count = cl .lists-is ∙ so
 
     list-numbers : (i : ℕ) → i < listCount p → BlockNumbers (blockNumbers p (list-block i)) (blockSize p (list-block i)) (listAt sheet i)
     list-numbers i h =
         let c = lists-count in
-        let n = list-count ls ok in
-        let z : suc (list-block i) ≡ suc (suc i) = omega arith in
-        subst (BlockNumbers (blockNumbers p (list-block i)) (blockSize p (list-block i))) (ap (blockAt ls) z ∙ block-list ls ok i (omega arith)) (each (list-block i) (omega arith))
+        let n = lists-few ls ok in
+        stood (list-block i) (listAt sheet i) (omega arith) (bl .list i (omega arith))
 
     row-in : (k : ℕ) → k < rowCount p → RowOf p sheet k
     row-in k h =
@@ -332,18 +327,15 @@ module _ (ls : List Line) (ok : AcceptedLines ls) where
           few = omega arith;
           asked = omega arith;
           rows-few = omega arith;
-          lists-few = let c = lists-count in let l = list-count ls ok in omega arith;
+          lists-few = let c = lists-count in let l = lists-few ls ok in omega arith;
           views-few = omega arith;
           whole = whole-facts;
           agreeing = agreeing-facts;
-          question = subst (BlockNumbers (blockNumbers p question-block) (blockSize p question-block)) (block-question ls ok) (each 0 (omega arith));
+          question = stood question-block (sheet .question) (omega arith) (bl .question);
           lists = lists-count;
           list = list-numbers;
           views = views-count;
-          view = λ j h.
-              let c = list-count ls ok in
-              let z : suc (view-block j) ≡ suc (suc (length (sheet .lists) + j)) = omega arith in
-              subst (BlockNumbers (blockNumbers p (view-block j)) (blockSize p (view-block j))) (ap (blockAt ls) z ∙ block-view ls ok j) (each (view-block j) (omega arith));
+          view = λ j h. let u = views-count in stood (view-block j) (nth views j .block) (view-low j (omega arith)) (bl .view j (omega arith));
           rows = row-in;
           every-row = row-place;
           copies = let l = rest-length in let c = count in omega arith;

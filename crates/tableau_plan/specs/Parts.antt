@@ -3,22 +3,22 @@ use mathlib.Core.Path.{_≡_}
 use mathlib.Core.Bool.{cond}
 use mathlib.Core.List.{List, [], _∷_, _++_, map}
 use Prim.Native.Nat.{ℕ, zero, suc, _+_, _-_, _*_, _<_, _≤_}
-use lib.Dec.{ltb}
+use lib.Dec.{ltb, leb}
 use lib.ListN.{length, getD, drop}
 use Rattle.query_layout.specs.Layout.{block-width, names}
-use Rattle.tableau_layout.specs.Layout.{blocks-at, most-blocks, plan-numbers, sizes-at, slot-end, tableau-atoms, tableau-size-at, view-block}
-use Rattle.sheet_format.specs.Limits.{constant-end}
+use Rattle.tableau_layout.specs.Layout.{blocks-at, most-blocks, plan-numbers, sizes-at, slot-end, tableau-atoms, tableau-size-at, question-block, list-block, view-block}
+use Rattle.sheet_format.specs.Limits.{constant-end, most-lists}
 use Rattle.sheet_format.specs.Relations.{parentOf}
 use Rattle.list_laws.specs.Kept as ranges
 use Rattle.sheet_format.specs.Line.{Line, gather, natural}
 use Rattle.sheet_format.specs.Cause.{kind, rest, refusalOf}
 use Rattle.query_meaning.specs.Meaning.{Term, value, Atom, Block, In}
-use Rattle.query_meaning.specs.Blocks.{isRow, allBlocks, nowhere, blockAt}
+use Rattle.query_meaning.specs.Blocks.{isRow, allBlocks, nowhere, nth}
 use Rattle.query_encoding.specs.Encoding.{termNumber, termAt, BlockNumbers, padded}
 use Rattle.case_verdicts.specs.Accepted.{Fine}
-use Rattle.case_verdicts.specs.Sheets.{top, isView}
+use Rattle.case_verdicts.specs.Sheets.{top, isView, sheetOf}
 use Rattle.case_verdicts.specs.Tableau.{State, copy}
-use Rattle.tableau_plan.specs.Plan.{tableauAt, rowAt, rowValues, blockNumbers, blockSize, tableauSize, askedSize, rowCount, viewCount, slotValue}
+use Rattle.tableau_plan.specs.Plan.{tableauAt, rowAt, rowValues, blockNumbers, blockSize, tableauSize, askedSize, rowCount, viewCount, listCount, listAt, slotValue}
 
 -- q is p but for the places from `from` to before `end`
 abbrev pub KeptOutside : List ℕ → List ℕ → ℕ → ℕ → Type 0
@@ -34,9 +34,16 @@ pub record BlockStored (p q : List ℕ) (b n : ℕ) (blk : List ℕ) : Type 0 wh
   pub numbers : (x : ℕ) → x < block-width → getD q (blocks-at + b * block-width + x) 0 ≡ getD blk x 0
   pub size : getD q (sizes-at + b) 0 ≡ n
 
+-- where block b of a sheet with so many lists, counted from 0, stands in a plan: the views stand behind the places of all lists that there may be
+unfoldable pub placeOf : ℕ → ℕ → ℕ
+placeOf lists b = cond (leb b lists) b (b + (most-lists - lists))
+
+-- all blocks have been stored, and n is how many there are
 pub record Blocks (p : List ℕ) (ls : List Line) (n : ℕ) : Type 0 where
   pub count : n ≡ length (allBlocks ls)
-  pub each : (b : ℕ) → b < n → BlockNumbers (blockNumbers p b) (blockSize p b) (blockAt ls (suc b))
+  pub question : BlockNumbers (blockNumbers p question-block) (blockSize p question-block) (sheetOf ls .question)
+  pub list : (i : ℕ) → i < length (sheetOf ls .lists) → BlockNumbers (blockNumbers p (list-block i)) (blockSize p (list-block i)) (listAt (sheetOf ls) i)
+  pub view : (v : ℕ) → v < length (sheetOf ls .views) → BlockNumbers (blockNumbers p (view-block v)) (blockSize p (view-block v)) (nth (sheetOf ls .views) v .block)
 
 -- ---- the listed rows
 
@@ -141,10 +148,11 @@ TableauDone p k n bs = AtomsStored p n (atomsFrom 0 bs) (atomsFrom k (drop k bs)
 
 -- ---- the counts
 
-pub record Closed (p q : List ℕ) (atoms asked listed views : ℕ) : Type 0 where
+pub record Closed (p q : List ℕ) (atoms asked listed lists views : ℕ) : Type 0 where
   pub same : length q ≡ length p
   pub kept : (y : ℕ) → y < tableau-size-at → getD q y 0 ≡ getD p y 0
   pub atoms-is : tableauSize q ≡ atoms
   pub asked-is : askedSize q ≡ asked
   pub listed-is : rowCount q ≡ listed
+  pub lists-is : listCount q ≡ lists
   pub views-is : viewCount q ≡ views

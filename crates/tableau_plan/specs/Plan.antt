@@ -7,7 +7,7 @@ use Prim.Native.Nat.{ℕ, zero, suc, _+_, _-_, _*_, _<_, _≤_}
 use lib.Dec.{ltb}
 use lib.ListN.{length, getD, take, drop}
 use Rattle.query_layout.specs.Layout.{block-width}
-use Rattle.tableau_layout.specs.Layout.{asked-size-at, blocks-at, plan-numbers, row-count-at, rows-at, sizes-at, slot-end, tableau-atoms, tableau-size-at, view-count-at, question-block, list-block, view-block}
+use Rattle.tableau_layout.specs.Layout.{asked-size-at, blocks-at, list-count-at, plan-numbers, row-count-at, rows-at, sizes-at, slot-end, tableau-atoms, tableau-size-at, view-count-at, question-block, list-block, view-block}
 use Rattle.sheet_format.specs.Limits.{most-lists, most-rows, most-views}
 use Rattle.query_meaning.specs.Meaning.{Term, con, Block, In}
 use Rattle.query_meaning.specs.Blocks.{View, nowhere, nth}
@@ -46,9 +46,9 @@ rowCount p = getD p row-count-at 0
 abbrev pub viewCount : List ℕ → ℕ
 viewCount p = getD p view-count-at 0
 
--- how many lists: a sheet has as many as it may have
-unfoldable pub listCount : List ℕ → ℕ
-listCount p = most-lists
+-- how many lists
+abbrev pub listCount : List ℕ → ℕ
+listCount p = getD p list-count-at 0
 
 -- list i of a sheet
 abbrev pub listAt : Sheet → ℕ → Block

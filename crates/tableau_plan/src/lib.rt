@@ -7,9 +7,11 @@ use query_layout::MADE_UP;
 use query_layout::NAMES;
 use sheet_format::LINE_WORDS;
 use sheet_format::MOST_ATOMS;
+use sheet_format::MOST_LISTS;
 use sheet_format::MOST_ROWS;
 use sheet_format::MOST_VIEWS;
 use sheet_format::ROW_KIND;
+use sheet_format::SAVED_KIND;
 use sheet_format::VIEW_KIND;
 use tableau_layout::BLOCKS_AT;
 use tableau_layout::MOST_BLOCKS;
@@ -35,7 +37,7 @@ ghost use Rattle.query_meaning.specs.Meaning.{Atom, Block};
 ghost use Rattle.query_encoding.specs.Encoding.{atomAt};
 ghost use Rattle.case_verdicts.specs.Sheets.{sheetOf};
 ghost use Rattle.tableau_plan.specs.Plan.{Plan};
-ghost use Rattle.tableau_plan.specs.Parts.{KeptOutside, BlockStored, Blocks, slotOf, sourceOf, RowsDone, PlacedAtom, placedAtom, placedIn, withOwed, ownAtoms, AtomAt, AtomsStored, Sources, TableauDone, Closed};
+ghost use Rattle.tableau_plan.specs.Parts.{KeptOutside, BlockStored, Blocks, placeOf, slotOf, sourceOf, RowsDone, PlacedAtom, placedAtom, placedIn, withOwed, ownAtoms, AtomAt, AtomsStored, Sources, TableauDone, Closed};
 ghost use Rattle.query_blocks.specs.Parts.{AcceptedLines};
 
 // Terms of a block are below this.
@@ -79,10 +81,42 @@ fn put_block(p: &mut [usize], b: usize, found: Numbers)
     p[SIZES_AT + b] = found.atoms;
 }
 
-// All blocks, and how many there are.
-fn put_blocks(ws: &[i32], p: &mut [usize]) -> usize
+// How many lists there are: their heads are counted.
+fn count_lists(ws: &[i32]) -> usize
+    ensures { λ r. ⌜ (AcceptedLines (wordLines (now (ws .entry))) → r ≡ length (sheetOf (wordLines (now (ws .entry))) .lists)) ⌝ }
+{
+    let n = ws.len() / LINE_WORDS;
+    let mut lists = 0;
+    let mut i = 0;
+    while i < n {
+        let kind = number_at(ws, LINE_WORDS * i + 1);
+        i += 1;
+        if kind != SAVED_KIND {
+            continue;
+        }
+        lists += 1;
+    }
+    lists
+}
+
+// The place of block b, counted from 0, where there are so many lists.
+fn place(lists: usize, b: usize) -> usize
+    requires { ⌜ b < most-blocks ⌝ }
+    ensures { λ r. ⌜ r ≡ placeOf lists b ⌝ }
+{
+    if b <= lists {
+        return b;
+    }
+    if MOST_LISTS <= lists {
+        return b;
+    }
+    b + (MOST_LISTS - lists)
+}
+
+// All blocks, and how many there are, where there are so many lists.
+fn put_blocks(ws: &[i32], lists: usize, p: &mut [usize]) -> usize
     requires { ⌜ length (now p) ≡ plan-numbers ⌝ }
-    ensures { λ r. ⌜ (length (now (p .exit)) ≡ plan-numbers) × (AcceptedLines (wordLines (now (ws .entry))) → Blocks (now (p .exit)) (wordLines (now (ws .entry))) r) ⌝ }
+    ensures { λ r. ⌜ (length (now (p .exit)) ≡ plan-numbers) × (AcceptedLines (wordLines (now (ws .entry))) → lists ≡ length (sheetOf (wordLines (now (ws .entry))) .lists) → Blocks (now (p .exit)) (wordLines (now (ws .entry))) r) ⌝ }
 {
     let mut b = 0;
     while b < MOST_BLOCKS {
@@ -90,7 +124,11 @@ fn put_blocks(ws: &[i32], p: &mut [usize]) -> usize
         if !found.some {
             return b;
         }
-        put_block(p, b, found);
+        let at = place(lists, b);
+        if MOST_BLOCKS <= at {
+            return b;
+        }
+        put_block(p, at, found);
         b += 1;
     }
     b
@@ -267,15 +305,33 @@ fn put_tableau(p: &mut [usize], n: usize, asked: usize) -> usize
     at
 }
 
-// The four counts.
-fn put_counts(p: &mut [usize], atoms: usize, asked: usize, listed: usize, blocks: usize)
+// How many of the blocks are views: the others are the question and so many lists.
+fn views_of(blocks: usize, lists: usize) -> usize
+    ensures { λ r. ⌜ r ≡ blocks - (1 + lists) ⌝ }
+{
+    if blocks <= lists {
+        return 0;
+    }
+    blocks - lists - 1
+}
+
+// The five counts.
+fn put_counts(
+    p: &mut [usize],
+    atoms: usize,
+    asked: usize,
+    listed: usize,
+    lists: usize,
+    views: usize,
+)
     requires { ⌜ length (now p) ≡ plan-numbers ⌝ }
-    ensures { λ r. ⌜ Closed (now (p .entry)) (now (p .exit)) atoms asked listed (blocks - 2) ⌝ }
+    ensures { λ r. ⌜ Closed (now (p .entry)) (now (p .exit)) atoms asked listed lists views ⌝ }
 {
     p[TABLEAU_SIZE_AT] = atoms;
     p[TABLEAU_SIZE_AT + 1] = asked;
     p[TABLEAU_SIZE_AT + 2] = listed;
-    p[TABLEAU_SIZE_AT + 3] = view_of(view_of(blocks));
+    p[TABLEAU_SIZE_AT + 3] = views;
+    p[TABLEAU_SIZE_AT + 4] = lists;
 }
 
 // The plan of an accepted number form, where there are as many words as a plan has; more or fewer words are left as they are.
@@ -286,9 +342,10 @@ pub fn plan(ws: &[i32], p: &mut [usize])
     if p.len() != PLAN_NUMBERS {
         return;
     }
-    let blocks = put_blocks(ws, p);
+    let lists = count_lists(ws);
+    let blocks = put_blocks(ws, lists, p);
     let listed = put_rows(ws, p);
     let asked = put_copy(p, 0, 0);
     let atoms = put_tableau(p, listed, asked);
-    put_counts(p, atoms, asked, listed, blocks);
+    put_counts(p, atoms, asked, listed, lists, views_of(blocks, lists));
 }

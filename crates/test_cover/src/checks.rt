@@ -1,6 +1,6 @@
 // What evaluation says of a case that was handed over.
 //
-// A sheet's words are its number form in 602 words: seven to a line, the field count, the kind and the fields after it, and zeros after the
+// A sheet's words are its number form in the words of the longest sheet: seven to a line, the field count, the kind and the fields after it, and zeros after the
 // last line.
 use judge_result::LEAST_ROOM;
 use sheet_format::CONSTANT_END;
@@ -11,6 +11,7 @@ use sheet_format::MOST_WORDS;
 ghost use mathlib.Core.Path.{_≡_};
 ghost use Prim.Native.Nat.{_+_, _*_, _<_, _≤_};
 ghost use lib.ListN.{length};
+ghost use Rattle.sheet_format.specs.Limits.{most-words};
 
 // The words of a fact and of an answer, and the answers that there is room for.
 const FACT: usize = 5;
@@ -115,7 +116,7 @@ fn is_term(words: &[i32], i: usize, w: i32) -> bool
 
 // Whether the facts are a case of the sheet.
 fn is_case(sheet: &[u8], words: &[i32], facts: &[i32]) -> bool
-    requires { ⌜ length (now words) ≡ 602 ⌝ }
+    requires { ⌜ length (now words) ≡ most-words ⌝ }
 {
     let mut asked = [0i32; ROOM];
     if lacking(sheet, facts, &mut asked) == ANSWERS {
@@ -126,7 +127,7 @@ fn is_case(sheet: &[u8], words: &[i32], facts: &[i32]) -> bool
 
 // Whether each beat and each noise is a signal, and each view's answers are its listed rows.
 fn agrees(sheet: &[u8], words: &[i32], facts: &[i32]) -> bool
-    requires { ⌜ length (now words) ≡ 602 ⌝ }
+    requires { ⌜ length (now words) ≡ most-words ⌝ }
 {
     if !are_signals(facts) {
         return false;
@@ -220,7 +221,7 @@ fn head(kind: i32) -> usize
 
 // Whether a view's answers are its listed rows.
 fn is_listed(sheet: &[u8], words: &[i32], facts: &[i32], block: usize) -> bool
-    requires { ⌜ length (now words) ≡ 602 ⌝ }
+    requires { ⌜ length (now words) ≡ most-words ⌝ }
 {
     let mut listed = [0i32; ROOM];
     let n = list(words, block, &mut listed);
@@ -237,7 +238,7 @@ fn is_listed(sheet: &[u8], words: &[i32], facts: &[i32], block: usize) -> bool
 
 // Puts the listed rows of a view at the start of out, and returns how many they are.
 fn list(words: &[i32], block: usize, out: &mut [i32]) -> usize
-    requires { ⌜ (length (now words) ≡ 602) × (length (now out) ≡ 4096) ⌝ }
+    requires { ⌜ (length (now words) ≡ most-words) × (length (now out) ≡ 4096) ⌝ }
 {
     let mut n = 0;
     let mut i = 0;
@@ -383,7 +384,7 @@ fn is_answer(a: &[i32], k: usize, b: &[i32], i: usize) -> bool
 
 // Whether the facts are no case without any one of them.
 fn is_bare(sheet: &[u8], words: &[i32], facts: &[i32]) -> bool
-    requires { ⌜ length (now words) ≡ 602 ⌝ }
+    requires { ⌜ length (now words) ≡ most-words ⌝ }
 {
     let mut i = 0;
     while i < facts.len() / FACT {
@@ -397,7 +398,7 @@ fn is_bare(sheet: &[u8], words: &[i32], facts: &[i32]) -> bool
 
 // Whether the facts are a case without fact i.
 fn is_case_without(sheet: &[u8], words: &[i32], facts: &[i32], i: usize) -> bool
-    requires { ⌜ length (now words) ≡ 602 ⌝ }
+    requires { ⌜ length (now words) ≡ most-words ⌝ }
 {
     let mut rest = [0i32; LEAST_ROOM];
     let n = put_without(facts, i, &mut rest);

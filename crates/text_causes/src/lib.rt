@@ -13,7 +13,7 @@ pub fn put_cause(out: &mut [u8], at: usize, number: usize) -> usize
         3 => put(
             out,
             at,
-            b"a line is out of place, or the question or the list is missing",
+            b"a line is out of place, or the question or a list is missing",
         ),
         4 => put(out, at, b"no such relation, or not its columns"),
         5 => put(out, at, b"a term is out of range, or a row has a variable"),

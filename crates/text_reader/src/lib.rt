@@ -346,10 +346,15 @@ fn begin(words: &mut [i32], s: ReaderState, kind: usize) -> ReaderState
     put_field(words, t, kind as i32)
 }
 
-// The kind of the block after one of a kind, and its letter.
-fn next_block(block: usize) -> usize
+// The kind of the block after one of a kind, where its line begins with a letter: a list may follow a list.
+fn next_block(block: usize, b: u8) -> usize
     ensures { λ r. ⌜ (0 < r) × (r ≤ 3) ⌝ }
 {
+    if block == SAVED_KIND {
+        if b == letter(SAVED_KIND) {
+            return SAVED_KIND;
+        }
+    }
     match block {
         0 => QUESTION_KIND,
         1 => SAVED_KIND,
@@ -359,11 +364,11 @@ fn next_block(block: usize) -> usize
 
 // At the start of a line: a block's letter; empty lines and comments are passed over.
 fn start(token: &[u8], s: ReaderState, words: &mut [i32]) -> ReaderState {
-    let block = next_block(s.block);
     if token.len() == 0 {
         return s;
     }
     let b = token[0];
+    let block = next_block(s.block, b);
     if b == b'\n' {
         return s;
     }

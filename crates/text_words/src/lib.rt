@@ -43,8 +43,8 @@ pub fn put_what(out: &mut [u8], at: usize, what: usize, relation: usize) -> usiz
 {
     match what {
         1 => put(out, at, b"q, the question"),
-        2 => put(out, at, b"l, the saved list"),
-        3 => put(out, at, b"v, a view"),
+        2 => put(out, at, b"l, a saved list"),
+        3 => put(out, at, b"v, a view, or behind a list l, one more list"),
         4 => put(out, at, b"("),
         5 => put(out, at, b"a variable, a number or )"),
         6 => put(out, at, b"a variable or a number"),

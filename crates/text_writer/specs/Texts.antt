@@ -167,7 +167,7 @@ abbrev pub causes : List (List ℕ)
 causes =
     bytes "the sheet is too long"
     ∷ bytes "a line or a field is malformed"
-    ∷ bytes "a line is out of place, or the question or the list is missing"
+    ∷ bytes "a line is out of place, or the question or a list is missing"
     ∷ bytes "no such relation, or not its columns"
     ∷ bytes "a term is out of range, or a row has a variable"
     ∷ bytes "more atoms, views or rows than fit"
@@ -215,8 +215,8 @@ columnsBytes relation = cond (ltb 10 relation) [] (countBytes (columnsAt relatio
 abbrev pub expectations : ℕ → List (List ℕ)
 expectations relation =
     bytes "q, the question"
-    ∷ bytes "l, the saved list"
-    ∷ bytes "v, a view"
+    ∷ bytes "l, a saved list"
+    ∷ bytes "v, a view, or behind a list l, one more list"
     ∷ bytes "("
     ∷ bytes "a variable, a number or )"
     ∷ bytes "a variable or a number"

@@ -1,7 +1,4 @@
--- `plan::put_counts` meets its contract: four stores. Assumes nothing.
-use mathlib.Core.Path.{_≡_}
-use Prim.Native.Nat.{_-_}
-use native.Mathlib.Omega.{arith}
+-- Five stores.
 use borrow.Author.Needs.{needs}
 use Rattle.tableau_plan.proofs.Laws.{closed}
 use Rattle.tableau_plan.proofs.put_counts.Statement.{statement}
@@ -28,12 +25,6 @@ mul-p-2 c = search needs
 slice-write-p-3 : tie.Need-slice-write-p-3
 slice-write-p-3 c = search needs
 
-view-of-requires : tie.Need-view-of-requires
-view-of-requires c κs = search needs
-
-view-of-requires-2 : tie.Need-view-of-requires-2
-view-of-requires-2 c κs = search needs
-
 add-p-3 : tie.Need-add-p-3
 add-p-3 c = search needs
 
@@ -43,14 +34,20 @@ mul-p-3 c = search needs
 slice-write-p-4 : tie.Need-slice-write-p-4
 slice-write-p-4 c = search needs
 
+add-p-4 : tie.Need-add-p-4
+add-p-4 c = search needs
+
+mul-p-4 : tie.Need-mul-p-4
+mul-p-4 c = search needs
+
+slice-write-p-5 : tie.Need-slice-write-p-5
+slice-write-p-5 c = search needs depth 8
+
 same-length : tie.Need-same-length
 same-length c = search needs
 
 returns : tie.Need-returns
-returns c =
-    let a = c .before .before .before .args in
-    let e : c .view-of2 .result ≡ a .blocks - 2 = omega arith in
-    rw e (closed (a .p .now) (a .atoms) (a .asked) (a .listed) (a .blocks - 2) (c .before .before .before .pre))
+returns c = let a = c .args in closed (a .p .now) (a .atoms) (a .asked) (a .listed) (a .lists) (a .views) (c .pre)
 
 pub put-counts-spec : {M : Type 1} → statement M
 put-counts-spec =
@@ -63,10 +60,11 @@ put-counts-spec =
     add-p-2
     mul-p-2
     slice-write-p-3
-    view-of-requires
-    view-of-requires-2
     add-p-3
     mul-p-3
     slice-write-p-4
+    add-p-4
+    mul-p-4
+    slice-write-p-5
     same-length
     returns)

@@ -3,14 +3,15 @@ use mathlib.Core.Path.{_≡_}
 use Prim.Native.Nat.{_≤_, _-_}
 use borrow.Author.Needs.{needs}
 use lib.ListN.{length}
+use Rattle.sheet_format.specs.Limits.{most-lines}
 use Rattle.test_cover.proofs.checks.list.Statement.{statement}
 use Rattle.test_cover.proofs.checks.list.Tie as tie
 
 abbrev Inv-loop : tie.InvT-loop
-Inv-loop words block out₀ n₀ i₀ out n i = (i ≤ 86) × (n ≤ i) × (length out ≡ length out₀)
+Inv-loop words block out₀ n₀ i₀ out n i = (i ≤ most-lines) × (n ≤ i) × (length out ≡ length out₀)
 
 abbrev μ-loop : tie.MeasureT-loop
-μ-loop words block out₀ n₀ i₀ out n i = 86 - i
+μ-loop words block out₀ n₀ i₀ out n i = most-lines - i
 
 loop-holds : tie.Need-loop-holds Inv-loop μ-loop
 loop-holds c = search needs
