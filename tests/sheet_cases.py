@@ -34,9 +34,10 @@ COLUMNS = {
 }
 
 MOST_BYTES = 8192           # of a sheet that is read
-MOST_WORDS = 602            # of a number form, and what reading must be lent
-LENT_BYTES = 4214           # what writing must be lent
+MOST_WORDS = 749            # of a number form, and what reading must be lent
+LENT_BYTES = 5243           # what writing must be lent
 MOST_ATOMS = {1: 6, 2: 6, 3: 3}
+MOST_LISTS = 4
 MOST_VIEWS = 8
 MOST_ROWS = 40
 MOST_CONSTANT = 9_999_999
@@ -82,9 +83,9 @@ def in_place(kind, before, blocks):
     if kind == 1:
         return before == 0
     if kind == 2:
-        return len(blocks) == 1
+        return bool(blocks) and blocks[-1].kind in (1, 2)
     if kind == 3:
-        return len(blocks) >= 2
+        return any(block.kind == 2 for block in blocks)
     if kind == 4:
         return before in (1, 2, 3, 4)
     return bool(blocks) and blocks[-1].kind == 3 and before in (4, 5)
@@ -107,6 +108,8 @@ def judge_line(fields, before, blocks):
     least = 0 if kind == 5 else -12
     if any(not least <= term <= MOST_CONSTANT for term in terms):
         return 5
+    if kind == 2 and sum(block.kind == 2 for block in blocks) == MOST_LISTS:
+        return 6
     if kind == 3 and sum(block.kind == 3 for block in blocks) == MOST_VIEWS:
         return 6
     if kind == 4 and len(blocks[-1].atoms) == MOST_ATOMS[blocks[-1].kind]:
@@ -136,8 +139,8 @@ def judge(lines):
             blocks[-1].rows.append(fields[1:])
         else:
             blocks.append(Block(before, at, fields[1:], [], []))
-    if len(blocks) < 2:
-        return 3, 0                                         # the question is missing, or the list
+    if not any(block.kind == 2 for block in blocks):
+        return 3, 0                                         # the question is missing, or a list
     for block in blocks:
         held = {term for atom in block.atoms for term in atom}
         if not block.atoms or any(term < 0 and term not in held for term in block.head):
@@ -198,9 +201,9 @@ STDIN = pathlib.Path("crates/test_sheet/stdin")
 STDOUT = pathlib.Path("crates/test_sheet/stdout")
 
 # What the program has room for.
-ROOM = {"r": 704, "w": 4352}
+ROOM = {"r": MOST_WORDS + 64, "w": LENT_BYTES + 64}
 HELD_BYTES = 8704
-HELD_WORDS = 704
+HELD_WORDS = MOST_WORDS + 64
 HELD_LINE = 4096
 
 given, wanted = [], []
@@ -319,14 +322,18 @@ VIEW_OF_ONE = "3 1 / 4 2 1"                                 # a view of one colu
 FORTY = " / ".join(f"5 {row}" for row in range(1, 41))      # forty rows for it
 
 
-def full(head, atom, rows):
-    """A sheet of 86 lines: 6 atoms twice, 8 views of 3 atoms and 5 rows each."""
+def full(lists, head, atom, rows):
+    """A sheet of 6 atoms in the question and in each list, and 8 views of 3 atoms and 5 rows each: of 107 lines with four lists, 86 with one."""
     view = [[3] + head] + [atom] * 3 + rows
-    return [[1] + head] + [atom] * 6 + [[2] + head] + [atom] * 6 + view * 8
+    return [[1] + head] + [atom] * 6 + ([[2] + head] + [atom] * 6) * lists + view * 8
 
 
-FULL = full([5], [4, 2, 1], [[5, row] for row in range(1, 6)])
-LARGEST = full([-1, -2, -3, -4], [4, 9, -1, -2, -3, -4], [[5, row] + [9_999_999] * 3 for row in range(9_999_995, 10_000_000)])
+NARROW = [5], [4, 2, 1], [[5, row] for row in range(1, 6)]
+WIDE = [-1, -2, -3, -4], [4, 9, -1, -2, -3, -4], [[5, row] + [9_999_999] * 3 for row in range(9_999_995, 10_000_000)]
+FULL = full(4, *NARROW)
+LARGEST = full(4, *WIDE)
+FULL_OF_ONE = full(1, *NARROW)
+LARGEST_OF_ONE = full(1, *WIDE)
 
 
 def worked_sheets():
@@ -348,18 +355,27 @@ def worked_sheets():
 
 
 def sizes():
-    heading("1: over 8,192 bytes, over 602 words")
+    heading("1: over 8,192 bytes, over 749 words")
     tail = sheet(joined(SIGNALS, "5 7 2"))                    # 9 at line 9
     read_case(tail + b" " * (8192 - len(tail)), (9, 9))
     read_case(tail + b" " * (8193 - len(tail)), (1, 0), room=0)
-    words_602 = words_of(FULL)
+    words_749 = words_of(FULL)
+    assert len(words_749) == 749
+    write_case(words_749, TAKEN)
+    write_case(words_749 + words("5 9"), (1, 0))            # by its lines it would be 6 at line 108
+    write_case(words_749 + [0], (1, 0))
+    write_case(words_749 + [0] * 6, (1, 0), room=0)
+    write_case([0] * 756, (1, 0))
+    words_602 = words_of(FULL_OF_ONE)                       # what a sheet with one list can have
     assert len(words_602) == 602
     write_case(words_602, TAKEN)
-    write_case(words_602 + words("5 9"), (1, 0))            # by its lines it would be 6 at line 87
-    write_case(words_602 + [0], (1, 0))
-    write_case(words_602 + [0] * 6, (1, 0), room=0)
-    write_case([0] * 609, (1, 0))
+    write_case(words_602 + words("5 9"), (6, 87))
+    write_case(words_602 + [0], (2, 0))
+    write_case([0] * 609, (2, 1))
+    write_case([0] * 749, (2, 1))
     heading("2, line 0: the word count is no multiple of 7")
+    write_case(words_749[:748], (2, 0))
+    write_case(words_749[:743], (2, 0), room=0)
     write_case(words_602[:601], (2, 0))
     write_case(words_602[:596], (2, 0), room=0)
     for count in (1, 6, 8, 13, 15, 27):
@@ -368,20 +384,31 @@ def sizes():
     write_case([9] * 8, (2, 0))
     write_case(words(LEAST) + [0], (2, 0))
     write_case(words("3 / 4 2 1") + [1], (2, 0))
-    heading("any multiple of 7 up to 602 goes on to the lines")
+    heading("any multiple of 7 up to 749 goes on to the lines")
     for count, want in ((7, (3, 0)), (14, (3, 0)), (21, (8, 3)), (28, TAKEN)):
         write_case(words(LEAST)[:count], want)
     for count, want in ((28, (3, 0)), (35, (3, 0)), (588, TAKEN), (595, TAKEN)):
         write_case(words_602[:count], want)
-    heading("the largest sheets: 86 lines, 602 words")
+    for count, want in ((49, (3, 0)), (56, (8, 8)), (98, TAKEN), (105, (8, 15)), (147, TAKEN), (154, (8, 22)), (196, TAKEN), (203, (8, 29)),
+                        (245, TAKEN), (735, TAKEN), (742, TAKEN)):
+        write_case(words_749[:count], want)
+    heading("the largest sheets with one list: 86 lines, 602 words")
+    read_case(sheet_of(FULL_OF_ONE), TAKEN)
+    read_case(sheet_of(LARGEST_OF_ONE), TAKEN)
+    write_case(words_of(LARGEST_OF_ONE), TAKEN)
+    round_case(sheet_of(LARGEST_OF_ONE))
+    round_case(sheet_of(FULL_OF_ONE))
+    heading("the largest sheets: 107 lines, 749 words")
+    assert len(FULL) == len(LARGEST) == 107
     read_case(sheet_of(FULL), TAKEN)
     read_case(sheet_of(LARGEST), TAKEN)
     write_case(words_of(LARGEST), TAKEN)
     round_case(sheet_of(LARGEST))
     round_case(sheet_of(FULL))
-    heading("line 87, which no sheet has, and many more lines")
-    for line, want in (("5 9", (6, 87)), ("5 -1", (5, 87)), ("3 1", (6, 87)), ("4 2 1", (3, 87)), ("9", (3, 87))):
-        read_case(sheet_of(FULL) + sheet(line), want)
+    heading("one line more than the largest sheets have, and many more lines")
+    for largest, at in ((FULL_OF_ONE, 87), (FULL, 108)):
+        for line, number in (("5 9", 6), ("5 -1", 5), ("3 1", 6), ("4 2 1", 3), ("9", 3), ("2 5", 3)):
+            read_case(sheet_of(largest) + sheet(line), (number, at))
     read_case(sheet(joined(LEAST, VIEW_OF_ONE)) + sheet("5 1") * 470, (9, 8))
     read_case(sheet("4 2 1") * 320, (3, 1))
     read_case(b"\n" * 300, (2, 1))
@@ -411,7 +438,8 @@ def line_lengths():
     read_case(b"x", (2, 1))
     read_case(sheet("1 / 9 / 2 / 4 2 1")[:-1], (3, 2))      # an earlier line goes first
     read_case(sheet("1") + b"       9", (2, 2))
-    read_case(sheet_of(FULL) + b"       9", (2, 87))
+    read_case(sheet_of(FULL_OF_ONE) + b"       9", (2, 87))
+    read_case(sheet_of(FULL) + b"       9", (2, 108))
 
 
 # Eight bytes that are no field.
@@ -501,8 +529,14 @@ PLACES = [
     ("at line 1", "", {1: (3, 0)}),
     ("after the question's head", "1", {2: (8, 1), 4: (3, 0)}),
     ("after the question's atom", PLAIN, {2: (8, 3), 4: (3, 0)}),
-    ("after the list's head", joined(PLAIN, "2"), {3: (8, 3), 4: TAKEN}),
-    ("after the list's atom", LEAST, {3: (8, 5), 4: TAKEN}),
+    ("after the list's head", joined(PLAIN, "2"), {2: (8, 3), 3: (8, 3), 4: TAKEN}),
+    ("after the list's atom", LEAST, {2: (8, 5), 3: (8, 5), 4: TAKEN}),
+    ("after the second list's head", joined(LEAST, "2"), {2: (8, 5), 3: (8, 5), 4: TAKEN}),
+    ("after the second list's atom", joined(LEAST, "2 / 4 2 1"), {2: (8, 7), 3: (8, 7), 4: TAKEN}),
+    ("after the third list's atom", joined(LEAST, *["2 / 4 2 1"] * 2), {2: (8, 9), 3: (8, 9), 4: TAKEN}),
+    ("after the fourth list's head", joined(LEAST, *["2 / 4 2 1"] * 2, "2"), {2: (6, 10), 3: (8, 9), 4: TAKEN}),
+    ("after the fourth list's atom", joined(LEAST, *["2 / 4 2 1"] * 3), {2: (6, 11), 3: (8, 11), 4: TAKEN}),
+    ("after a view's atom behind two lists", joined(LEAST, "2 / 4 2 1 / 3 / 4 2 1"), {3: (8, 9), 4: TAKEN, 5: TAKEN}),
     ("after a view's head", joined(LEAST, "3"), {3: (8, 5), 4: TAKEN}),
     ("after a view's atom", VIEW, {3: (8, 7), 4: TAKEN, 5: TAKEN}),
     ("after a row", joined(LEAST, VIEW_OF_ONE, "5 7"), {3: (8, 8), 5: TAKEN}),
@@ -529,7 +563,7 @@ def kinds():
     both("1 / 4 2 1 / 1 / 4 2 1 / 2 / 4 2 1", (3, 3))
     both("1 / 4 2 1 / 3 / 4 2 1 / 2 / 4 2 1", (3, 3))
     both("1 / 4 2 1 / 5 / 2 / 4 2 1", (3, 3))
-    both("1 / 4 2 1 / 2 / 4 2 1 / 2 / 4 2 1", (3, 5))
+    both("1 / 4 2 1 / 2 / 4 2 1 / 2 / 4 2 1", TAKEN)
     both("1 / 4 2 1 / 2 / 5 / 4 2 1", (3, 4))
     both(joined(VIEW, "2 / 4 2 1"), (3, 7))
     both(joined(VIEW, "1 / 4 2 1"), (3, 7))
@@ -647,7 +681,8 @@ def too_many():
     write_case(words(joined(LEAST, VIEW_OF_ONE, twenty, VIEW_OF_ONE, twenty)), TAKEN)
     write_case(words(joined(LEAST, VIEW_OF_ONE, twenty, VIEW_OF_ONE, twenty, "5 20")), (6, 49))
     write_case(words(joined(LEAST, VIEW_OF_ONE, "3 1 / 4 2 1", FORTY, VIEW_OF_ONE)), TAKEN)
-    write_case(words_of(FULL[:-1]) + words("4 2 1"), (3, 86))
+    write_case(words_of(FULL_OF_ONE[:-1]) + words("4 2 1"), (3, 86))
+    write_case(words_of(FULL[:-1]) + words("4 2 1"), (3, 107))
 
 
 def head_lengths():
@@ -754,35 +789,99 @@ BAD = {
 
 
 def lent():
-    heading("13: reading is lent 602 words or more, whatever the sheet needs")
-    for room in (0, 1, 6, 7, 27, 28, 29, 600, 601):
+    heading("13: reading is lent 749 words or more, whatever the sheet needs")
+    for room in (0, 1, 6, 7, 27, 28, 29, 600, 601, 602, 704, 747, 748):
         read_case(sheet(LEAST), (13, 0), room)
-    for room in (602, 603, 609, 640, 704):
+    for room in (749, 750, 756, 800, 813):
         read_case(sheet(LEAST), TAKEN, room)
         read_case(sheet(SIGNALS), TAKEN, room)
-    read_case(sheet_of(FULL), (13, 0), 601)
-    heading("13: writing is lent 4,214 bytes or more")
-    for room in (0, 1, 8, 67, 68, 69, 4096, 4213):
+    for largest in (FULL, LARGEST, FULL_OF_ONE):
+        read_case(sheet_of(largest), (13, 0), 748)
+    heading("13: writing is lent 5,243 bytes or more")
+    for room in (0, 1, 8, 67, 68, 69, 4096, 4213, 4214, 4352, 5242):
         write_case(words(LEAST), (13, 0), room)
-    for room in (4214, 4215, 4300, 4352):
+    for room in (5243, 5244, 5300, 5307):
         write_case(words(LEAST), TAKEN, room)
         write_case(words(SIGNALS), TAKEN, room)
-    write_case(words_of(FULL), (13, 0), 4213)
+    for largest in (FULL, LARGEST, FULL_OF_ONE):
+        write_case(words_of(largest), (13, 0), 5242)
     heading("13 comes last")
     for number, (text, line) in BAD.items():
-        for words_lent, bytes_lent in ((0, 0), (601, 4213), (602, 4214), (704, 4352)):
+        for words_lent, bytes_lent in ((0, 0), (748, 5242), (749, 5243), (813, 5307)):
             page, form = sheet(text), words(text)
             if number == 2:
                 page, form = page.replace(b"2       1\n", b"2      01\n", 1), form[:7] + [9] + form[8:]
             read_case(page, (number, line), words_lent)
             write_case(form, (number, line), bytes_lent)
-    for room in (0, 601):
+    for room in (0, 748):
         read_case(b"", (3, 0), room)
         read_case(sheet("1 -1"), (3, 0), room)
-    for room in (0, 4213):
+    for room in (0, 5242):
         write_case([], (3, 0), room)
         write_case(words("1 -1"), (3, 0), room)
         write_case([1], (2, 0), room)
+
+
+def several_lists():
+    more = "2 / 4 2 1"
+    heading("two, three and four lists, with and without views and rows")
+    for lists in (1, 2, 3, 4):
+        both(joined(PLAIN, *[more] * lists), TAKEN)
+        both(joined(PLAIN, *[more] * lists, "3 -1 / 4 2 -1 / 5 7 / 5 9 / 3 / 4 4 1 2"), TAKEN)
+        both(joined("1 -1 -2 / 4 4 -1 -2", *[f"2 {at} -2 / 4 5 {at} -2 / 4 6 {at} -1" for at in range(lists)], "3 -1 / 4 2 -1 / 5 7"), TAKEN)
+        round_case(sheet(joined("1 -1 / 4 1 -1 -2", *[f"2 -1 / 4 1 -1 {at}" for at in range(lists)], "3 -1 / 4 1 -2 -1", *[f"5 {at}" for at in range(lists)])))
+    heading("6: the fifth list")
+    four = joined(PLAIN, *[more] * 4)
+    both(joined(four, "2"), (6, 11))
+    both(joined(four, more), (6, 11))
+    both(joined(four, more, more), (6, 11))
+    both(joined(PLAIN, *["2"] * 4), (8, 3))
+    both(joined(PLAIN, *["2"] * 5), (6, 7))
+    both(joined("1", *["2"] * 5), (6, 6))
+    both(joined("1 -1 / 4 2 1", *[more.replace("2 /", "2 -1 /")] * 5), (6, 11))     # its heads' causes come later
+    both(joined(four, "4 2 1 / 4 2 1 / 4 2 1 / 4 2 1 / 4 2 1 / 4 2 1"), (6, 16))   # the fourth's seventh atom
+    heading("a fifth list: 3 and 5 before 6, 6 before 7")
+    for line, number in (("2 1 2 3 4 5", 3), ("2 -13", 5), ("2 10000000", 5), ("2 1 -13", 5), ("2 1", 6), ("2 -1", 6), ("2 1 2 3 4", 6)):
+        both(joined(four, line), (number, 11))
+    read_case(sheet(four) + b"       2      0x\n", (2, 11))
+    write_case(words(four) + [2, 2, 100_000_000, 0, 0, 0, 0], (2, 11))
+    heading("3: a list after a view")
+    for lists in (1, 2, 3, 4):
+        begin = joined(PLAIN, *[more] * lists, "3 1 / 4 2 1")
+        at = len(lines_in(begin)) + 1
+        for line in ("2", more, "2 1", "2 -13", "2 1 2 3 4 5"):
+            both(joined(begin, line), (3, at))
+            both(joined(begin, "5 7", line), (3, at + 1))
+        both(joined(PLAIN, *[more] * lists, "3 1", more), (3, at - 1))
+    heading("3: a row in a list, an atom after a list's head only, the question again")
+    both(joined(LEAST, more, "5"), (3, 7))
+    both(joined(LEAST, "2 / 5"), (3, 6))
+    both(joined(LEAST, more, "1 / 4 2 1"), (3, 7))
+    heading("7: each list's head is as long as the question's")
+    for asked in range(5):
+        for place in range(2, 5):
+            for listed in range(5):
+                text = joined("1" + " 1" * asked, "4 2 1", *["2" + " 2" * asked + " / 4 2 1"] * (place - 1), "2" + " 3" * listed, "4 2 1")
+                both(text, TAKEN if asked == listed else (7, 1 + 2 * place))
+    both("1 1 / 4 2 1 / 2 1 / 4 2 1 / 2 / 4 2 1 / 2 / 4 2 1", (7, 5))
+    both("1 1 / 4 2 1 / 2 / 4 2 1 / 2 1 / 4 2 1", (7, 3))
+    heading("8: the heads of several lists, in their order")
+    both(joined(LEAST, "2"), (8, 5))
+    both(joined(LEAST, "2 / 3 / 4 2 1"), (8, 5))
+    both(joined(LEAST, "2", more), (8, 5))
+    both(joined(PLAIN, "2", more), (8, 3))
+    both(joined(LEAST, more, "2 / 3"), (8, 7))
+    both("1 -1 / 4 2 -1 / 2 -1 / 4 2 -1 / 2 -1 / 4 2 -2", (8, 5))
+    both("1 -1 / 4 2 -1 / 2 -1 / 4 2 -2 / 2 -1 / 4 2 -2", (8, 3))
+    both("1 -1 / 4 2 -1 / 2 -1 / 4 2 -1 / 2 -2 / 4 2 -2 / 2 7 / 4 2 -1 / 2 -3 / 4 2 -2", (8, 9))
+    both("1 -1 / 4 2 -1 / 2 -1 / 4 2 -1 / 2 -2 / 4 2 -1 / 3 -2 / 4 2 -2", (8, 5))        # a variable of another block
+    both(joined("1 -1 / 4 2 -1 / 2 -1 / 4 2 -1", "2 -1", *["4 2 1"] * 5, "4 2 -1"), TAKEN)
+    heading("6: each list has its own six atoms")
+    six = joined(*["4 2 1"] * 6)
+    both(joined("1", six, *["2", six] * 4), TAKEN)
+    for place in range(1, 5):
+        both(joined("1", six, *["2", six] * place, "4 2 1"), (6, 8 + 7 * place))
+        both(joined(PLAIN, *[more] * (place - 1), "2", six, "4 2 1"), (6, 2 * place + 8))
 
 
 def within_a_line():
@@ -805,7 +904,7 @@ def within_a_line():
     for before, line, number in [
         (two, "4 11 1", 3), (two, "4 2 1 1", 3), (PLAIN, "1 10000000", 3), (PLAIN, "3 -13", 3), ("1", "5 -1", 3),
         (joined(LEAST, "3 / 4 2 1 / 4 2 1 / 4 2 1 / 5"), "4 2 1", 3), (six, "4 2", 3), (six, "4", 3),
-        (nine, "3 1 2 3 4 5", 3), (nine, "2", 3), (nine, "1", 3), (LEAST, "2 1", 3), (LEAST, "2 -13", 3),
+        (nine, "3 1 2 3 4 5", 3), (nine, "2", 3), (nine, "1", 3), (LEAST, "2 1", 7), (LEAST, "2 -13", 5),
         (joined(LEAST, "3 1"), "5", 3), (joined(LEAST, "3 1"), "5 7 7", 3), (two, "5 8 8 8 8 8", 3), (two, "5 -1 1 1 1 1", 3),
         (two, "5 7 7 7 7 7", 3), (two, "4 2 -13", 3), (two, "6 6 6", 3), (nine, "0", 3),
         ("1", "4 11 10000000", 4), ("1", "4 0 -13", 4), ("1", "4 2 -13 -13", 4), ("1", "4 9 10000000", 4),
@@ -935,11 +1034,13 @@ def some_block(dice, kind, columns, count, constants):
     return [[kind] + head] + atoms
 
 
-def some_sheet(dice, size, constants=CONSTANTS):
-    """Lines of a sheet that is taken: small at size 1, up to every limit at size 6."""
+def some_sheet(dice, size, constants=CONSTANTS, lists=1):
+    """Lines of a sheet that is taken, with so many lists: small at size 1, up to every limit at size 6."""
     most = {1: 2, 2: 3, 6: 6}[size]
     columns = dice.below(5)
-    lines = some_block(dice, 1, columns, 1 + dice.below(most), constants) + some_block(dice, 2, columns, 1 + dice.below(most), constants)
+    lines = some_block(dice, 1, columns, 1 + dice.below(most), constants)
+    for _ in range(lists):
+        lines += some_block(dice, 2, columns, 1 + dice.below(most), constants)
     left = MOST_ROWS
     for _ in range(dice.below({1: 2, 2: 4, 6: 9}[size])):
         columns = dice.below(5)
@@ -1043,12 +1144,12 @@ def generated():
     heading("generated: sheets that are taken, read and written again")
     for at in range(60):
         lines = some_sheet(dice, 6 if at % 20 == 0 else 2 if at % 4 == 0 else 1)
-        round_case(sheet_of(lines), dice.one((4214, 4352)))
+        round_case(sheet_of(lines), dice.one((5243, 5307)))
     heading("generated: the same, in a call each")
     for _ in range(12):
         lines = some_sheet(dice, 1)
-        read_case(sheet_of(lines), TAKEN, dice.one((602, 603, 704)))
-        write_case(words_of(lines), TAKEN, dice.one((4214, 4215, 4352)))
+        read_case(sheet_of(lines), TAKEN, dice.one((749, 750, 813)))
+        write_case(words_of(lines), TAKEN, dice.one((5243, 5244, 5307)))
     heading("generated: damaged in one byte")
     spread(lambda: damaged_bytes(dice, sheet_of(some_sheet(dice, 1))), keep_read, 110, 40)
     heading("generated: damaged in one line")
@@ -1081,6 +1182,37 @@ def generated():
     spread(lambda: words_of(damaged_lines(dice, some_sheet(dice, 1, SEVEN_DIGITS))), keep_write, 30, 10)
 
 
+def generated_lists():
+    """The same with one to four lists, drawn by dice of their own."""
+    dice = Dice(20)
+
+    def drawn(size):
+        return some_sheet(dice, size, lists=1 + dice.below(4))
+
+    heading("generated: sheets with several lists, read and written again")
+    for at in range(40):
+        round_case(sheet_of(some_sheet(dice, 6 if at % 20 == 0 else 2 if at % 4 == 0 else 1, lists=2 + at % 3)), dice.one((5243, 5307)))
+    heading("generated: one to four lists, damaged in one byte")
+    spread(lambda: damaged_bytes(dice, sheet_of(drawn(1))), keep_read, 40, 14)
+    heading("generated: one to four lists, damaged in one line")
+    spread(lambda: sheet_of(damaged_lines(dice, drawn(1))), keep_read, 80, 14)
+    spread(lambda: words_of(damaged_lines(dice, drawn(1))), keep_write, 80, 14)
+    heading("generated: one to four lists, damaged in two lines")
+    spread(lambda: sheet_of(damaged_lines(dice, damaged_lines(dice, drawn(1)))), keep_read, 50, 8)
+    heading("generated: one list more than there may be, or another in its place")
+
+    def one_list_more():
+        lines = some_sheet(dice, 1, lists=1 + dice.below(4))
+        heads = [at for at, line in enumerate(lines) if line[0] == 2]
+        at = dice.one(heads + [len(lines)])
+        length = len(lines[0]) - 1 if dice.below(4) else dice.below(5)
+        terms = [dice.one((1, 7, -1, -1, -13)) if dice.below(6) == 0 else 7 for _ in range(length)]
+        return lines[:at] + [[2] + terms, [4, 2, -1]][:1 + (dice.below(4) > 0)] + lines[at:]
+
+    spread(lambda: sheet_of(one_list_more()), keep_read, 50, 12)
+    spread(lambda: words_of(one_list_more()), keep_write, 50, 12)
+
+
 def main():
     worked_sheets()
     sizes()
@@ -1095,10 +1227,12 @@ def main():
     heads()
     ascending()
     lent()
+    several_lists()
     within_a_line()
     across_lines()
     lines_handed_back()
     generated()
+    generated_lists()
     texts = ["".join(line + "\n" for line in lines).encode("ascii") for lines in (given, wanted)]
     assert all(0 < len(line) < HELD_LINE and ("|" in line) != line.startswith("#") for line in given)
     calls = {"r": "read", "w": "write", "l": "line", "b": "round trip"}

@@ -18,9 +18,16 @@ ghost use Prim.Native.Nat.{_≤_};
 use libc::STDOUT_FILENO;
 use sheet_format::Ending;
 use sheet_format::LINE_WORDS;
+use sheet_format::MOST_BYTES;
+use sheet_format::MOST_WORDS;
 
-// No result is longer: it has at most 704 words of twelve bytes each and 4352 bytes of three, and two answers.
-const ROOM: usize = 22016;
+// The words and bytes that are lent, at most.
+const WORDS: usize = MOST_WORDS + 64;
+
+const BYTES: usize = MOST_BYTES + 64;
+
+// No result is longer: it has words of twelve bytes each and bytes of three, and two answers.
+const ROOM: usize = WORDS * 12 + BYTES * 3 + 512;
 
 // Runs every case: the count is one that no input reaches.
 fn main() {
@@ -89,8 +96,8 @@ fn words_of(lines: usize) -> usize {
 fn call_read(room: usize, text: &[u8], out: &mut [u8]) -> usize {
     let mut given = [0u8; 8704];
     let n = test_bytes::bytes(text, &mut given);
-    let mut lent = [77777777i32; 704];
-    let k = least(room, 704);
+    let mut lent = [77777777i32; WORDS];
+    let k = least(room, WORDS);
     read(&given[0..n], &mut lent[0..k], out)
 }
 
@@ -108,10 +115,10 @@ fn put_read(out: &mut [u8], answer: Ending, lent: &[i32]) -> usize {
 }
 
 fn call_write(room: usize, text: &[u8], out: &mut [u8]) -> usize {
-    let mut given = [0i32; 704];
+    let mut given = [0i32; WORDS];
     let n = test_words::words(text, LINE_WORDS, &mut given);
-    let mut lent = [35u8; 4352];
-    let k = least(room, 4352);
+    let mut lent = [35u8; BYTES];
+    let k = least(room, BYTES);
     write(&given[0..n], &mut lent[0..k], out, 0)
 }
 
@@ -139,11 +146,11 @@ fn line(given: &[u8], number: usize, out: &mut [u8]) -> usize {
 fn call_both(room: usize, text: &[u8], out: &mut [u8]) -> usize {
     let mut given = [0u8; 8704];
     let n = test_bytes::bytes(text, &mut given);
-    let mut words = [77777777i32; 704];
+    let mut words = [77777777i32; WORDS];
     let answer = sheet::read(&given[0..n], &mut words);
     let end = put_read(out, answer, &words);
-    let m = least(words_of(result::count(answer)), 704);
-    let mut lent = [35u8; 4352];
-    let k = least(room, 4352);
+    let m = least(words_of(result::count(answer)), WORDS);
+    let mut lent = [35u8; BYTES];
+    let k = least(room, BYTES);
     write(&words[0..m], &mut lent[0..k], out, end)
 }
