@@ -214,14 +214,23 @@ def seven_digits():
     taken("constant 9,999,999 beside 10,000,000", [last, past, last], [1, (9, 5), 1])
 
 
-def seven_digits():
-    heading("sheets whose every constant has seven digits, beside others")
-    for least in (1_000_000, 9_999_990):
-        sheets = [sheet_of(raised_lines(read(sheet, MOST_WORDS)[2], least)) for sheet in (WORKED, COVERED_ONE, NO_LOG_ONE, TWO_TICKS)]
-        taken(f"one of each verdict, constants from {least:,}", sheets, [1, 0, 2, 1])
-        taken(f"constants from {least:,} and small ones", [WORKED, sheets[0], OUT_OF_RANGE, sheets[1], TWO_TICKS, sheets[3]], [1, 1, (9, 5), 0, 1, 1])
-    last, past = (sheet_of(lines_in(f"1 / 4 10 {value} / 2 / 4 10 1")) for value in (9_999_999, 10_000_000))
-    taken("constant 9,999,999 beside 10,000,000", [last, past, last], [1, (9, 5), 1])
+def several_lists():
+    heading("sheets with several lists beside others")
+    crews, lists = "(r): Rower(r,k)", ["(r): Rower(r,1)", "(r): Rower(r,2)"]
+    both = page(crews, lists, "(r,k): Rower(r,k) = (10,1) (11,2)")
+    one = page(crews, lists[:1], "(r,k): Rower(r,k) = (10,1) (11,2)")
+    hole = page(crews, lists, "(r,k): Rower(r,k) = (10,1) (11,2) (12,3)")
+    none = page(crews, lists, "(r,k): Rower(r,k) = (10,1)", "(): Rower(r,k)")
+    fifth = page("(): Pause(1)", ["(): Pause(1)"] * 5)
+    late = page("(): Pause(1)", "(): Pause(1)", "(): Pause(1)") + sheet_of(lines_in("2 / 4 10 1"))
+    longer = page("(): Pause(1)", ["(): Pause(1)", "(1): Pause(1)"])
+    taken("one list and two", [one, both], [1, 0])
+    taken("two lists, each verdict", [both, hole, none], [0, 1, 2])
+    taken("several lists beside one", [WORKED, hole, COVERED_ONE, both, TWO_TICKS, none, one], [1, 1, 0, 0, 1, 2, 1])
+    taken("a fifth list beside four", [fifth, page("(): Pause(1)", ["(): Pause(2)"] * 4), fifth, both], [(9, 6), 1, (9, 6), 0])
+    taken("a list after a view, and one of another length", [hole, late, longer, hole], [1, (9, 3), (9, 7), 1])
+    taken("sixteen sheets with two lists", [both, hole] * 5 + [none, one] * 3, [0, 1] * 5 + [2, 1] * 3)
+    assert judged_alone(hole).missing[0] == 12 and judged_alone(one).missing[0] == 11
 
 
 def some_set(dice, pool, count):
@@ -239,15 +248,15 @@ def some_set(dice, pool, count):
     return sheets
 
 
-def generated():
+def generated(title, name, dice, count, most_lists, longest):
     """Sets of small sheets; some have one end moved."""
-    heading("generated")
-    dice, pool = Dice(16), []
+    heading(title)
+    pool = []
     while len(pool) < 40:
-        sheet = sheet_of(some_sheet(dice))
-        if len(sheet) < 400 and judged_alone(sheet) is not None:
+        sheet = sheet_of(some_sheet(dice, 1 + dice.below(most_lists) if most_lists > 1 else 1))
+        if len(sheet) < longest and judged_alone(sheet) is not None:
             pool.append(sheet)
-    for at in range(1, 31):
+    for at in range(1, count + 1):
         sheets = some_set(dice, pool, 1 + dice.below(MOST_SHEETS))
         marks = ends_of(sheets)
         room = LENT_WORDS * len(sheets) + dice.one((0, 0, 0, 1, 63)) - dice.one((0, 0, 0, 0, 1))
@@ -255,7 +264,7 @@ def generated():
             place = dice.below(len(marks))
             marks[place] = max(0, marks[place] + dice.one((-1, 1, -40, 40)))
         if len(noted(b"".join(sheets))) < 6000 and judged_set(b"".join(sheets), marks, room)[1].count(None) == 0:
-            keep(f"set {at}", b"".join(sheets), marks, None, max(0, room))
+            keep(f"{name} {at}", b"".join(sheets), marks, None, max(0, room))
 
 
 def main():
@@ -264,7 +273,9 @@ def main():
     rooms()
     mixed()
     seven_digits()
-    generated()
+    generated("generated", "set", Dice(16), 30, 1, 400)
+    several_lists()
+    generated("generated: sheets with one to four lists", "set with lists", Dice(20), 20, 4, 500)
     texts = ["".join(line + "\n" for line in lines).encode("ascii") for lines in (given, wanted)]
     assert all(0 < len(line) < HELD_LINE and ("|" in line) != line.startswith("#") for line in given)
     for kind, count in sorted(tally.items()):

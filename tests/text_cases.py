@@ -22,7 +22,7 @@ RELATIONS = "a relation: Rower, Strap, Worn, Sig, Beat, Noise, Pulse, Coach, Sea
 CAUSES = {
     1: "the sheet is too long",
     2: "a line or a field is malformed",
-    3: "a line is out of place, or the question or the list is missing",
+    3: "a line is out of place, or the question or a list is missing",
     4: "no such relation, or not its columns",
     5: "a term is out of range, or a row has a variable",
     6: "more atoms, views or rows than fit",
@@ -32,6 +32,10 @@ CAUSES = {
 }
 QL = "q(s): Strap(s)/l(s): Strap(s)/"
 QL_BACK = "q(a): Strap(a)/l(a): Strap(a)/"
+
+
+LIST = "l, a saved list"
+VIEW = "v, a view, or behind a list l, one more list"
 
 
 def field(n):
@@ -55,6 +59,8 @@ def refused(cause, line=0, text=0):
 
 SERIALS = "q(9999999,s,t): Sig(s,t)/l(1000000,s,t): Beat(s,t)/"
 SERIALS_BACK = "q(9999999,a,b): Sig(a,b)/l(1000000,a,b): Beat(a,b)/"
+CREWS = "q(r): Rower(r,k)/l(r): Rower(r,1)/"
+CREWS_BACK = "q(a): Rower(a,b)/l(a): Rower(a,1)/"
 PAPER = "q(s,t): Sig(s,t)/l(s,t): Beat(s,t)/"
 PAPER_BACK = "q(a,b): Sig(a,b)/l(a,b): Beat(a,b)/"
 MANY = "q(): Rower(1,2), Strap(3), Worn(4,5,6), Sig(7,8), Beat(9,10), Noise(11,12)/"
@@ -115,11 +121,31 @@ CASES = [
     ("seven digits, no log", SERIALS + "v(1234567): Sig(s,t) = 7654321/", "no log gives these rows",
      SERIALS_BACK + "v(1234567): Sig(a,b) = 7654321/"),
     ("twelve variables", TWELVE + "/l(): " + TWELVE[5:] + "/", "covered", TWELVE + "/l(): " + TWELVE[5:] + "/"),
+    "# several lists",
+    ("two crews", CREWS + "l(r): Rower(r,2)/v(r,k): Rower(r,k) = (10,1); (11,2)/", "covered",
+     CREWS_BACK + "l(a): Rower(a,2)/v(a,b): Rower(a,b) = (10,1); (11,2)/"),
+    ("two crews, one list", CREWS + "v(r,k): Rower(r,k) = (10,1); (11,2)/", "not covered: (11) is missing. Log: Rower(10,1), Rower(11,2)",
+     CREWS_BACK + "v(a,b): Rower(a,b) = (10,1); (11,2)/"),
+    ("a third crew", CREWS + "l(r): Rower(r,2)/v(r,k): Rower(r,k) = (10,1); (11,2); (12,3)/",
+     "not covered: (12) is missing. Log: Rower(10,1), Rower(11,2), Rower(12,3)", CREWS_BACK + "l(a): Rower(a,2)/v(a,b): Rower(a,b) = (10,1); (11,2); (12,3)/"),
+    ("two crews by name of their number", CREWS + "l(r): Rower(r,2)/v(k): Rower(r,k) = 1; 2/", "covered", CREWS_BACK + "l(a): Rower(a,2)/v(a): Rower(b,a) = 1; 2/"),
+    ("four lists with a hole", "q(s): Strap(s)/l(7): Strap(7)/l(8): Strap(8)/l(10): Strap(10)/l(11): Strap(11)/v(s): Strap(s) = 7; 8; 9; 10; 11/",
+     "not covered: (9) is missing. Log: Strap(7), Strap(8), Strap(9), Strap(10), Strap(11)",
+     "q(a): Strap(a)/l(7): Strap(7)/l(8): Strap(8)/l(10): Strap(10)/l(11): Strap(11)/v(a): Strap(a) = 7; 8; 9; 10; 11/"),
+    ("lists without views", "q(s,t): Beat(s,t)/l(x,y): Noise(x,y)/l(x,y): Sig(x,y)/", "covered", "q(a,b): Beat(a,b)/l(a,b): Noise(a,b)/l(a,b): Sig(a,b)/"),
+    ("lists with blanks and comments", "q(s): Strap(s)/ l (s) : Strap(s), Pause(s)/# one more/// l(t):Strap ( t )/", "covered",
+     "q(a): Strap(a)/l(a): Strap(a), Pause(a)/l(a): Strap(a)/"),
+    ("no log and three lists", QL + "l(s): Pause(s)/l(1): Strap(1)/v(s): Strap(s) = 7/v(): Strap(s) =/", "no log gives these rows",
+     QL_BACK + "l(a): Pause(a)/l(1): Strap(1)/v(a): Strap(a) = 7/v(): Strap(a) =/"),
     "# what is expected",
     ("question", "l(s): Strap(s)/", expected(1, "q, the question")),
     ("question's letter", "question(s): Strap(s)/", expected(1, "q, the question")),
-    ("list", "q(s): Strap(s)//# views/v(s): Strap(s) =/", expected(4, "l, the saved list")),
-    ("view", QL + "w(s): Strap(s) =/", expected(3, "v, a view")),
+    ("list", "q(s): Strap(s)//# views/v(s): Strap(s) =/", expected(4, LIST)),
+    ("view", QL + "w(s): Strap(s) =/", expected(3, VIEW)),
+    ("after a second list", QL + "l(s): Pause(s)/q(s): Strap(s)/", expected(4, VIEW)),
+    ("a list after a view", QL + "v(s): Strap(s) =/l(s): Strap(s)/", expected(4, VIEW)),
+    ("a list after two lists and a view", QL + "l(s): Pause(s)/v(s): Strap(s) = 7//l(s): Strap(s)/", expected(6, VIEW)),
+    ("rows of a second list", QL + "l(s): Pause(s) = 7/", expected(3, ", or the end of the line")),
     ("bracket of a head", "q s: Strap(s)/", expected(1, "(")),
     ("bracket of an atom", "q(s): Strap s/", expected(1, "(")),
     ("head", "q(,s): Strap(s)/", expected(1, "a variable, a number or )")),
@@ -165,8 +191,14 @@ CASES = [
     ("row 41", QL + "v(s): Strap(s) = " + "; ".join(str(n) for n in range(41)) + "/", refused(6, 47, 3)),
     ("too long", QL + "v(s): Strap(s) = " + "; ".join(str(n) for n in range(90)) + "/", refused(1)),
     ("list's length", "q(s): Strap(s)/l(): Strap(s)/", refused(7, 3, 2)),
+    ("second list's length", QL + "l(s,t): Sig(s,t)/", refused(7, 5, 3)),
+    ("five lists", "q(s): Strap(s)/" + "l(s): Strap(s)/" * 5, refused(6, 11, 6)),
+    ("five lists, the last of another length", "q(s): Strap(s)/" + "l(s): Strap(s)/" * 4 + "/l(): Strap(s)/", refused(6, 11, 7)),
+    ("five lists, the last with a constant too large", "q(s): Strap(s)/" + "l(s): Strap(s)/" * 4 + "l(10000000): Strap(s)/", refused(5, 11, 6)),
+    ("seven atoms in the fourth list", "q(s): Strap(s)/" + "l(s): Strap(s)/" * 3 + "l(s): " + ", ".join(["Strap(s)"] * 7) + "/", refused(6, 16, 5)),
     ("row's length", QL + "v(s): Strap(s) = (7,1)/", refused(7, 7, 3)),
     ("head variable", "q(s): Strap(t)/l(s): Strap(s)/", refused(8, 1, 1)),
+    ("head variable of a second list", QL + "l(t): Strap(s)/", refused(8, 5, 3)),
     ("head variable of a view", QL + "v(t): Strap(s) =/", refused(8, 5, 3)),
     ("order", QL + "v(s): Strap(s) = 8; 7/", refused(9, 8, 3)),
     "# sheets",
@@ -174,6 +206,10 @@ CASES = [
     ("empty sheet", "", refused(3)),
     ("no sheet", "      1x/", refused(2, 1)),
     ("relation 11", lines((1, -1), (4, 11, -1)), refused(4, 2)),
+    ("sheet with two lists", lines((1, -1), (4, 1, -1, -2), (2, -1), (4, 1, -1, 1), (2, -1), (4, 1, -1, 2), (3, -1, -2), (4, 1, -1, -2), (5, 10, 1), (5, 11, 3)),
+     "not covered: (11) is missing. Log: Rower(10,1), Rower(11,3)"),
+    ("sheet with five lists", lines((1,), (4, 2, 1), *[(2,), (4, 2, 1)] * 5), refused(6, 11)),
+    ("sheet with a list after a view", lines((1,), (4, 2, 1), (2,), (4, 2, 1), (3,), (4, 2, 1), (2,), (4, 2, 1)), refused(3, 7)),
     ("sheet's order", lines((1, -1), (4, 2, -1), (2, -1), (4, 2, -1), (3, -1), (4, 2, -1), (5, 8), (5, 8)), refused(9, 8)),
 ]
 
@@ -240,7 +276,7 @@ def made_sheet(rng):
     """A sheet; of three, one has no constant but of seven digits."""
     constants = rng.choice([(7, 8, 9, 0, 9999999), (7, 8, 9, 0, 999999), (9999998, 1000000, 9999999, 1234567)])
     columns = rng.randint(0, 4)
-    kinds = [1, 2] + [3] * rng.randint(0, 3)
+    kinds = [1] + [2] * rng.choice([1, 1, 2, 3, 4]) + [3] * rng.randint(0, 3)
     return [made_block(rng, k, columns if k < 3 else rng.randint(0, 4), constants) for k in kinds]
 
 
@@ -331,7 +367,7 @@ def run():
     # the longest sheet: every limit met, and every term seven digits long
     four = [9999999] * 4
     views = [(3, four, [(9, four)] * 3, [(9999999, 9999999, 9999999, 9999950 + 5 * v + n) for n in range(5)]) for v in range(8)]
-    longest = [(1, four, [(9, four)] * 6, []), (2, four, [(9, four)] * 6, [])] + views
+    longest = [(1, four, [(9, four)] * 6, [])] + [(2, four, [(9, four)] * 6, [])] * 4 + views
     data, plain = bytes_of(longest), text_of(longest, "")
     assert ran("text_of_sheet", data) == (plain, b"") and ran("sheet_of_text", plain) == (data, b"")
     long = b"#" * 65537

@@ -18,6 +18,11 @@ const FACT: usize = 5;
 
 const ANSWER: usize = 4;
 
+// The kinds of a list's head and of a view's.
+const LIST: i32 = 2;
+
+const VIEW: i32 = 3;
+
 // The relations of beats, noise and signals.
 const SIG: i32 = 4;
 
@@ -41,7 +46,7 @@ pub(crate) fn put_marks(
     sheet::read(sheet, &mut words);
     let a = test_results::put_mark(out, at, are_facts(sheet, &words, facts));
     let b = test_results::put_mark(out, a, agrees(sheet, &words, facts));
-    let c = test_results::put_mark(out, b, is_least(sheet, facts, missing));
+    let c = test_results::put_mark(out, b, is_least(sheet, &words, facts, missing));
     test_results::put_mark(out, c, is_bare(sheet, &words, facts))
 }
 
@@ -119,7 +124,7 @@ fn is_case(sheet: &[u8], words: &[i32], facts: &[i32]) -> bool
     requires { ⌜ length (now words) ≡ most-words ⌝ }
 {
     let mut asked = [0i32; ROOM];
-    if lacking(sheet, facts, &mut asked) == ANSWERS {
+    if lacking(sheet, words, facts, &mut asked) == ANSWERS {
         return false;
     }
     agrees(sheet, words, facts)
@@ -132,8 +137,8 @@ fn agrees(sheet: &[u8], words: &[i32], facts: &[i32]) -> bool
     if !are_signals(facts) {
         return false;
     }
-    let blocks = heads(words, MOST_LINES);
-    let mut block = 2;
+    let blocks = heads(words, MOST_LINES, VIEW);
+    let mut block = heads(words, MOST_LINES, LIST);
     while block < blocks {
         block += 1;
         if !is_listed(sheet, words, facts, block) {
@@ -195,28 +200,29 @@ fn is_row(facts: &[i32], k: usize, i: usize) -> bool
     true
 }
 
-// How many of the first lines are heads.
-fn heads(words: &[i32], lines: usize) -> usize
+// How many of the first lines are heads of kinds up to the last. The question comes first, then the lists, then the views: so the blocks
+// are numbered.
+fn heads(words: &[i32], lines: usize, last: i32) -> usize
     requires { ⌜ lines * 7 ≤ length (now words) ⌝ }
     ensures { λ r. ⌜ r ≤ lines ⌝ }
 {
     let mut n = 0;
     let mut i = 0;
     while i < lines {
-        n += head(words[i * LINE_WORDS + 1]);
+        n += head(words[i * LINE_WORDS + 1], last);
         i += 1;
     }
     n
 }
 
-// 1 for the kinds of a head, and 0 for others.
-fn head(kind: i32) -> usize
+// 1 for the kinds from 1 to the last, and 0 for others.
+fn head(kind: i32, last: i32) -> usize
     ensures { λ r. ⌜ r ≤ 1 ⌝ }
 {
-    match kind {
-        1 | 2 | 3 => 1,
-        _ => 0,
+    if kind < 1 {
+        return 0;
     }
+    if kind <= last { 1 } else { 0 }
 }
 
 // Whether a view's answers are its listed rows.
@@ -257,7 +263,7 @@ fn list_line(words: &[i32], line: usize, block: usize, out: &mut [i32], n: usize
     if words[line * LINE_WORDS + 1] != 5 {
         return n;
     }
-    if heads(words, line) != block {
+    if heads(words, line, VIEW) != block {
         return n;
     }
     put_row(words, line, out, n);
@@ -287,10 +293,12 @@ fn are_same(a: &[i32], b: &[i32]) -> bool
     true
 }
 
-// Whether the missing answer is the least that the facts give the question and not the list.
-fn is_least(sheet: &[u8], facts: &[i32], missing: &[usize; 4]) -> bool {
+// Whether the missing answer is the least that the facts give the question and no list.
+fn is_least(sheet: &[u8], words: &[i32], facts: &[i32], missing: &[usize; 4]) -> bool
+    requires { ⌜ length (now words) ≡ most-words ⌝ }
+{
     let mut asked = [0i32; ROOM];
-    let n = lacking(sheet, facts, &mut asked);
+    let n = lacking(sheet, words, facts, &mut asked);
     if n == ANSWERS {
         return false;
     }
@@ -316,22 +324,18 @@ fn word(n: usize) -> i32 {
     if n < 2147483648 { n as i32 } else { -1 }
 }
 
-// Puts the question's answers at the start of the room, and returns the number, from 0, of the first that is none of the list's; the
-// number of answers that there is room for where each is one, or where there are more.
-fn lacking(sheet: &[u8], facts: &[i32], asked: &mut [i32]) -> usize
-    requires { ⌜ length (now asked) ≡ 4096 ⌝ }
+// Puts the question's answers at the start of the room, and returns the number, from 0, of the first that no list has; the number of
+// answers that there is room for where each is a list's, or where there are more.
+fn lacking(sheet: &[u8], words: &[i32], facts: &[i32], asked: &mut [i32]) -> usize
+    requires { ⌜ (length (now words) ≡ most-words) × (length (now asked) ≡ 4096) ⌝ }
     ensures { λ r. ⌜ r ≤ 1024 ⌝ }
 {
     let question = evaluate::evaluate(sheet, 1, facts, asked);
     let Ending::Done(n) = question else {
         return ANSWERS;
     };
-    let mut saved = [0i32; ROOM];
-    let list = evaluate::evaluate(sheet, 2, facts, &mut saved);
-    let Ending::Done(m) = list else {
-        return ANSWERS;
-    };
-    first_lacking(asked, least(n, ANSWERS), &saved, least(m, ANSWERS))
+    let lists = heads(words, MOST_LINES, LIST);
+    first_lacking(sheet, lists, facts, asked, least(n, ANSWERS))
 }
 
 fn least(a: usize, b: usize) -> usize
@@ -340,18 +344,45 @@ fn least(a: usize, b: usize) -> usize
     if a < b { a } else { b }
 }
 
-fn first_lacking(asked: &[i32], n: usize, saved: &[i32], m: usize) -> usize
-    requires { ⌜ (n * 4 ≤ length (now asked)) × (n ≤ 1024) × (m * 4 ≤ length (now saved)) ⌝ }
+// The same of the first n answers, where the blocks from 2 to `lists` are the lists.
+fn first_lacking(sheet: &[u8], lists: usize, facts: &[i32], asked: &[i32], n: usize) -> usize
+    requires { ⌜ (lists ≤ 1024) × (n * 4 ≤ length (now asked)) × (n ≤ 1024) ⌝ }
     ensures { λ r. ⌜ r ≤ 1024 ⌝ }
 {
     let mut i = 0;
     while i < n {
-        if !has(saved, m, asked, i) {
+        if !is_in_a_list(sheet, lists, facts, asked, i) {
             return i;
         }
         i += 1;
     }
     ANSWERS
+}
+
+// Whether some list has answer i.
+fn is_in_a_list(sheet: &[u8], lists: usize, facts: &[i32], asked: &[i32], i: usize) -> bool
+    requires { ⌜ (lists ≤ 1024) × (i * 4 + 4 ≤ length (now asked)) ⌝ }
+{
+    let mut block = 1;
+    while block < lists {
+        block += 1;
+        if gives(sheet, block, facts, asked, i) {
+            return true;
+        }
+    }
+    false
+}
+
+// Whether a block has answer i. One with more answers than there is room for is taken to have it.
+fn gives(sheet: &[u8], block: usize, facts: &[i32], asked: &[i32], i: usize) -> bool
+    requires { ⌜ i * 4 + 4 ≤ length (now asked) ⌝ }
+{
+    let mut saved = [0i32; ROOM];
+    let list = evaluate::evaluate(sheet, block, facts, &mut saved);
+    let Ending::Done(m) = list else {
+        return true;
+    };
+    has(&saved, least(m, ANSWERS), asked, i)
 }
 
 // Whether answer i of b is among the first m answers of a.

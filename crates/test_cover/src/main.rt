@@ -11,7 +11,7 @@
 //
 //     its facts are facts, ascend, and have values that stand in the sheet or are made up
 //     each beat and each noise is a signal, and each view's answers are its listed rows
-//     the missing answer is the least of the question's that the list lacks
+//     the missing answer is the least of the question's that every list lacks
 //     with any one fact dropped it is no case
 //
 // A bar follows, then the missing answer and a bar, the count of facts and a bar, and the facts, with "/" after each. Of a case SHOWN says

@@ -19,6 +19,9 @@ returns c = search needs
 heads-requires : tie.Need-heads-requires Inv-loop μ-loop
 heads-requires c κs = search needs
 
+heads-requires-2 : tie.Need-heads-requires-2 Inv-loop μ-loop
+heads-requires-2 c κs = search needs
+
 loop-holds : tie.Need-loop-holds Inv-loop μ-loop
 loop-holds c = search needs
 
@@ -49,6 +52,7 @@ agrees-spec =
     are-signals-requires
     returns
     heads-requires
+    heads-requires-2
     loop-holds
     add-block
     is-listed-requires

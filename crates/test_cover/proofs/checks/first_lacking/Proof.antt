@@ -5,16 +5,16 @@ use Rattle.test_cover.proofs.checks.first_lacking.Statement.{statement}
 use Rattle.test_cover.proofs.checks.first_lacking.Tie as tie
 
 abbrev Inv-loop : tie.InvT-loop
-Inv-loop asked n saved m i₀ i = i ≤ n
+Inv-loop sheet lists facts asked n i₀ i = i ≤ n
 
 abbrev μ-loop : tie.MeasureT-loop
-μ-loop asked n saved m i₀ i = n - i
+μ-loop sheet lists facts asked n i₀ i = n - i
 
 loop-holds : tie.Need-loop-holds Inv-loop μ-loop
 loop-holds c = search needs
 
-has-requires : tie.Need-has-requires Inv-loop μ-loop
-has-requires c κs = search needs
+is-in-a-list-requires : tie.Need-is-in-a-list-requires Inv-loop μ-loop
+is-in-a-list-requires c κs = search needs
 
 returns : tie.Need-returns Inv-loop μ-loop
 returns c = search needs
@@ -34,4 +34,4 @@ returns-2 c = search needs
 pub first-lacking-spec : {M : Type 1} → statement M
 first-lacking-spec =
     tie.close
-    (tie.spec Inv-loop μ-loop loop-holds has-requires returns add-i loop-less loop-again returns-2)
+    (tie.spec Inv-loop μ-loop loop-holds is-in-a-list-requires returns add-i loop-less loop-again returns-2)

@@ -5,10 +5,10 @@ use Rattle.test_cover.proofs.checks.heads.Statement.{statement}
 use Rattle.test_cover.proofs.checks.heads.Tie as tie
 
 abbrev Inv-loop : tie.InvT-loop
-Inv-loop words lines n₀ i₀ n i = (i ≤ lines) × (n ≤ i)
+Inv-loop words lines last n₀ i₀ n i = (i ≤ lines) × (n ≤ i)
 
 abbrev μ-loop : tie.MeasureT-loop
-μ-loop words lines n₀ i₀ n i = lines - i
+μ-loop words lines last n₀ i₀ n i = lines - i
 
 loop-holds : tie.Need-loop-holds Inv-loop μ-loop
 loop-holds c = search needs
