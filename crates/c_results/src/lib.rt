@@ -1,4 +1,5 @@
 // What the calls give back, as C has it: the structs of include/figdawesa.h.
+use day_page::DayJudgement;
 use judge_ends::MOST_SHEETS;
 use judge_ends::SetJudgement;
 use judge_result::Judgement;
@@ -7,7 +8,7 @@ ghost use mathlib.Core.Path.{_≡_};
 ghost use mathlib.Core.List.{map};
 ghost use Prim.Native.Nat.{_-_};
 ghost use Rattle.sheet_format.specs.Sheet.{returned};
-ghost use Rattle.c_results.specs.Passed.{returnedOf, judgementOf, setJudgementOf};
+ghost use Rattle.c_results.specs.Passed.{returnedOf, judgementOf, setJudgementOf, dayJudgementOf};
 
 // How a call ended: a refusal's number and line, both 0 where nothing is refused, and the count of what was written.
 #[repr(C)]
@@ -41,6 +42,13 @@ pub struct SetOutcome {
     pub line: usize,
     pub count: usize,
     pub sheets: [Outcome; MOST_SHEETS],
+}
+
+// A set's judgement, and how many bytes its page has.
+#[repr(C)]
+pub struct DayOutcome {
+    pub set: SetOutcome,
+    pub bytes: usize,
 }
 
 // An ending in three numbers.
@@ -114,5 +122,17 @@ pub fn passed_set(s: SetJudgement) -> SetOutcome
         line: s.line,
         count: s.count,
         sheets,
+    }
+}
+
+// The same with its page, as C has it.
+pub fn passed_day(d: DayJudgement) -> DayOutcome
+    ensures { λ r. ⌜ dayJudgementOf r ≡ d ⌝ }
+{
+    let s = d.set;
+    let set = passed_set(s);
+    DayOutcome {
+        set,
+        bytes: d.bytes,
     }
 }

@@ -1,4 +1,5 @@
 // The calls for programs in C and Rust. include/figdawesa.h describes them to those who call them.
+use c_results::DayOutcome;
 use c_results::Ended;
 use c_results::Outcome;
 use c_results::SetOutcome;
@@ -6,6 +7,7 @@ use c_results::Stretch;
 use c_results::in_numbers;
 use c_results::part;
 use c_results::passed;
+use c_results::passed_day;
 use c_results::passed_set;
 ghost use mathlib.Core.Path.{_≡_};
 ghost use Prim.Native.Nat.{_+_, _≤_};
@@ -17,7 +19,8 @@ ghost use Rattle.query_meaning.specs.Evaluate.{Evaluated};
 ghost use Rattle.sheet_lines.specs.Start.{lineStart};
 ghost use Rattle.judge_result.specs.Judged.{Judged};
 ghost use Rattle.judge_ends.specs.Sets.{SetJudged};
-ghost use Rattle.c_results.specs.Passed.{returnedOf, judgementOf, setJudgementOf};
+ghost use Rattle.judge_day.specs.Days.{DayJudged};
+ghost use Rattle.c_results.specs.Passed.{returnedOf, judgementOf, setJudgementOf, dayJudgementOf};
 
 // A sheet's bytes to its number form in the lent words.
 #[no_mangle]
@@ -72,4 +75,17 @@ pub extern "C" fn figdawesa_judge_set(bytes: &[u8], ends: &[usize], out: &mut [i
     ensures { λ r. ⌜ SetJudged (now (bytes .entry)) (now (ends .entry)) (now (out .entry)) (now (out .exit)) (setJudgementOf r) ⌝ }
 {
     passed_set(judge_set::judge_set(bytes, ends, out))
+}
+
+// The same, and the page for the set in the lent bytes.
+#[no_mangle]
+pub extern "C" fn figdawesa_judge_day(
+    bytes: &[u8],
+    ends: &[usize],
+    out: &mut [i32],
+    page: &mut [u8],
+) -> DayOutcome
+    ensures { λ r. ⌜ DayJudged (now (bytes .entry)) (now (ends .entry)) (now (out .entry)) (now (out .exit)) (now (page .entry)) (now (page .exit)) (dayJudgementOf r) ⌝ }
+{
+    passed_day(judge_day::judge_day(bytes, ends, out, page))
 }

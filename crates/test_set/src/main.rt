@@ -18,6 +18,9 @@ use judge_result::LEAST_ROOM;
 use judge_result::REFUSED;
 use libc::STDOUT_FILENO;
 use query_meaning::FACT_WORDS;
+use test_ends::least;
+use test_ends::put_ending;
+use test_ends::put_ends;
 ghost use Prim.Native.Nat.{_≤_, _<_};
 ghost use lib.ListN.{length};
 ghost use Rattle.judge_result.specs.Judged.{least-room};
@@ -98,25 +101,6 @@ fn call(text: &[u8], room: usize, numbers: &[i32], out: &mut [u8], at: usize) ->
     show(&bytes[0..n], &ends[0..k], &mut lent[0..words], out, at)
 }
 
-fn least(a: usize, b: usize) -> usize
-    ensures { λ r. ⌜ (r ≤ a) × (r ≤ b) ⌝ }
-{
-    if a < b { a } else { b }
-}
-
-// Puts words as ends, as many as there is room for, and returns how many.
-fn put_ends(numbers: &[i32], ends: &mut [usize]) -> usize
-    ensures { λ r. ⌜ r ≤ length (now (ends .exit)) ⌝ }
-{
-    let count = least(numbers.len(), ends.len());
-    let mut k = 0;
-    while k < count {
-        ends[k] = sheet_terms::number(numbers[k]);
-        k += 1;
-    }
-    count
-}
-
 // Calls, and puts what came of it at a place.
 fn show(bytes: &[u8], ends: &[usize], lent: &mut [i32], out: &mut [u8], at: usize) -> usize {
     let s = judge_set::judge_set(bytes, ends, lent);
@@ -127,13 +111,6 @@ fn show(bytes: &[u8], ends: &[usize], lent: &mut [i32], out: &mut [u8], at: usiz
     let b = test_results::put_mark(out, a, test_lent::are_marked(lent, count * LEAST_ROOM));
     let c = test_results::put_mark(out, b, are_empty(sheets, count, number));
     put_sheets(out, c, bytes, ends, lent, sheets, count)
-}
-
-fn put_ending(out: &mut [u8], at: usize, number: usize, line: usize, count: usize) -> usize {
-    let a = text_buffer::put(out, at, b": ");
-    let b = test_results::put_number(out, a, number, b' ');
-    let c = test_results::put_number(out, b, line, b' ');
-    test_results::put_number(out, c, count, b' ')
 }
 
 // Whether each place from `count` on holds what a place without a sheet has.

@@ -1,30 +1,28 @@
+-- What is put stays within the bytes.
 use mathlib.Core.Path.{_≡_}
 use Prim.Native.Nat.{_≤_, _-_}
 use borrow.Author.Needs.{needs}
 use lib.ListN.{length}
-use Rattle.test_set.proofs.put_ends.Statement.{statement}
-use Rattle.test_set.proofs.put_ends.Tie as tie
+use Rattle.day.proofs.gather.Statement.{statement}
+use Rattle.day.proofs.gather.Tie as tie
 
 abbrev Inv-loop : tie.InvT-loop
-Inv-loop numbers ends₀ count k₀ ends k = (count ≤ length numbers) × (count ≤ length ends₀) × (length ends ≡ length ends₀)
+Inv-loop bytes₀ ends₀ count at₀ k₀ bytes ends at k = (at ≤ length bytes) × (length bytes ≡ length bytes₀) × (length ends ≡ length ends₀)
 
 abbrev μ-loop : tie.MeasureT-loop
-μ-loop numbers ends₀ count k₀ ends k = count - k
-
-least-requires : tie.Need-least-requires Inv-loop μ-loop
-least-requires c κs = search needs
+μ-loop bytes₀ ends₀ count at₀ k₀ bytes ends at k = count - k
 
 loop-holds : tie.Need-loop-holds Inv-loop μ-loop
 loop-holds c = search needs
 
-mul-number : tie.Need-mul-number Inv-loop μ-loop
-mul-number c = search needs
+add-put-file : tie.Need-add-put-file Inv-loop μ-loop
+add-put-file c = search needs
 
-shared-slice-copy-out-number : tie.Need-shared-slice-copy-out-number Inv-loop μ-loop
-shared-slice-copy-out-number c = search needs
+put-file-requires : tie.Need-put-file-requires Inv-loop μ-loop
+put-file-requires c κs = search needs
 
-number-requires : tie.Need-number-requires Inv-loop μ-loop
-number-requires c κs = search needs
+least-requires : tie.Need-least-requires Inv-loop μ-loop
+least-requires c κs = search needs
 
 mul-ends : tie.Need-mul-ends Inv-loop μ-loop
 mul-ends c = search needs
@@ -44,24 +42,27 @@ loop-again c = search needs
 same-length : tie.Need-same-length Inv-loop μ-loop
 same-length c = search needs
 
+same-length-2 : tie.Need-same-length-2 Inv-loop μ-loop
+same-length-2 c = search needs
+
 returns : tie.Need-returns Inv-loop μ-loop
 returns c = search needs
 
-pub put-ends-spec : {M : Type 1} → statement M
-put-ends-spec =
+pub gather-spec : {M : Type 1} → statement M
+gather-spec =
     tie.close
     (tie.spec
     Inv-loop
     μ-loop
-    least-requires
     loop-holds
-    mul-number
-    shared-slice-copy-out-number
-    number-requires
+    add-put-file
+    put-file-requires
+    least-requires
     mul-ends
     slice-write-ends
     add-k
     loop-less
     loop-again
     same-length
+    same-length-2
     returns)

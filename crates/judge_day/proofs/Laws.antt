@@ -1,0 +1,174 @@
+-- Refusals' numbers; what is judged fits the fields of a page; the call's refusal, and both ways that it ends.
+use mathlib.Core.Path.{_≡_, refl, sym, ap, _∙_, subst}
+use mathlib.Core.Bool.{Bool, true, false, cond}
+use mathlib.Core.List.{List, [], _∷_, _++_}
+use mathlib.Core.Logic.{_⊎_, inl, inr, ⊎-elim}
+use Prim.Native.Nat.{ℕ, zero, suc, _+_, _*_, _<_, _≤_}
+use native.Mathlib.Omega.{arith}
+use borrow.Author.Tests.{ltb-false, lt-ltb, le-ltb, eq-eqb, ne-eqb, eqb-true, eqb-false}
+use lib.Dec.{eqb, ltb}
+use lib.IntN.{ℤ}
+use lib.ListN.{length, getD, take, drop, length-take, length-drop}
+use Rattle.sheet_format.specs.Limits.{field-end, most-sheet-bytes}
+use Rattle.sheet_format.specs.Line.{Line, byteLines, null}
+use Rattle.sheet_format.specs.Cause.{cause, misplaced, wrongColumns, outOfRange, tooMany, wrongLength, notAbove, kind, next, start, refusal, none, missing, scan, heads, atoms, unsafe, refusalOf}
+use Rattle.sheet_format.specs.Sheet.{over, sheetRefusal}
+use Rattle.sheet_format.specs.declared.Refusal.{Refusal}
+use Rattle.sheet_format.specs.declared.Seen.{Seen}
+use Rattle.text_buffer.specs.Puts.{Put}
+use Rattle.text_buffer.proofs.Laws.{reached-all, placed-all}
+use Rattle.case_verdicts.specs.Sheets.{sheetOf}
+use Rattle.judge_result.specs.Judged.{least-room, judgement, SheetSent, Decided, Judged}
+use Rattle.judge_result.specs.declared.Judgement.{Judgement}
+use Rattle.judge_result.proofs.Verdicts.{count-fits}
+use Rattle.judge_ends.specs.declared.SetJudgement.{SetJudgement}
+use Rattle.judge_ends.specs.Sets.{most-sheets, sheetAt, stretchAt, setRefusal, unjudged, setJudgement, SetSent, SetTaken, SetJudged, JudgedTo}
+use Rattle.judge_ends.proofs.Laws.{parted}
+use Rattle.day_page.specs.Page.{page-room, pageOf, Shown, AllShown}
+use Rattle.day_page.proofs.Laws.{page-fits}
+use Rattle.day_page.specs.declared.DayJudgement.{DayJudgement}
+use Rattle.judge_day.specs.Days.{dayRefusal, dayJudgement, setSent, DaySent, DayTaken, DayJudged}
+
+-- ---- a sheet is sent back by a number up to 9
+
+few : (b : Bool) (m n : ℕ) → m ≤ 9 → n ≤ 9 → cond b m n ≤ 9
+few true m n h k = h
+few false m n h k = k
+
+either : (b : Bool) (r q : Refusal) → r .number ≤ 9 → q .number ≤ 9 → cond b r q .number ≤ 9
+either true r q h k = h
+either false r q h k = k
+
+cause-few : (g : Seen) (before l : Line) → cause g before l ≤ 9
+unfolding cause
+cause-few g before l =
+    few (null l) 2 _ (omega arith)
+    (few (misplaced g l) 3 _ (omega arith)
+    (few (wrongColumns (kind l) l) 4 _ (omega arith)
+    (few (outOfRange (kind l) l) 5 _ (omega arith)
+    (few (tooMany g (kind l)) 6 _ (omega arith)
+    (few (wrongLength g (kind l) l) 7 _ (omega arith)
+    (few (notAbove g before (kind l) l) 9 0 (omega arith) (omega arith)))))))
+
+scan-few : (g : Seen) (before : Line) (n : ℕ) (ls : List Line) → scan g before n ls .number ≤ 9
+unfolding scan
+scan-few g before n [] = either (ltb (g .block) 2) (refusal 3 0) none (omega arith) (omega arith)
+scan-few g before n (l ∷ ls) = either (eqb (cause g before l) 0) (scan (next g l) l (n + 1) ls) (refusal (cause g before l) n) (scan-few (next g l) l (n + 1) ls) (cause-few g before l)
+
+heads-few : (n : ℕ) (ls : List Line) → heads n ls .number ≤ 9
+unfolding heads
+heads-few n [] = omega arith
+heads-few n (l ∷ ls) = either (unsafe l (atoms ls)) (refusal 8 n) (heads (n + 1) ls) (omega arith) (heads-few (n + 1) ls)
+
+lines-few : (ls : List Line) → refusalOf ls .number ≤ 9
+unfolding refusalOf
+lines-few ls = either (eqb (scan start [] 1 ls .number) 0) (heads 1 ls) (scan start [] 1 ls) (heads-few 1 ls) (scan-few start [] 1 ls)
+
+pub refusal-few : (s : List ℕ) → sheetRefusal s .number ≤ 9
+unfolding sheetRefusal
+refusal-few s = either (ltb most-sheet-bytes (length s)) (refusal 1 0) (refusalOf (byteLines s)) (omega arith) (lines-few (byteLines s))
+
+-- ---- what is judged fits a page's fields
+
+module _ (s : List ℕ) (out after : List ℤ) (r : Judgement) (judged : Judged s out after r) (size : length out ≡ least-room) where
+  shown-as : (v n l k : ℕ) (t : List ℕ) → r ≡ judgement v n l k t → v ≤ 9 → n ≤ 13 → Shown r
+  shown-as v n l k t e small low =
+      let a : r .verdict ≡ v = ap (λ (q : Judgement). q .verdict) e in
+      let b : r .number ≡ n = ap (λ (q : Judgement). q .number) e in
+      record { verdict = omega arith; number = omega arith; count = count-fits s out after r judged size }
+
+  shown-decided : Decided (sheetOf (byteLines s)) out after r → Shown r
+  shown-decided (inl d) = shown-as 9 13 0 0 [] (d .result) (omega arith) (omega arith)
+  shown-decided (inr (inl d)) = shown-as 0 0 0 0 [] (d .result) (omega arith) (omega arith)
+  shown-decided (inr (inr (inl d))) = shown-as 1 0 0 (length (d .handed .log)) (d .handed .answer) (d .result) (omega arith) (omega arith)
+  shown-decided (inr (inr (inr d))) = shown-as 2 0 0 0 [] (d .result) (omega arith) (omega arith)
+
+  pub shown : Shown r
+  shown =
+      ⊎-elim
+      (λ (d : SheetSent s out after r). let h = refusal-few s in shown-as 9 (sheetRefusal s .number) (sheetRefusal s .line) 0 [] (d .result) (omega arith) (omega arith))
+      (λ d. shown-decided (d .1))
+      judged
+
+all-shown : (js : List Judgement) (n : ℕ) → n ≤ length js → ((k : ℕ) → k < n → Shown (getD js k (unjudged 0))) → AllShown (take n js)
+all-shown [] zero le each = tt
+all-shown [] (suc n) le each = absurd (omega arith)
+all-shown (j ∷ js) zero le each = tt
+all-shown (j ∷ js) (suc n) le each = (each 0 (omega arith), all-shown js n (omega arith) (λ k lt. each (suc k) (omega arith)))
+
+stretch-size : (n k : ℕ) (out : List ℤ) → k < n → n * least-room ≤ length out → length (stretchAt out k) ≡ least-room
+stretch-size n k out lt room = let a = length-take least-room (drop (k * least-room) out) in let b = length-drop (k * least-room) out in omega arith
+
+-- ---- the call's refusal
+
+-- a number is 0, or it is not
+pub by-number : {P : Type 0} (n : ℕ) → (n ≡ 0 → P) → ((n ≡ 0 → ⊥) → P) → P
+by-number zero clean some = clean refl
+by-number (suc n) clean some = some (λ e. omega arith)
+
+module _ (bytes ends : List ℕ) (out : List ℤ) (page : List ℕ) where
+  pub by-set : (n : ℕ) → n ≡ setRefusal bytes ends out → (n ≡ 0 → ⊥) → n ≡ dayRefusal bytes ends out page
+  unfolding dayRefusal
+  by-set n is some = rw (← is, ne-eqb n 0 some) refl
+
+  pub by-page : (n : ℕ) → n ≡ setRefusal bytes ends out → n ≡ 0 → length page < page-room → 13 ≡ dayRefusal bytes ends out page
+  unfolding dayRefusal
+  by-page n is clean short = rw (← is, eq-eqb n 0 clean, lt-ltb (length page) page-room short) refl
+
+  pub by-none : (n : ℕ) → n ≡ setRefusal bytes ends out → n ≡ 0 → page-room ≤ length page → 0 ≡ dayRefusal bytes ends out page
+  unfolding dayRefusal
+  by-none n is clean room = rw (← is, eq-eqb n 0 clean, le-ltb (length page) page-room room) refl
+
+  -- a call that is not sent back has a set that is not, and room for a page
+  pub neither : dayRefusal bytes ends out page ≡ 0 → (setRefusal bytes ends out ≡ 0) × (page-room ≤ length page)
+  unfolding dayRefusal
+  neither e = go (eqb (setRefusal bytes ends out) 0) refl (ltb (length page) page-room) refl e
+    where
+      go : (a : Bool) → eqb (setRefusal bytes ends out) 0 ≡ a → (b : Bool) → ltb (length page) page-room ≡ b → cond a (cond b 13 0) (setRefusal bytes ends out) ≡ 0 → (setRefusal bytes ends out ≡ 0) × (page-room ≤ length page)
+      go true p true q f = absurd (omega arith)
+      go true p false q f = (eqb-true (setRefusal bytes ends out) 0 p, ltb-false (length page) page-room q)
+      go false p b q f = absurd (eqb-false (setRefusal bytes ends out) 0 p f)
+
+  -- ---- both ways that the call ends
+
+  module _ (after : List ℤ) (s : SetJudgement) where
+    -- a set that is not sent back is taken
+    pub set-taken : setRefusal bytes ends out ≡ 0 → SetJudged bytes ends out after s → SetTaken bytes ends out after s
+    set-taken clean (inl d) = absurd (d .cause clean)
+    set-taken clean (inr t) = t
+
+    -- its results fit the fields
+    pub set-shown : dayRefusal bytes ends out page ≡ 0 → SetJudged bytes ends out after s → (length ends ≤ most-sheets) × AllShown (take (length ends) (s .sheets))
+    set-shown clean judged =
+        let set = neither clean .0 in
+        let p = parted bytes ends out set in
+        let t = set-taken set judged .judged in
+        let l = t .places in
+        let few = p .few in (
+          p .few,
+          all-shown (s .sheets) (length ends) (omega arith)
+              (λ k lt. shown (sheetAt bytes ends k) (stretchAt out k) (stretchAt after k) (getD (s .sheets) k (unjudged 0)) (t .each k lt) (stretch-size (length ends) k out lt (p .room))),
+        )
+
+  pub day-sent : (n : ℕ) (after : List ℤ) (printed : List ℕ) (s : SetJudgement) (m : ℕ) → n ≡ dayRefusal bytes ends out page → (n ≡ 0 → ⊥) → (after ≡ out) × (s ≡ setSent n) → (printed ≡ page) × (m ≡ 0) → DayJudged bytes ends out after page printed (dayJudgement s m)
+  day-sent n after printed s m is some set print = inl (record {
+    cause = λ e. some (is ∙ e);
+    result = ap (λ (x : SetJudgement). dayJudgement x m) (set .1 ∙ ap setSent is) ∙ ap (dayJudgement (setSent (dayRefusal bytes ends out page))) (print .1);
+    words = set .0;
+    lent = print .0;
+  })
+
+  pub day-taken : (after : List ℤ) (printed : List ℕ) (s : SetJudgement) (m : ℕ) → dayRefusal bytes ends out page ≡ 0 → SetJudged bytes ends out after s → Put page printed 0 (pageOf (take (length ends) (s .sheets))) m → DayJudged bytes ends out after page printed (dayJudgement s m)
+  day-taken after printed s m clean judged put =
+      let both = neither clean in
+      let js = take (length ends) (s .sheets) in
+      let t = length-take (length ends) (s .sheets) in
+      let f = parted bytes ends out (both .0) .few in
+      let fits = page-fits js (omega arith) in
+      let room = both .1 in
+      inr (record {
+        taken = clean;
+        set = set-taken after s (both .0) judged;
+        count = put .place ∙ reached-all (length page) 0 (pageOf js) (omega arith) ∙ omega arith;
+        lent = put .bytes ∙ placed-all page 0 (pageOf js) (omega arith) ∙ ap (λ (n : ℕ). pageOf js ++ drop n page) (let e : 0 + length (pageOf js) ≡ length (pageOf js) = omega arith in e);
+      })

@@ -1,0 +1,232 @@
+#!/usr/bin/env python3
+"""Cases for the judgement of a set with its page, with the results they must give.
+
+This is an independent account of the page: it is written from the description in words alone, and shares nothing with the
+library. Each set is judged by tests/set_cases.py, which was made in the same way. The stored results
+(crates/test_day/stdout, crates/day/stdout) come from here and not from the library.
+
+    python3 tests/day_cases.py            writes stdin and stdout of crates/test_day; args, data and stdout of crates/day
+    python3 tests/day_cases.py --check    only says whether those files are what it would write
+    python3 tests/day_cases.py --run      runs the built program `day` (rt check) on files that cannot be taken, and looks at what it says
+
+Run it at the repository's root. It draws no chance from outside: each run writes the same bytes.
+"""
+import collections
+import pathlib
+import subprocess
+import sys
+import tempfile
+
+from cover_cases import LENT_WORDS, NO_ROOM, page
+from evaluate_cases import raised_lines
+from set_cases import (COVERED_ONE, MOST_SHEETS, NO_LIST, NO_LOG_ONE, NO_RELATION, OTHER_LENGTH, OUT_OF_RANGE, ROWS_DESCEND, SEVENTH_ATOM, SMALL, TOO_LONG,
+                       TWO_TICKS, UNCLOSED, UNSAFE, WORKED, WRONG_ENDS, ends_of, judged_alone, judged_set, refused, some_set, some_sheet)
+from sheet_cases import MOST_WORDS, Dice, noted, read, sheet_of
+
+# --- The page -------------------------------------------------------------------------------------------------------
+
+PAGE_ROOM = 569
+
+
+def line_of(*numbers):
+    return b"".join(b"%8d" % number for number in numbers) + b"\n"
+
+
+def page_of(sheets):
+    """A line for each sheet, and the closing line."""
+    lines = [line_of(place, one.verdict, one.number, len(one.facts)) for place, one in enumerate(sheets, 1)]
+    had = [sum(one.verdict == verdict for one in sheets) for verdict in (0, 1, 2, 9)]
+    return b"".join(lines) + line_of(*had, sum(len(one.facts) for one in sheets))
+
+
+def judged_day(data, ends, words, room):
+    """The number, how many sheets were judged, and the page."""
+    number, sheets = judged_set(data, ends, words)
+    if number == 0 and room < PAGE_ROOM:
+        number = NO_ROOM
+    return (number, 0, b"") if number else (0, len(sheets), page_of(sheets))
+
+
+# --- The cases ------------------------------------------------------------------------------------------------------
+
+STDIN = pathlib.Path("crates/test_day/stdin")
+STDOUT = pathlib.Path("crates/test_day/stdout")
+PROGRAM = pathlib.Path("crates/day")
+
+# What the program has room for.
+HELD_WORDS = MOST_SHEETS * LENT_WORDS + 64
+HELD_PAGE = PAGE_ROOM + 64
+HELD_ENDS = MOST_SHEETS + 3
+HELD_BYTES = 8704
+HELD_LINE = 8192
+
+given, wanted, names = [], [], set()
+tally = collections.Counter()
+
+
+def heading(text):
+    given.append("# " + text)
+    wanted.append("# " + text)
+
+
+def keep(name, data, ends, want, words=None, room=PAGE_ROOM):
+    """A set by its bytes and ends. What is wanted is the number, or the page, its fields by single blanks and its lines by " / "."""
+    words = LENT_WORDS * len(ends) if words is None else words
+    assert name not in names and "|" not in name and words <= HELD_WORDS and room <= HELD_PAGE and len(ends) <= HELD_ENDS and len(data) <= HELD_BYTES, name
+    names.add(name)
+    number, count, paper = judged_day(data, ends, words, room)
+    got = number if number else " / ".join(" ".join(line.split()) for line in paper.decode().splitlines())
+    if want is not None and got != want:
+        sys.exit(f"the page is {got} and not {want}: {name}")
+    given.append(f"{name}|{' '.join(map(str, [words, room] + ends))}|{noted(data)}")
+    wanted.append(f"{name}: {number} 0 {count} {len(paper)} =|{paper.decode().replace(chr(10), '/')}{'~' * (room - len(paper))}")
+    tally[f"refused by {number}" if number else f"{count} sheets"] += 1
+
+
+def taken(name, sheets, want, words=None, room=PAGE_ROOM):
+    """A set of sheets, with ends that are right."""
+    keep(name, b"".join(sheets), ends_of(sheets), want, words, room)
+
+
+# A sheet whose only case has 126 facts, as many as a case can have.
+CHAINS = " ".join(f"({at},{100 + at},{200 + at},{300 + at})" for at in range(40))
+LARGEST = page(f"(): {', '.join(f'Pulse(1,2,{at})' for at in range(6))}", "(): Pause(1)", f"(a,b,c,d): Sig(a,b), Beat(b,c), Noise(c,d) = {CHAINS}")
+REFUSALS = {1: TOO_LONG, 2: UNCLOSED, 3: NO_LIST, 4: NO_RELATION, 5: OUT_OF_RANGE, 6: SEVENTH_ATOM, 7: OTHER_LENGTH, 8: UNSAFE, 9: ROWS_DESCEND}
+
+
+def pages():
+    heading("pages")
+    keep("no sheets", b"", [], "0 0 0 0 0")
+    keep("no sheets, with words and bytes to spare", b"", [], "0 0 0 0 0", 640, HELD_PAGE)
+    taken("one sheet with a case", [WORKED], "1 1 0 2 / 0 1 0 0 2")
+    taken("one sheet that is covered", [COVERED_ONE], "1 0 0 0 / 1 0 0 0 0")
+    taken("one sheet without a log", [NO_LOG_ONE], "1 2 0 0 / 0 0 1 0 0")
+    taken("one sheet that is refused", [NO_RELATION], "1 9 4 0 / 0 0 0 1 0")
+    taken("one of each", [COVERED_ONE, WORKED, NO_LOG_ONE, UNSAFE], "1 0 0 0 / 2 1 0 2 / 3 2 0 0 / 4 9 8 0 / 1 1 1 1 2")
+    taken("one of each, the other way round", [UNSAFE, NO_LOG_ONE, WORKED, COVERED_ONE], "1 9 8 0 / 2 2 0 0 / 3 1 0 2 / 4 0 0 0 / 1 1 1 1 2")
+    taken("facts of several cases", [WORKED, SMALL, TWO_TICKS, WORKED], "1 1 0 2 / 2 0 0 0 / 3 1 0 2 / 4 1 0 2 / 1 3 0 0 6")
+    taken("the last sheet without facts", [WORKED, WORKED, SMALL], "1 1 0 2 / 2 1 0 2 / 3 0 0 0 / 1 2 0 0 4")
+    taken("the largest case", [LARGEST], "1 1 0 126 / 0 1 0 0 126")
+    taken("the largest case between others", [WORKED, LARGEST, NO_LIST], "1 1 0 2 / 2 1 0 126 / 3 9 3 0 / 0 2 0 1 128")
+    sixteen = " / ".join(f"{place} 9 3 0" for place in range(1, 17))
+    keep("sixteen refused sheets, all without bytes", b"", [0] * 16, sixteen + " / 0 0 0 16 0")
+    taken("sixteen refused sheets", [NO_LIST] * 16, sixteen + " / 0 0 0 16 0")
+    taken("sixteen covered sheets", [SMALL] * 16, " / ".join(f"{place} 0 0 0" for place in range(1, 17)) + " / 16 0 0 0 0")
+    taken("sixteen cases", [TWO_TICKS] * 16, " / ".join(f"{place} 1 0 2" for place in range(1, 17)) + " / 0 16 0 0 32")
+    for number, sheet in REFUSALS.items():
+        taken(f"a sheet that is refused by {number}, beside one that is not", [SMALL, sheet], f"1 0 0 0 / 2 9 {number} 0 / 1 0 0 1 0")
+    high = [sheet_of(raised_lines(read(sheet, MOST_WORDS)[2], 9_999_990)) for sheet in (WORKED, COVERED_ONE, NO_LOG_ONE)]
+    taken("constants of seven digits", high, "1 1 0 2 / 2 0 0 0 / 3 2 0 0 / 1 1 1 0 2")
+
+
+def rooms():
+    heading("lent bytes: 569 are enough for every set, and 568 for none")
+    for room, number in ((569, None), (570, None), (HELD_PAGE, None), (568, NO_ROOM), (41, NO_ROOM), (0, NO_ROOM)):
+        keep(f"no sheets, {room} bytes", b"", [], number if number else "0 0 0 0 0", None, room)
+        taken(f"one sheet, {room} bytes", [WORKED], number if number else "1 1 0 2 / 0 1 0 0 2", None, room)
+        taken(f"sixteen sheets, {room} bytes", [SMALL] * 16, number, None, room)
+        taken(f"sixteen refused sheets, {room} bytes", [NO_LIST] * 16, number, None, room)
+    heading("lent words, and both")
+    taken("one word short", [WORKED], NO_ROOM, 639)
+    taken("one word short and one byte short", [WORKED], NO_ROOM, 639, 568)
+    taken("one word short of sixteen stretches", [SMALL] * 16, NO_ROOM, 10_239)
+    taken("more words than wanted", [WORKED, SMALL], "1 1 0 2 / 2 0 0 0 / 1 1 0 0 2", 1344)
+    heading("14 comes first")
+    for room in (569, 568, 0):
+        keep(f"seventeen sheets, {room} bytes", b"", [0] * 17, WRONG_ENDS, HELD_WORDS, room)
+        keep(f"a last end that is short, {room} bytes", WORKED, [len(WORKED) - 1], WRONG_ENDS, 640, room)
+        keep(f"an end that falls back, {room} bytes", WORKED, [len(WORKED), 3, len(WORKED)], WRONG_ENDS, 0, room)
+        keep(f"no sheets, with a byte, {room} bytes", b"\n", [], WRONG_ENDS, 640, room)
+
+
+def generated():
+    """Sets of small sheets; some have one end moved, or too little room."""
+    heading("generated")
+    dice, pool = Dice(21), []
+    while len(pool) < 40:
+        sheet = sheet_of(some_sheet(dice))
+        if len(sheet) < 400 and judged_alone(sheet) is not None:
+            pool.append(sheet)
+    for at in range(1, 41):
+        sheets = some_set(dice, pool, 1 + dice.below(MOST_SHEETS))
+        marks = ends_of(sheets)
+        if marks and dice.below(8) == 0:
+            place = dice.below(len(marks))
+            marks[place] = max(0, marks[place] + dice.one((-1, 1, -40, 40)))
+        words = max(0, LENT_WORDS * len(sheets) - dice.one((0, 0, 0, 0, 0, 0, 0, 1)))
+        room = dice.one((569, 569, 569, 569, 600, 568))
+        if len(noted(b"".join(sheets))) < 6000 and judged_set(b"".join(sheets), marks, words)[1].count(None) == 0:
+            keep(f"set {at}", b"".join(sheets), marks, None, words, room)
+
+
+# --- The program ----------------------------------------------------------------------------------------------------
+
+SIGNALS_TEXT = b"# all signals, and a list of all beats\nq(s,t): Sig(s,t)\nl(s,t): Beat(s,t)\n\nv(s,t): Sig(s,t) = (7,1); (7,2)\n"
+STRAPS_TEXT = b"q(s): Sig(s,t)\nl(9999998): Sig(9999998,t)\nv(s): Sig(s,t) = 9999998; 9999999\nv(t): Sig(s,t) = 1234567\n"
+
+# A file for each of the program's arguments, and the sheet that it stands for.
+FILES = [
+    ("signals.sheet", WORKED, WORKED),
+    ("straps.text", STRAPS_TEXT, page("(s): Sig(s,t)", "(9999998): Sig(9999998,t)", "(s): Sig(s,t) = (9999998) (9999999)", "(t): Sig(s,t) = (1234567)")),
+    ("covered.sheet", COVERED_ONE, COVERED_ONE),
+    ("unclosed.sheet", UNCLOSED, UNCLOSED),
+    ("signals.text", SIGNALS_TEXT, WORKED),
+    ("contrary.sheet", NO_LOG_ONE, NO_LOG_ONE),
+]
+
+
+def program_files():
+    """What the program is run on, and what it must print."""
+    files = {PROGRAM / "data" / name: data for name, data, _ in FILES}
+    files[PROGRAM / "args"] = "".join(name + "\n" for name, _, _ in FILES).encode()
+    files[PROGRAM / "stdout"] = page_of([judged_alone(sheet) for _, _, sheet in FILES])
+    return files
+
+
+def ran(folder, *names):
+    done = subprocess.run([pathlib.Path("target/bin/day").resolve(), *names], cwd=folder, capture_output=True, check=True)
+    return done.stdout, done.stderr.decode()
+
+
+def run():
+    with tempfile.TemporaryDirectory() as folder:
+        for name, data, _ in FILES:
+            (pathlib.Path(folder) / name).write_bytes(data)
+        (pathlib.Path(folder) / "broken.text").write_bytes(b"q(s): Strop(s)\n")
+        (pathlib.Path(folder) / "long.sheet").write_bytes(b" " * 100_000)
+        names = [name for name, _, _ in FILES]
+        worked, none = judged_alone(WORKED), judged_alone(b"")
+        assert ran(folder, *names) == (page_of([judged_alone(sheet) for _, _, sheet in FILES]), "")
+        assert ran(folder) == (page_of([]), "")
+        assert ran(folder, *["signals.text"] * 16) == (page_of([worked] * 16), "")
+        assert ran(folder, *["signals.text"] * 17) == (line_of(9, WRONG_ENDS, 0), "")
+        out, said = ran(folder, "signals.sheet", "no such file", "signals.text")
+        assert out == page_of([worked, none, worked]) and said.count("\n") == 1 and said.startswith("no such file: "), (out, said)
+        out, said = ran(folder, "broken.text", "signals.sheet", "long.sheet")
+        assert out == page_of([refused(2), worked, refused(1)]) and said.startswith("broken.text: line 1: expected a relation"), (out, said)
+    print("the program `day` says what it should")
+
+
+def main():
+    if sys.argv[1:] == ["--run"]:
+        run()
+        return
+    pages()
+    rooms()
+    generated()
+    texts = ["".join(line + "\n" for line in lines).encode("ascii") for lines in (given, wanted)]
+    assert all(0 < len(line) < HELD_LINE and ("|" in line) != line.startswith("#") for line in given)
+    for kind, count in sorted(tally.items()):
+        print(f"{kind:<14} {count:>4}")
+    print(f"{sum(tally.values())} cases, {len(texts[0])} bytes of input, {len(texts[1])} bytes of output")
+    for path, text in [(STDIN, texts[0]), (STDOUT, texts[1]), *program_files().items()]:
+        if "--check" in sys.argv[1:]:
+            if path.read_bytes() != text:
+                sys.exit(f"{path} is not what is made here")
+        else:
+            path.parent.mkdir(exist_ok=True)
+            path.write_bytes(text)
+
+
+if __name__ == "__main__":
+    main()
