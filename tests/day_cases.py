@@ -88,31 +88,31 @@ def taken(name, sheets, want, words=None, room=PAGE_ROOM):
     keep(name, b"".join(sheets), ends_of(sheets), want, words, room)
 
 
-# A sheet whose only case has 126 facts, as many as a case can have.
+# A sheet whose only case has 252 facts, as many as a case can have: 126 beats and noises that have nothing in common, and their signals.
 CHAINS = " ".join(f"({at},{100 + at},{200 + at},{300 + at})" for at in range(40))
-LARGEST = page(f"(): {', '.join(f'Pulse(1,2,{at})' for at in range(6))}", "(): Pause(1)", f"(a,b,c,d): Sig(a,b), Beat(b,c), Noise(c,d) = {CHAINS}")
+LARGEST = page(f"(): {', '.join(f'Beat(1,{900 + at})' for at in range(6))}", "(): Pause(1)", f"(a,b,c,d): Beat(a,b), Noise(b,c), Beat(c,d) = {CHAINS}")
 REFUSALS = {1: TOO_LONG, 2: UNCLOSED, 3: NO_LIST, 4: NO_RELATION, 5: OUT_OF_RANGE, 6: SEVENTH_ATOM, 7: OTHER_LENGTH, 8: UNSAFE, 9: ROWS_DESCEND}
 
 
 def pages():
     heading("pages")
     keep("no sheets", b"", [], "0 0 0 0 0")
-    keep("no sheets, with words and bytes to spare", b"", [], "0 0 0 0 0", 640, HELD_PAGE)
+    keep("no sheets, with words and bytes to spare", b"", [], "0 0 0 0 0", LENT_WORDS, HELD_PAGE)
     taken("one sheet with a case", [WORKED], "1 1 0 2 / 0 1 0 0 2")
     taken("one sheet that is covered", [COVERED_ONE], "1 0 0 0 / 1 0 0 0 0")
     taken("one sheet without a log", [NO_LOG_ONE], "1 2 0 0 / 0 0 1 0 0")
     taken("one sheet that is refused", [NO_RELATION], "1 9 4 0 / 0 0 0 1 0")
     taken("one of each", [COVERED_ONE, WORKED, NO_LOG_ONE, UNSAFE], "1 0 0 0 / 2 1 0 2 / 3 2 0 0 / 4 9 8 0 / 1 1 1 1 2")
     taken("one of each, the other way round", [UNSAFE, NO_LOG_ONE, WORKED, COVERED_ONE], "1 9 8 0 / 2 2 0 0 / 3 1 0 2 / 4 0 0 0 / 1 1 1 1 2")
-    taken("facts of several cases", [WORKED, SMALL, TWO_TICKS, WORKED], "1 1 0 2 / 2 0 0 0 / 3 1 0 2 / 4 1 0 2 / 1 3 0 0 6")
+    taken("facts of several cases", [WORKED, SMALL, TWO_TICKS, WORKED], "1 1 0 2 / 2 0 0 0 / 3 1 0 4 / 4 1 0 2 / 1 3 0 0 8")
     taken("the last sheet without facts", [WORKED, WORKED, SMALL], "1 1 0 2 / 2 1 0 2 / 3 0 0 0 / 1 2 0 0 4")
-    taken("the largest case", [LARGEST], "1 1 0 126 / 0 1 0 0 126")
-    taken("the largest case between others", [WORKED, LARGEST, NO_LIST], "1 1 0 2 / 2 1 0 126 / 3 9 3 0 / 0 2 0 1 128")
+    taken("the largest case", [LARGEST], "1 1 0 252 / 0 1 0 0 252")
+    taken("the largest case between others", [WORKED, LARGEST, NO_LIST], "1 1 0 2 / 2 1 0 252 / 3 9 3 0 / 0 2 0 1 254")
     sixteen = " / ".join(f"{place} 9 3 0" for place in range(1, 17))
     keep("sixteen refused sheets, all without bytes", b"", [0] * 16, sixteen + " / 0 0 0 16 0")
     taken("sixteen refused sheets", [NO_LIST] * 16, sixteen + " / 0 0 0 16 0")
     taken("sixteen covered sheets", [SMALL] * 16, " / ".join(f"{place} 0 0 0" for place in range(1, 17)) + " / 16 0 0 0 0")
-    taken("sixteen cases", [TWO_TICKS] * 16, " / ".join(f"{place} 1 0 2" for place in range(1, 17)) + " / 0 16 0 0 32")
+    taken("sixteen cases", [TWO_TICKS] * 16, " / ".join(f"{place} 1 0 4" for place in range(1, 17)) + " / 0 16 0 0 64")
     for number, sheet in REFUSALS.items():
         taken(f"a sheet that is refused by {number}, beside one that is not", [SMALL, sheet], f"1 0 0 0 / 2 9 {number} 0 / 1 0 0 1 0")
     high = [sheet_of(raised_lines(read(sheet, MOST_WORDS)[2], 9_999_990)) for sheet in (WORKED, COVERED_ONE, NO_LOG_ONE)]
@@ -127,16 +127,16 @@ def rooms():
         taken(f"sixteen sheets, {room} bytes", [SMALL] * 16, number, None, room)
         taken(f"sixteen refused sheets, {room} bytes", [NO_LIST] * 16, number, None, room)
     heading("lent words, and both")
-    taken("one word short", [WORKED], NO_ROOM, 639)
-    taken("one word short and one byte short", [WORKED], NO_ROOM, 639, 568)
-    taken("one word short of sixteen stretches", [SMALL] * 16, NO_ROOM, 10_239)
-    taken("more words than wanted", [WORKED, SMALL], "1 1 0 2 / 2 0 0 0 / 1 1 0 0 2", 1344)
+    taken("one word short", [WORKED], NO_ROOM, LENT_WORDS - 1)
+    taken("one word short and one byte short", [WORKED], NO_ROOM, LENT_WORDS - 1, 568)
+    taken("one word short of sixteen stretches", [SMALL] * 16, NO_ROOM, 16 * LENT_WORDS - 1)
+    taken("more words than wanted", [WORKED, SMALL], "1 1 0 2 / 2 0 0 0 / 1 1 0 0 2", 2 * LENT_WORDS + 64)
     heading("14 comes first")
     for room in (569, 568, 0):
         keep(f"seventeen sheets, {room} bytes", b"", [0] * 17, WRONG_ENDS, HELD_WORDS, room)
-        keep(f"a last end that is short, {room} bytes", WORKED, [len(WORKED) - 1], WRONG_ENDS, 640, room)
+        keep(f"a last end that is short, {room} bytes", WORKED, [len(WORKED) - 1], WRONG_ENDS, LENT_WORDS, room)
         keep(f"an end that falls back, {room} bytes", WORKED, [len(WORKED), 3, len(WORKED)], WRONG_ENDS, 0, room)
-        keep(f"no sheets, with a byte, {room} bytes", b"\n", [], WRONG_ENDS, 640, room)
+        keep(f"no sheets, with a byte, {room} bytes", b"\n", [], WRONG_ENDS, LENT_WORDS, room)
 
 
 def generated():
