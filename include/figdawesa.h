@@ -1,4 +1,5 @@
-/* Figdawesa from C: sheets read and written, their lines, evaluation, the verdict on cover, and the verdicts of a page's whole set.
+/* Figdawesa from C: sheets read and written, their lines, evaluation, the verdict on cover, the verdicts of a page's whole set, and the
+ * page to print for it.
  *
  * Link target/staticlib/libfigdawesa.a, which `rt staticlib figdawesa` writes, for x86-64 Linux. Of the C library it needs memcpy,
  * memmove and memset, and nothing else. README.md says what a sheet is, docs/PROMISES.md what each call promises.
@@ -8,12 +9,12 @@
  *   - A pointer is followed by its length, which counts elements: bytes for uint8_t, words for int32_t, ends for size_t. The caller sees to it that so
  *     many elements can be read there, and can be written where the pointer is not const. Where a length is 0 the pointer is not used, and
  *     may be null.
- *   - What is written to (`out`) overlaps nothing else that is passed. Inputs may overlap each other; they are never written.
+ *   - What is written to (`out`, `page`) overlaps nothing else that is passed. Inputs may overlap each other; they are never written.
  *   - No length and no content of what is passed is an error of the caller's: the answer is then a refusal.
  *   - A refusal changes nothing. Otherwise the results stand at the front of `out`, and what follows them is as it was. (Of a set each sheet
  *     has a stretch of `out`, of which this holds.)
- *   - Nothing is kept between calls, and nothing is allocated. Threads can call at the same time, each with an `out` of its own.
- *   - Stack: give the thread that calls figdawesa_judge or figdawesa_judge_set 256 KiB or more. No proof speaks of the stack; it is measured.
+ *   - Nothing is kept between calls, and nothing is allocated. Threads can call at the same time, each with an `out` (and `page`) of its own.
+ *   - Stack: give the thread that calls figdawesa_judge, figdawesa_judge_set or figdawesa_judge_day 256 KiB or more. No proof speaks of the stack; it is measured.
  */
 #ifndef FIGDAWESA_H
 #define FIGDAWESA_H
@@ -32,6 +33,7 @@ extern "C" {
 #define FIGDAWESA_WRITE_BYTES 4214 /* the bytes that figdawesa_write wants */
 #define FIGDAWESA_JUDGE_WORDS 1260 /* the words that figdawesa_judge wants, and figdawesa_judge_set for each sheet */
 #define FIGDAWESA_SHEETS 16        /* sheets of a set, at most */
+#define FIGDAWESA_PAGE_BYTES 569   /* the bytes that figdawesa_judge_day wants for the page */
 #define FIGDAWESA_FACTS 256        /* facts given to figdawesa_evaluate, at most */
 #define FIGDAWESA_LINE_WORDS 7     /* a line in the number form: how many fields it has, and the fields, filled up with 0 to six */
 #define FIGDAWESA_FACT_WORDS 5     /* a fact: its relation and its values, filled up with 0 to four */
@@ -66,7 +68,7 @@ enum {
     FIGDAWESA_NO_BLOCK = 10,     /* no such block: line 0 */
     FIGDAWESA_WRONG_FACT = 11,   /* fact words not by fives; a fact that is none by its relation, values or filling: line 0 */
     FIGDAWESA_FACT_ORDER = 12,   /* more than 256 facts, or facts that do not ascend: line 0 */
-    FIGDAWESA_NO_ROOM = 13,      /* `out` is too short: line 0 */
+    FIGDAWESA_NO_ROOM = 13,      /* `out` or `page` is too short: line 0 */
     FIGDAWESA_WRONG_ENDS = 14    /* more than 16 sheets, an end below the one before, a last end that is not the byte count: line 0 */
 };
 
@@ -112,6 +114,12 @@ struct figdawesa_set_outcome {
     struct figdawesa_outcome sheets[FIGDAWESA_SHEETS];
 };
 
+/* The judgements of a set, and how many bytes its page has; 0 where the set is refused. */
+struct figdawesa_day_outcome {
+    struct figdawesa_set_outcome set;
+    size_t bytes;
+};
+
 /* ---- The calls */
 
 /* A sheet's bytes to its number form: `count` lines of seven words at the front of `out`. At most 602 words are written.
@@ -147,6 +155,13 @@ struct figdawesa_outcome figdawesa_judge(const uint8_t *sheet, size_t sheet_byte
  * The set is refused by 14, and then by 13 where out_words is below 1,260 for each sheet. A set of no sheets and no bytes is taken. */
 struct figdawesa_set_outcome figdawesa_judge_set(const uint8_t *bytes, size_t byte_count, const size_t *ends, size_t sheets, int32_t *out,
                                                  size_t out_words);
+
+/* The same, and the page to print for the set: `bytes` bytes at the front of `page`. A line for each sheet has four fields, its place from 1,
+ * its verdict, its refusal's number or 0, and its fact count. A closing line has five: how many sheets had verdict 0, 1, 2 and 9, and the sum
+ * of the fact counts. A field is eight bytes, as in a sheet, and byte 10 closes a line. With n sheets the page has 33 * n + 41 bytes.
+ * Refused by 14, and then by 13 where out_words is below 1,260 for each sheet or page_bytes below 569, however many sheets there are. */
+struct figdawesa_day_outcome figdawesa_judge_day(const uint8_t *bytes, size_t byte_count, const size_t *ends, size_t sheets, int32_t *out,
+                                                 size_t out_words, uint8_t *page, size_t page_bytes);
 
 #ifdef __cplusplus
 }

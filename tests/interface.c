@@ -292,6 +292,48 @@ static void judging_sets(void)
     CHECK(r.number == FIGDAWESA_DONE && r.line == 0 && r.count == 0 && empty_from(&r, 0, FIGDAWESA_DONE));
 }
 
+static struct figdawesa_day_outcome judge_day(const char *sheets, size_t n, const size_t *ends, size_t count, size_t room, size_t page)
+{
+    mark();
+    return figdawesa_judge_day(of(sheets), n, ends, count, lent_words, room, lent_bytes, page);
+}
+
+static int day_sent_back(struct figdawesa_day_outcome r, size_t number)
+{
+    return r.bytes == 0 && sent_back(r.set, number) && bytes_kept(0);
+}
+
+static void judging_days(void)
+{
+    static const int32_t facts[] = {4, 7, 1, 0, 0, 4, 7, 2, 0, 0};
+    static const char sheets[] = NO_SUCH_RELATION SHEET QUESTION LIST VIEW CONTRARY;
+    static const char page[] = "       1       9       4       0\n       2       1       0       2\n       3       0       0       0\n"
+                               "       4       2       0       0\n       1       1       1       1       2\n";
+    static const char none[] = "       0       0       0       0       0\n";
+    const size_t bad = strlen(NO_SUCH_RELATION), whole = bad + strlen(SHEET), covered = whole + strlen(QUESTION LIST VIEW), n = strlen(sheets);
+    const size_t ends[] = {bad, whole, covered, n};
+    const size_t words = 4 * FIGDAWESA_JUDGE_WORDS;
+    size_t many[FIGDAWESA_SHEETS + 1] = {0};
+    struct figdawesa_day_outcome r = judge_day(sheets, n, ends, 4, words, FIGDAWESA_PAGE_BYTES);
+    CHECK(r.set.number == FIGDAWESA_DONE && r.set.line == 0 && r.set.count == 4 && empty_from(&r.set, 4, FIGDAWESA_DONE));
+    CHECK(outcome(r.set.sheets[0], FIGDAWESA_REFUSED, FIGDAWESA_WRONG_COLUMNS, 6, 0, 0, 0));
+    CHECK(outcome(r.set.sheets[1], FIGDAWESA_NOT_COVERED, 0, 0, 2, 7, 1));
+    CHECK(memcmp(lent_words + FIGDAWESA_JUDGE_WORDS, facts, sizeof facts) == 0);
+    CHECK(r.bytes == strlen(page) && memcmp(lent_bytes, page, strlen(page)) == 0 && bytes_kept(strlen(page)));
+    CHECK(day_sent_back(judge_day(sheets, n, ends, 4, words, FIGDAWESA_PAGE_BYTES - 1), FIGDAWESA_NO_ROOM));
+    CHECK(day_sent_back(judge_day(sheets, n, ends, 4, words - 1, ROOM), FIGDAWESA_NO_ROOM));
+    CHECK(day_sent_back(judge_day(sheets, n - 1, ends, 4, words, 0), FIGDAWESA_WRONG_ENDS));
+    CHECK(day_sent_back(judge_day(NULL, 0, NULL, 0, 0, FIGDAWESA_PAGE_BYTES - 1), FIGDAWESA_NO_ROOM));
+    CHECK(day_sent_back(judge_day(NULL, 0, many, FIGDAWESA_SHEETS + 1, ROOM, ROOM), FIGDAWESA_WRONG_ENDS));
+    r = judge_day(NULL, 0, NULL, 0, 0, FIGDAWESA_PAGE_BYTES);
+    CHECK(r.set.number == FIGDAWESA_DONE && r.set.count == 0 && empty_from(&r.set, 0, FIGDAWESA_DONE) && words_kept(0));
+    CHECK(r.bytes == strlen(none) && memcmp(lent_bytes, none, strlen(none)) == 0 && bytes_kept(strlen(none)));
+    r = judge_day(NULL, 0, many, FIGDAWESA_SHEETS, FIGDAWESA_SHEETS * FIGDAWESA_JUDGE_WORDS, FIGDAWESA_PAGE_BYTES);
+    CHECK(r.set.count == FIGDAWESA_SHEETS && r.bytes == FIGDAWESA_PAGE_BYTES && bytes_kept(FIGDAWESA_PAGE_BYTES) && words_kept(0));
+    r = figdawesa_judge_day(NULL, 0, NULL, 0, NULL, 0, NULL, 0);
+    CHECK(r.bytes == 0 && r.set.number == FIGDAWESA_NO_ROOM && empty_from(&r.set, 0, FIGDAWESA_NO_ROOM));
+}
+
 int main(void)
 {
     reading();
@@ -301,6 +343,7 @@ int main(void)
     judging();
     serials();
     judging_sets();
+    judging_days();
     printf("C: %d checks, %d failed\n", checks, failures);
     return failures == 0 ? EXIT_SUCCESS : EXIT_FAILURE;
 }

@@ -1,5 +1,5 @@
-//! Whether a saved list covers a question, judged from the rows of lists alone, for one sheet or a page's whole set; with sheets read and
-//! written, their lines, and evaluation.
+//! Whether a saved list covers a question, judged from the rows of lists alone, for one sheet or a page's whole set, with the page to print
+//! for it; sheets read and written, their lines, and evaluation.
 //!
 //! Each function is a call of the proved library, over slices that the caller lends. `docs/PROMISES.md` says what is proved of it. Every
 //! input is answered: what cannot be taken is [`Refused`], and then nothing lent is changed. Otherwise the results stand at the front
@@ -15,10 +15,12 @@ pub const SHEET_BYTES: usize = 8192;
 pub const READ_WORDS: usize = 602;
 /// The bytes that [`write`] wants.
 pub const WRITE_BYTES: usize = 4214;
-/// The words that [`judge`] wants, and [`judge_set`] for each sheet.
+/// The words that [`judge`] wants, and [`judge_set`] and [`judge_day`] for each sheet.
 pub const JUDGE_WORDS: usize = 1260;
 /// The sheets of a set, at most.
 pub const SHEETS: usize = 16;
+/// The bytes that [`judge_day`] wants for the page.
+pub const PAGE_BYTES: usize = 569;
 /// The facts given to [`evaluate`], at most.
 pub const FACTS: usize = 256;
 /// A line in the number form: how many fields it has, and the fields, filled up with 0 to six.
@@ -74,6 +76,12 @@ mod c {
         pub sheets: [Outcome; super::SHEETS],
     }
 
+    #[repr(C)]
+    pub struct DayOutcome {
+        pub set: SetOutcome,
+        pub bytes: usize,
+    }
+
     extern "C" {
         pub fn figdawesa_read(sheet: *const u8, sheet_bytes: usize, out: *mut i32, out_words: usize) -> Ended;
         pub fn figdawesa_write(words: *const i32, word_count: usize, out: *mut u8, out_bytes: usize) -> Ended;
@@ -96,6 +104,16 @@ mod c {
             out: *mut i32,
             out_words: usize,
         ) -> SetOutcome;
+        pub fn figdawesa_judge_day(
+            bytes: *const u8,
+            byte_count: usize,
+            ends: *const usize,
+            sheets: usize,
+            out: *mut i32,
+            out_words: usize,
+            page: *mut u8,
+            page_bytes: usize,
+        ) -> DayOutcome;
     }
 }
 
@@ -298,10 +316,15 @@ pub fn judge<'a>(sheet: &[u8], out: &'a mut [i32]) -> Result<Verdict<'a>, Refuse
 pub fn judge_set<'a>(bytes: &[u8], ends: &[usize], out: &'a mut [i32]) -> Result<Vec<Result<Verdict<'a>, Refused>>, Refused> {
     // SAFETY: each pointer is valid for its length, and the lent one is not shared.
     let set = unsafe { c::figdawesa_judge_set(bytes.as_ptr(), bytes.len(), ends.as_ptr(), ends.len(), out.as_mut_ptr(), out.len()) };
+    set_judged(set, out)
+}
+
+/// The judgements of a set as C has them, with the words that were lent for it.
+fn set_judged(set: c::SetOutcome, lent: &[i32]) -> Result<Vec<Result<Verdict<'_>, Refused>>, Refused> {
     if set.number != 0 {
         return Err(refused(set.number, set.line));
     }
-    let stretches = out.chunks(JUDGE_WORDS);
+    let stretches = lent.chunks(JUDGE_WORDS);
     Ok(set
         .sheets
         .into_iter()
@@ -309,4 +332,30 @@ pub fn judge_set<'a>(bytes: &[u8], ends: &[usize], out: &'a mut [i32]) -> Result
         .zip(stretches)
         .map(|(outcome, lent)| judged(outcome, lent))
         .collect())
+}
+
+/// A set's judgements, and the page to print for it.
+pub type Day<'a> = (Vec<Result<Verdict<'a>, Refused>>, &'a [u8]);
+
+/// The judgement of each sheet as [`judge_set`] gives it, and the page to print for the set: a line for each sheet, with its place from 1, its
+/// verdict or 9, its refusal's number or 0, and its fact count; and a closing line, with how many had 0, 1, 2 and 9, and the sum of the fact
+/// counts. Fields have eight bytes, as in a sheet, and byte 10 closes a line.
+///
+/// Refused by 14, and then by 13 where fewer than [`JUDGE_WORDS`] words are lent for each sheet, or fewer than [`PAGE_BYTES`] bytes for the
+/// page, however many sheets there are.
+pub fn judge_day<'a>(bytes: &[u8], ends: &[usize], out: &'a mut [i32], page: &'a mut [u8]) -> Result<Day<'a>, Refused> {
+    // SAFETY: each pointer is valid for its length, and the lent ones are not shared.
+    let day = unsafe {
+        c::figdawesa_judge_day(
+            bytes.as_ptr(),
+            bytes.len(),
+            ends.as_ptr(),
+            ends.len(),
+            out.as_mut_ptr(),
+            out.len(),
+            page.as_mut_ptr(),
+            page.len(),
+        )
+    };
+    Ok((set_judged(day.set, out)?, &page[..day.bytes]))
 }

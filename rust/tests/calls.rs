@@ -190,6 +190,40 @@ fn judges_sets() {
 }
 
 #[test]
+fn judges_days() {
+    let sheets = [
+        whole(),
+        sheet(&[QUESTION, LIST, NO_SUCH_RELATION]),
+        sheet(&[QUESTION, LIST, VIEW]),
+        sheet(&[QUESTION, LIST, CONTRARY]),
+    ];
+    let bytes = sheets.concat();
+    let ends: Vec<usize> = (1..=sheets.len()).map(|n| sheets[..n].concat().len()).collect();
+    let mut room = [MARK; 4 * JUDGE_WORDS];
+    let mut page = [b'~'; PAGE_BYTES + 1];
+    let short = &mut [b'~'; PAGE_BYTES - 1];
+    assert_eq!(judge_day(&bytes, &ends, &mut room, short), refused(Cause::NoRoom, 0));
+    assert_eq!(judge_day(&[], &[], &mut [], short), refused(Cause::NoRoom, 0));
+    assert_eq!(judge_day(&bytes[1..], &ends, &mut room, short), refused(Cause::WrongEnds, 0));
+    assert_eq!(judge_day(&bytes, &ends, &mut room[1..], &mut page), refused(Cause::NoRoom, 0));
+    assert!(room.iter().all(|&word| word == MARK) && page.iter().chain(&*short).all(|&byte| byte == b'~'));
+    let none = "       0       0       0       0       0\n";
+    assert_eq!(judge_day(&[], &[], &mut [], &mut page), Ok((vec![], none.as_bytes())));
+    let lines = [
+        "       1       1       0       2\n",
+        "       2       9       4       0\n",
+        "       3       0       0       0\n",
+        "       4       2       0       0\n",
+        "       1       1       1       1       2\n",
+    ];
+    let mut alone = [MARK; 4 * JUDGE_WORDS];
+    let set = judge_set(&bytes, &ends, &mut alone).unwrap();
+    assert_eq!(judge_day(&bytes, &ends, &mut room, &mut page), Ok((set, lines.concat().as_bytes())));
+    assert_eq!(room, alone);
+    assert!(page[4 * 33 + 41..].iter().all(|&byte| byte == b'~'));
+}
+
+#[test]
 fn causes_have_their_numbers() {
     for (at, cause) in Cause::ALL.iter().enumerate() {
         assert_eq!(cause.number(), at + 1);

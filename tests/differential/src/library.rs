@@ -35,6 +35,12 @@ mod c {
         pub sheets: [Outcome; super::SHEETS],
     }
 
+    #[repr(C)]
+    pub struct DayOutcome {
+        pub set: SetOutcome,
+        pub bytes: usize,
+    }
+
     extern "C" {
         pub fn figdawesa_read(sheet: *const u8, sheet_bytes: usize, out: *mut i32, out_words: usize) -> Ended;
         pub fn figdawesa_write(words: *const i32, word_count: usize, out: *mut u8, out_bytes: usize) -> Ended;
@@ -57,6 +63,16 @@ mod c {
             out: *mut i32,
             out_words: usize,
         ) -> SetOutcome;
+        pub fn figdawesa_judge_day(
+            bytes: *const u8,
+            byte_count: usize,
+            ends: *const usize,
+            sheets: usize,
+            out: *mut i32,
+            out_words: usize,
+            page: *mut u8,
+            page_bytes: usize,
+        ) -> DayOutcome;
     }
 }
 
@@ -197,6 +213,18 @@ pub fn judge(sheet: &[u8], out: &mut Lent<i32>) -> Judgement {
 pub fn judge_set(bytes: &[u8], ends: &[usize], out: &mut Lent<i32>) -> Set {
     let words = out.length();
     let call = || unsafe { c::figdawesa_judge_set(pointer(bytes), bytes.len(), pointer(ends), ends.len(), out.pointer(), words) };
-    let set = kept(bytes, || kept(ends, call));
+    set(kept(bytes, || kept(ends, call)))
+}
+
+fn set(set: c::SetOutcome) -> Set {
     Set { number: set.number, line: set.line, count: set.count, sheets: set.sheets.iter().map(judgement).collect() }
+}
+
+/// The judgements of a set, and how many bytes its page has.
+pub fn judge_day(bytes: &[u8], ends: &[usize], out: &mut Lent<i32>, page: &mut Lent<u8>) -> (Set, usize) {
+    let (words, room) = (out.length(), page.length());
+    let (given, marks) = (pointer(bytes), pointer(ends));
+    let call = || unsafe { c::figdawesa_judge_day(given, bytes.len(), marks, ends.len(), out.pointer(), words, page.pointer(), room) };
+    let day = kept(bytes, || kept(ends, call));
+    (set(day.set), day.bytes)
 }

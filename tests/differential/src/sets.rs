@@ -11,6 +11,9 @@ use std::time::Instant;
 
 const STRETCH: usize = 1_260;
 
+/// The bytes that a page wants.
+const PAGE: usize = 569;
+
 /// How many sheets: few, so that a run of many sets ends, and sometimes as many as there may be and one more.
 fn how_many(random: &mut Random) -> usize {
     match random.below(40) {
@@ -99,6 +102,36 @@ fn check_set(bytes: &[u8], ends: &[usize], told: &Set, out: &Lent<i32>, drawn: &
     Ok(())
 }
 
+/// The page for these judgements.
+fn page_of(sheets: &[Judgement]) -> Vec<u8> {
+    let line = |fields: &[usize]| fields.iter().map(|n| format!("{n:>8}")).collect::<String>() + "\n";
+    let had = |verdict| sheets.iter().filter(|j| j.verdict == verdict).count();
+    let lines = sheets.iter().enumerate().map(|(at, j)| line(&[at + 1, j.verdict, j.number, j.count]));
+    let last = line(&[had(0), had(1), had(2), had(9), sheets.iter().map(|j| j.count).sum()]);
+    (lines.collect::<String>() + &last).into_bytes()
+}
+
+/// Whether the set with a page gets what it got without, and the page; or neither, where too few bytes are lent.
+fn check_day(random: &mut Random, bytes: &[u8], ends: &[usize], told: &Set, out: &Lent<i32>) -> Result<(), String> {
+    let mut page = Lent::new(random.pick(&[PAGE, PAGE, PAGE, PAGE + 9, PAGE - 1, 41, 0]), random, |n| n as u8);
+    let mut words = out.as_it_was();
+    let (day, count) = library::judge_day(bytes, ends, &mut words, &mut page);
+    let short = page.length() < PAGE && told.number == 0;
+    let right = if short {
+        let sent = (day.number, day.line, day.count, count) == (13, 0, 0, 0);
+        sent && day.sheets.iter().all(|place| *place == unjudged(13)) && words.is(&[]) && page.is(&[])
+    } else {
+        let paper = if told.number == 0 { page_of(&told.sheets[..told.count]) } else { vec![] };
+        let same = (day.number, day.line, day.count, &day.sheets) == (told.number, told.line, told.count, &told.sheets);
+        same && words.after() == out.after() && words.is_kept_from(told.count * STRETCH) && page.is(&paper) && count == paper.len()
+    };
+    if right {
+        Ok(())
+    } else {
+        Err(format!("with {} bytes for a page: {day:?}, {count} bytes, page \"{}\"", page.length(), page.after().escape_ascii()))
+    }
+}
+
 pub fn judge_set(random: &mut Random, show: bool) -> Outcome {
     let drawn: Vec<compare::Drawn> = (0..how_many(random)).map(|_| compare::to_judge(random)).collect();
     let sheets: Vec<Vec<u8>> = drawn.iter().map(|d| if random.percent(4) { vec![] } else { d.1.clone() }).collect();
@@ -109,7 +142,7 @@ pub fn judge_set(random: &mut Random, show: bool) -> Outcome {
     let start = Instant::now();
     let told = library::judge_set(&bytes, &ends, &mut out);
     let took = start.elapsed();
-    let found = check_set(&bytes, &ends, &told, &out, &drawn);
+    let found = check_set(&bytes, &ends, &told, &out, &drawn).and_then(|_| check_day(random, &bytes, &ends, &told, &out));
     let text = || {
         let found = found.as_ref().err().map_or("the same", |e| e);
         format!("bytes b\"{}\"\nends {ends:?}\nlent {length}\nlibrary: {told:?}\nfound: {found}", bytes.escape_ascii())
