@@ -29,8 +29,8 @@ extern "C" {
 /* ---- Sizes */
 
 #define FIGDAWESA_SHEET_BYTES 8192 /* a sheet's bytes, at most */
-#define FIGDAWESA_READ_WORDS 602   /* the words that figdawesa_read wants, and the number form's words, at most */
-#define FIGDAWESA_WRITE_BYTES 4214 /* the bytes that figdawesa_write wants */
+#define FIGDAWESA_READ_WORDS 749   /* the words that figdawesa_read wants, and the number form's words, at most */
+#define FIGDAWESA_WRITE_BYTES 5243 /* the bytes that figdawesa_write wants */
 #define FIGDAWESA_JUDGE_WORDS 1260 /* the words that figdawesa_judge wants, and figdawesa_judge_set for each sheet */
 #define FIGDAWESA_SHEETS 16        /* sheets of a set, at most */
 #define FIGDAWESA_PAGE_BYTES 569   /* the bytes that figdawesa_judge_day wants for the page */
@@ -56,13 +56,13 @@ extern "C" {
 
 enum {
     FIGDAWESA_DONE = 0,          /* nothing is refused */
-    FIGDAWESA_TOO_LONG = 1,      /* a sheet over 8,192 bytes, a number form over 602 words: line 0 */
+    FIGDAWESA_TOO_LONG = 1,      /* a sheet over 8,192 bytes, a number form over 749 words: line 0 */
     FIGDAWESA_MALFORMED = 2,     /* a line or a field that is malformed, an unclosed last line: its line; words not by sevens: line 0 */
-    FIGDAWESA_MISPLACED = 3,     /* no kind, out of place, or a wrong field count: its line; question or list missing: line 0 */
+    FIGDAWESA_MISPLACED = 3,     /* no kind, out of place, or a wrong field count: its line; question or lists missing: line 0 */
     FIGDAWESA_WRONG_COLUMNS = 4, /* no such relation, or its columns not met: the atom's line */
     FIGDAWESA_OUT_OF_RANGE = 5,  /* a term out of range, a variable in a row: its line */
-    FIGDAWESA_TOO_MANY = 6,      /* more atoms, views or rows than there may be: the line of the first beyond */
-    FIGDAWESA_WRONG_LENGTH = 7,  /* the list's head unlike the question's in length, or a row unlike its head: its line */
+    FIGDAWESA_TOO_MANY = 6,      /* more atoms, lists, views or rows than there may be: the line of the first beyond */
+    FIGDAWESA_WRONG_LENGTH = 7,  /* a list's head unlike the question's in length, or a row unlike its head: its line */
     FIGDAWESA_UNSAFE_HEAD = 8,   /* a block without atoms, or with a variable that only its head has: the head's line */
     FIGDAWESA_NOT_ABOVE = 9,     /* a row that is not above the one before: its line */
     FIGDAWESA_NO_BLOCK = 10,     /* no such block: line 0 */
@@ -88,14 +88,14 @@ struct figdawesa_stretch {
 /* ---- Verdicts */
 
 enum {
-    FIGDAWESA_COVERED = 0,     /* some log gives exactly the listed rows, and each such log gives the list every answer of the question */
-    FIGDAWESA_NOT_COVERED = 1, /* some such log gives the question an answer that it does not give the list */
+    FIGDAWESA_COVERED = 0,     /* some log gives exactly the listed rows, and each such log gives some list each answer of the question */
+    FIGDAWESA_NOT_COVERED = 1, /* some such log gives the question an answer that it gives no list */
     FIGDAWESA_NO_LOG = 2,      /* no log gives exactly the listed rows */
     FIGDAWESA_REFUSED = 9      /* the sheet is sent back, by number and line */
 };
 
 /* A judgement. Number and line are 0 unless the verdict is 9. Count and missing are 0 unless the verdict is 1: then `count` facts stand in
- * `out`, and `missing` is the least of the question's answers that the list lacks there, filled up with 0 to four numbers. */
+ * `out`, and `missing` is the least of the question's answers that every list lacks there, filled up with 0 to four numbers. */
 struct figdawesa_outcome {
     size_t verdict;
     size_t number;
@@ -122,12 +122,12 @@ struct figdawesa_day_outcome {
 
 /* ---- The calls */
 
-/* A sheet's bytes to its number form: `count` lines of seven words at the front of `out`. At most 602 words are written.
- * Refused by 1 to 9, and then by 13 where out_words is below 602, however short the sheet is. */
+/* A sheet's bytes to its number form: `count` lines of seven words at the front of `out`. At most 749 words are written.
+ * Refused by 1 to 9, and then by 13 where out_words is below 749, however short the sheet is. */
 struct figdawesa_ended figdawesa_read(const uint8_t *sheet, size_t sheet_bytes, int32_t *out, size_t out_words);
 
-/* A number form to its sheet's bytes: `count` bytes at the front of `out`. At most 4,214 bytes are written.
- * Refused by 1 to 9, and then by 13 where out_bytes is below 4,214, however short the form is. */
+/* A number form to its sheet's bytes: `count` bytes at the front of `out`. At most 5,243 bytes are written.
+ * Refused by 1 to 9, and then by 13 where out_bytes is below 5,243, however short the form is. */
 struct figdawesa_ended figdawesa_write(const int32_t *words, size_t word_count, uint8_t *out, size_t out_bytes);
 
 /* Where line `number`, counted from 1, stands in the sheet: its own bytes, without the byte 10 that closes it. Start and length are 0
@@ -135,13 +135,13 @@ struct figdawesa_ended figdawesa_write(const int32_t *words, size_t word_count, 
 struct figdawesa_stretch figdawesa_line(const uint8_t *sheet, size_t sheet_bytes, size_t number);
 
 /* The answers that given facts give a block of the sheet: `count` answers of four words at the front of `out`, ascending, each once, and
- * no others. Block 1 is the question, 2 the list, 2 + n view n. Facts ascend, each once, with values from 0 to 10,000,999.
+ * no others. Block 1 is the question, then come the lists, then the views. Facts ascend, each once, with values from 0 to 10,000,999.
  * Refused by 1 to 9, then by 10, then by 11 and 12, and then by 13 exactly where the answers do not fit. */
 struct figdawesa_ended figdawesa_evaluate(const uint8_t *sheet, size_t sheet_bytes, size_t block, const int32_t *facts, size_t fact_words,
                                           int32_t *out, size_t out_words);
 
-/* Whether the sheet's list covers its question. Verdicts 0 and 2 write nothing. Verdict 1 writes `count` facts of five words at the front
- * of `out`, ascending, each once: a log that gives exactly the listed rows, shows that the list does not cover, and has no fact to spare.
+/* Whether the sheet's lists, one to four, together cover its question. Verdicts 0 and 2 write nothing. Verdict 1 writes `count` facts of
+ * five words at the front of `out`, ascending, each once: a log that gives exactly the listed rows, shows that the lists do not cover, and has no fact to spare.
  * Only logs count in which relation 4 (Sig) has each row of relations 5 (Beat) and 6 (Noise); figdawesa_evaluate does not ask for these rows.
  * There are at most 252 of them, so at most 1,260 words are written; their values are numbers of the sheet, or made up from 10,000,000 to
  * 10,000,999.

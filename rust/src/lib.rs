@@ -1,4 +1,4 @@
-//! Whether a saved list covers a question, judged from the rows of lists alone, for one sheet or a page's whole set, with the page to print
+//! Whether saved lists cover a question, judged from the rows of lists alone, for one sheet or a page's whole set, with the page to print
 //! for it; sheets read and written, their lines, and evaluation.
 //!
 //! Each function is a call of the proved library, over slices that the caller lends. `docs/PROMISES.md` says what is proved of it. Every
@@ -12,9 +12,9 @@ use std::fmt;
 /// A sheet's bytes, at most.
 pub const SHEET_BYTES: usize = 8192;
 /// The words that [`read`] wants, and the number form's words, at most.
-pub const READ_WORDS: usize = 602;
+pub const READ_WORDS: usize = 749;
 /// The bytes that [`write`] wants.
-pub const WRITE_BYTES: usize = 4214;
+pub const WRITE_BYTES: usize = 5243;
 /// The words that [`judge`] wants, and [`judge_set`] and [`judge_day`] for each sheet.
 pub const JUDGE_WORDS: usize = 1260;
 /// The sheets of a set, at most.
@@ -120,7 +120,7 @@ mod c {
 /// Why something is sent back, by its number.
 #[derive(Clone, Copy, Debug, PartialEq, Eq, Hash)]
 pub enum Cause {
-    /// A sheet over 8,192 bytes, a number form over 602 words.
+    /// A sheet over 8,192 bytes, a number form over 749 words.
     TooLong = 1,
     /// A line or a field that is malformed, an unclosed last line, words not by sevens.
     Malformed = 2,
@@ -130,9 +130,9 @@ pub enum Cause {
     WrongColumns = 4,
     /// A term out of range, a variable in a row.
     OutOfRange = 5,
-    /// More atoms, views or rows than there may be.
+    /// More atoms, lists, views or rows than there may be.
     TooMany = 6,
-    /// The list's head unlike the question's in length, or a row unlike its head.
+    /// A list's head unlike the question's in length, or a row unlike its head.
     WrongLength = 7,
     /// A block without atoms, or with a variable that only its head has.
     UnsafeHead = 8,
@@ -180,7 +180,7 @@ impl Cause {
             Cause::Misplaced => "out of place, or a question or a list is missing",
             Cause::WrongColumns => "no such relation, or not its columns",
             Cause::OutOfRange => "a term out of range",
-            Cause::TooMany => "more atoms, views or rows than there may be",
+            Cause::TooMany => "more atoms, lists, views or rows than there may be",
             Cause::WrongLength => "lengths differ",
             Cause::UnsafeHead => "a block without atoms, or a head variable in none of them",
             Cause::NotAbove => "a row that is not above the one before",
@@ -227,9 +227,9 @@ fn counted(ended: c::Ended) -> Result<usize, Refused> {
 /// What is judged of a sheet that is not refused.
 #[derive(Clone, Copy, Debug, PartialEq, Eq)]
 pub enum Verdict<'a> {
-    /// Some log gives exactly the listed rows, and each such log gives the list every answer that it gives the question.
+    /// Some log gives exactly the listed rows, and each such log gives some list each answer that it gives the question.
     Covered,
-    /// The facts are a log that gives exactly the listed rows, and gives the question the missing answer and not the list.
+    /// The facts are a log that gives exactly the listed rows, and gives the question the missing answer and no list.
     NotCovered {
         /// The least missing answer: unused numbers are 0.
         missing: [usize; ANSWER_WORDS],
@@ -265,7 +265,7 @@ pub fn line(sheet: &[u8], number: usize) -> &[u8] {
     &sheet[part.start..part.start + part.length]
 }
 
-/// The answers that facts give a block, four words for each, ascending, each once: 1 the question, 2 the list, 2 + n view n.
+/// The answers that facts give a block, four words for each, ascending, each once: 1 the question, then the lists, then the views.
 ///
 /// Facts ascend, each once, with values from 0 to 10,000,999. Refused by 1 to 9, then by 10, then by 11 and 12, and then by 13 exactly
 /// where the answers do not fit.
@@ -299,7 +299,7 @@ fn judged(outcome: c::Outcome, lent: &[i32]) -> Result<Verdict<'_>, Refused> {
     }
 }
 
-/// Whether the sheet's list covers its question.
+/// Whether the sheet's lists, one to four, together cover its question.
 ///
 /// Refused by 1 to 9, and then by 13 where fewer than [`JUDGE_WORDS`] are lent, whatever the verdict would be.
 pub fn judge<'a>(sheet: &[u8], out: &'a mut [i32]) -> Result<Verdict<'a>, Refused> {

@@ -115,7 +115,7 @@ fn ended<T: Copy + PartialEq + std::fmt::Debug>(
 
 fn read(random: &mut Random, show: bool) -> Outcome {
     let (name, bytes) = generate::sheet(random);
-    let mut out = Lent::new(lent(random, 602), random, word);
+    let mut out = Lent::new(lent(random, 749), random, word);
     let told = library::read(&bytes, &mut out);
     let ours = sheet::read(&bytes, out.length());
     ended((name, &|| format!("sheet b\"{}\"", bytes.escape_ascii())), told, &out, ours, 7, show)
@@ -123,7 +123,7 @@ fn read(random: &mut Random, show: bool) -> Outcome {
 
 fn write(random: &mut Random, show: bool) -> Outcome {
     let (name, words) = generate::form(random);
-    let mut out = Lent::new(lent(random, 4214), random, byte);
+    let mut out = Lent::new(lent(random, 5243), random, byte);
     let told = library::write(&words, &mut out);
     let ours = sheet::write(&words, out.length());
     ended((name, &|| format!("words {words:?}")), told, &out, ours, 1, show)
@@ -141,7 +141,7 @@ fn line(random: &mut Random, show: bool) -> Outcome {
         1 => closed + 1,
         2 => closed + 2,
         3 => closed,
-        4 => random.pick(&[usize::MAX, 1 << 32, 1 << 63, 87]),
+        4 => random.pick(&[usize::MAX, 1 << 32, 1 << 63, 108]),
         _ => random.between(1, closed.max(1)),
     };
     let told = library::line(&bytes, number);
@@ -291,7 +291,17 @@ fn judge(random: &mut Random, show: bool) -> Outcome {
         if right.len() == 1 {
             limits = full::met(taken);
         }
-        let alone = sheet::Sheet { blocks: taken.blocks[..2].to_vec() };
+        let alone = taken.without_views();
+        let one = |at: usize| sheet::Sheet { blocks: [&taken.blocks[..1], &taken.lists()[at..=at], taken.views()].concat() };
+        if told.verdict == 0 && taken.lists().len() > 1 {
+            let each: Result<Vec<_>, String> = (0..taken.lists().len()).map(|at| large::verdict(&one(at), SECOND_STEPS)).collect();
+            if each?.into_iter().all(|verdict| verdict == Some(1)) {
+                notes.push("0 that is 1 with each list alone");
+            }
+        }
+        if told.verdict == 1 && taken.lists().len() > 1 {
+            notes.push("1 with several lists");
+        }
         if told.verdict == 0 && large::verdict(&alone, SECOND_STEPS)? == Some(1) {
             notes.push("0 that is 1 without the views");
         }
@@ -368,7 +378,8 @@ fn forgotten(mut sheet: sheet::Sheet) -> sheet::Sheet {
         }
     };
     if is(Slip::EighthViewForgotten) {
-        sheet.blocks.truncate(9);
+        let most = sheet.first_view() + 7;
+        sheet.blocks.truncate(most);
     }
     if is(Slip::FortiethRowForgotten) && sheet.views().iter().map(|v| v.rows.len()).sum::<usize>() == 40 {
         sheet.blocks.iter_mut().rev().find(|b| !b.rows.is_empty()).unwrap().rows.pop();
@@ -377,10 +388,12 @@ fn forgotten(mut sheet: sheet::Sheet) -> sheet::Sheet {
         cut(&mut sheet.blocks[0], 5);
     }
     if is(Slip::SixthListAtomForgotten) {
-        cut(&mut sheet.blocks[1], 5);
+        let end = sheet.first_view();
+        sheet.blocks[1..end].iter_mut().for_each(|list| cut(list, 5));
     }
     if is(Slip::ThirdViewAtomForgotten) {
-        sheet.blocks[2..].iter_mut().for_each(|view| cut(view, 2));
+        let from = sheet.first_view();
+        sheet.blocks[from..].iter_mut().for_each(|view| cut(view, 2));
     }
     sheet
 }

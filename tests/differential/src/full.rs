@@ -1,11 +1,12 @@
 //! Sheets to judge up to every limit, many of them exactly at one, and which limits a sheet meets.
 
-use crate::generate::{any, atom, closed, facts, head, list_like, taken, Lines, Stock};
+use crate::generate::{any, atom, closed, facts, head, list_like, part, taken, Lines, Stock};
 use crate::large::{answers, Steps};
 use crate::meaning::Fact;
 use crate::random::Random;
 use crate::sheet::{Block, Sheet, COLUMNS, MOST_CONSTANT};
 
+const LISTS: usize = 4;
 const VIEWS: usize = 8;
 const ROWS: usize = 40;
 const ASKED: usize = 6;
@@ -13,16 +14,18 @@ const VIEWED: usize = 3;
 const VARIABLES: usize = 12;
 const COLUMNS_ASKED: usize = 4;
 
-/// The limits that are counted, and five of them at once.
-pub const LIMITS: [&str; 9] = [
+/// The limits that are counted, and five or six of them at once.
+pub const LIMITS: [&str; 11] = [
+    "4 lists",
     "8 views",
     "40 rows",
     "40 rows in one view",
     "6 atoms in the question",
-    "6 atoms in the list",
+    "6 atoms in every list",
     "3 atoms in every view",
     "4 columns in question and list",
     "8 views, 40 rows, 6 and 6 atoms, 3 in every view",
+    "107 lines",
     "12 variables in a block",
 ];
 
@@ -39,9 +42,11 @@ pub fn met(sheet: &Sheet) -> Vec<&'static str> {
     let rows = |view: &Block| view.rows.len();
     let eight = views.len() == VIEWS;
     let forty = views.iter().map(rows).sum::<usize>() == ROWS;
-    let (question, list) = (sheet.question().atoms.len() == ASKED, sheet.list().atoms.len() == ASKED);
+    let four = sheet.lists().len() == LISTS;
+    let (question, list) = (sheet.question().atoms.len() == ASKED, sheet.lists().iter().all(|list| list.atoms.len() == ASKED));
     let three = !views.is_empty() && views.iter().all(|view| view.atoms.len() == VIEWED);
     let holds = [
+        four,
         eight,
         forty,
         views.iter().map(rows).max() == Some(ROWS),
@@ -50,6 +55,7 @@ pub fn met(sheet: &Sheet) -> Vec<&'static str> {
         three,
         sheet.question().head.len() == COLUMNS_ASKED,
         eight && forty && question && list && three,
+        four && eight && forty && question && list && three,
         sheet.blocks.iter().any(|block| variables(block) == VARIABLES),
     ];
     LIMITS.into_iter().zip(holds).filter(|(_, holds)| *holds).map(|(name, _)| name).collect()
@@ -191,16 +197,24 @@ fn drawn(random: &mut Random) -> Option<Lines> {
     let columns = if random.percent(15) { COLUMNS_ASKED } else { random.pick(&[0, 1, 1, 2]) };
     let question = [vec![head(random, &wide, 1, columns, &asked)], asked].concat();
     let wanted = size(random, full, 50, 1, ASKED);
-    let mut list = if random.percent(75) { list_like(random, &wide, &question) } else { linked(random, &wide, 2, columns, wanted) };
-    // The list wants more than the question, so that rows decide.
-    if list.len() < 1 + ASKED && random.percent(60) {
-        list.push(random.pick(&atoms));
+    let mut lists = Lines::new();
+    for _ in 0..if full { random.pick(&[1, LISTS]) } else { random.pick(&[1, 1, 2, 3, LISTS]) } {
+        let mut list = match random.below(4) {
+            0 => linked(random, &wide, 2, columns, wanted),
+            1 => part(random, &values, &question),
+            _ => list_like(random, &wide, &question),
+        };
+        // The list wants more than the question, so that rows decide.
+        if list.len() < 1 + ASKED && random.percent(60) {
+            list.push(random.pick(&atoms));
+        }
+        while full && list.len() < 1 + ASKED {
+            let again = random.between(1, list.len() - 1);
+            list.push(if random.percent(70) { list[again].clone() } else { random.pick(&atoms) });
+        }
+        lists.extend(list);
     }
-    while full && list.len() < 1 + ASKED {
-        let again = random.between(1, list.len() - 1);
-        list.push(if random.percent(70) { list[again].clone() } else { random.pick(&atoms) });
-    }
-    let lines = [question, list, shown].concat();
+    let lines = [question, lists, shown].concat();
     taken(&lines).map(|_| lines)
 }
 
@@ -229,15 +243,18 @@ fn largest(random: &mut Random) -> Lines {
     let asked: Lines =
         rest[..ASKED].iter().map(|r| [4, *r as i64].into_iter().chain((0..COLUMNS[*r]).map(|_| term(random, 60))).collect()).collect();
     let question = [vec![vec![1]], asked].concat();
-    let mut list = question.clone();
-    list[0][0] = 2;
-    // The list wants a number that the question does not, or no more than the question.
-    let at = random.between(1, ASKED);
-    if random.percent(80) {
-        let place = random.between(2, list[at].len() - 1);
-        list[at][place] = 500 + random.below(5) as i64;
+    let mut lines = question.clone();
+    for _ in 0..random.pick(&[1, 1, 2, LISTS]) {
+        let mut list = question.clone();
+        list[0][0] = 2;
+        // The list wants a number that the question does not, or no more than the question.
+        let at = random.between(1, ASKED);
+        if random.percent(85) {
+            let place = random.between(2, list[at].len() - 1);
+            list[at][place] = 500 + random.below(5) as i64;
+        }
+        lines.extend(list);
     }
-    let mut lines = [question, list].concat();
     let (mut left, mut shift) = (ROWS, 1);
     for view in 0..VIEWS {
         let count = if view + 1 == VIEWS { left } else { random.below(left.min(11) + 1) };

@@ -91,17 +91,19 @@ fn rows(random: &mut Random, stock: &Stock, columns: usize, count: usize) -> Lin
     rows
 }
 
-/// Sizes of a sheet's parts: atoms of question and list, then for each view its atoms and rows.
+/// Sizes of a sheet's parts: atoms of the question and of each list, then for each view its columns, atoms and rows.
 struct Sizes {
     columns: usize,
     question: usize,
-    list: usize,
+    lists: Vec<usize>,
     views: Vec<(usize, usize, usize)>,
 }
 
 fn built(random: &mut Random, stock: &Stock, sizes: &Sizes) -> Lines {
     let mut lines = block(random, stock, 1, sizes.columns, sizes.question);
-    lines.extend(block(random, stock, 2, sizes.columns, sizes.list));
+    for atoms in &sizes.lists {
+        lines.extend(block(random, stock, 2, sizes.columns, *atoms));
+    }
     for &(columns, atoms, count) in &sizes.views {
         lines.extend(block(random, stock, 3, columns, atoms));
         lines.extend(rows(random, stock, columns, count));
@@ -172,7 +174,7 @@ fn within(random: &mut Random) -> Lines {
     let sizes = Sizes {
         columns: random.below(5),
         question: random.between(1, 6),
-        list: random.between(1, 6),
+        lists: (0..random.pick(&[1, 1, 1, 2, 3, 4])).map(|_| random.between(1, 6)).collect(),
         views: (0..views)
             .map(|_| {
                 let count = random.pick(&[0, 1, 2, 3, 5, 12]).min(left);
@@ -191,7 +193,9 @@ pub fn at_limits(random: &mut Random) -> Lines {
     let more = |which: usize| (over == which) as usize;
     let views = random.pick(&[8, 8, 8, 1]) + more(0);
     let mut left = random.pick(&[40, 40, 39]) + more(1);
-    let mut sizes = Sizes { columns: 4 + more(2), question: 6 + more(3), list: 6 + more(4), views: vec![] };
+    let lists = if over == 15 { 5 } else { random.pick(&[4, 4, 1]) };
+    let mut sizes = Sizes { columns: 4 + more(2), question: 6 + more(3), lists: vec![6; lists], views: vec![] };
+    *sizes.lists.last_mut().unwrap() += more(4);
     let over_view = random.below(views);
     for view in 0..views {
         let last = view + 1 == views;
@@ -213,6 +217,16 @@ pub fn at_limits(random: &mut Random) -> Lines {
     if over == 14 {
         let at = random.below(lines.len());
         lines[at].resize(6 + random.below(2), 0);
+    }
+    // A fifth list may have other causes besides, and a list may come too late.
+    if over == 15 && random.percent(50) {
+        let at = lines.iter().rposition(|line| line[0] == 2).unwrap();
+        lines[at].push(random.pick(&[7, -13, 10_000_000]));
+    }
+    if over == 16 {
+        let list = block(random, &stock, 2, sizes.columns, 2);
+        let at = if random.percent(50) { lines.len() } else { lines.iter().position(|line| line[0] == 3).unwrap() + 4 };
+        lines.splice(at..at, list);
     }
     lines
 }
@@ -414,7 +428,7 @@ pub fn sheet(random: &mut Random) -> (&'static str, Vec<u8>) {
             let mut bytes = bytes_of(&right(random));
             let fill = random.pick(&[10u8, 32, 48, 255]);
             let again = random.percent(50);
-            let length = random.pick(&[8191, 8192, 8192, 8193, 8193, 8194, 9000, 4214, 4215]);
+            let length = random.pick(&[8191, 8192, 8192, 8193, 8193, 8194, 9000, 5243, 5244]);
             for at in bytes.len()..length {
                 bytes.push(if again { bytes[at % bytes.len()] } else { fill });
             }
@@ -455,8 +469,21 @@ pub fn form(random: &mut Random) -> (&'static str, Vec<i32>) {
         }
         16 | 17 => {
             let mut words = crate::sheet::words_of(&if random.percent(50) { right(random) } else { at_limits(random) });
-            let length =
-                random.pick(&[words.len() - 1, words.len() + 1, words.len() - 6, words.len() + 6, 601, 602, 603, 609, 608, 595, 1204]);
+            let length = random.pick(&[
+                words.len() - 1,
+                words.len() + 1,
+                words.len() - 6,
+                words.len() + 6,
+                602,
+                609,
+                748,
+                749,
+                750,
+                756,
+                755,
+                742,
+                1498,
+            ]);
             words.resize(length, random.pick(&[0, 0, 1]));
             ("words at the limit", words)
         }
@@ -574,7 +601,7 @@ pub fn evaluation(random: &mut Random) -> (&'static str, Vec<u8>, usize, Vec<i32
         } else {
             "right facts"
         };
-        let number = if random.percent(6) { random.pick(&[0, sheet.blocks.len() + 1, 11, usize::MAX, 1 << 32 | 1]) } else { number };
+        let number = if random.percent(6) { random.pick(&[0, sheet.blocks.len() + 1, 11, 14, usize::MAX, 1 << 32 | 1]) } else { number };
         return (name, bytes_of(&lines), number, words);
     }
 }
@@ -653,6 +680,37 @@ pub fn list_like(random: &mut Random, stock: &Stock, question: &Lines) -> Lines 
     list
 }
 
+/// The question's lines with a constant for one of its variables, as a list: of several such, each has a part of the question's answers.
+pub fn part(random: &mut Random, constants: &[i64], question: &Lines) -> Lines {
+    let mut list = question.clone();
+    list[0][0] = 2;
+    let variables: Vec<i64> = question[1..].iter().flat_map(|a| a[2..].iter().copied()).filter(|t| *t < 0).collect();
+    if !variables.is_empty() {
+        let (from, to) = (random.pick(&variables), random.pick(constants));
+        for line in &mut list {
+            let start = terms_at(line);
+            line[start..].iter_mut().filter(|t| **t == from).for_each(|t| *t = to);
+        }
+    }
+    list
+}
+
+/// One to four lists for a question: like it, a part of it, or drawn by themselves.
+fn lists(random: &mut Random, stock: &Stock, question: &Lines) -> Lines {
+    let mut lines = Lines::new();
+    for _ in 0..random.pick(&[1, 1, 1, 2, 2, 3, 4]) {
+        lines.extend(match random.below(10) {
+            0..=3 => list_like(random, stock, question),
+            4..=6 => part(random, &stock.constants, question),
+            _ => {
+                let count = random.pick(&[1, 1, 2, 3]);
+                block(random, stock, 2, question[0].len() - 1, count)
+            }
+        });
+    }
+    lines
+}
+
 /// The answers of a block on a log as rows' lines.
 fn given_rows(lines: &Lines, log: &[Fact]) -> Option<Lines> {
     let mut whole = vec![vec![1], vec![4, 2, -1], vec![2], vec![4, 2, -1]];
@@ -687,14 +745,8 @@ pub fn small(random: &mut Random) -> Lines {
         let columns = random.pick(&[0, 0, 1, 1, 1, 2, 2, 3, 4]);
         let question_atoms = random.pick(&[1, 1, 2, 2, 3, 4]);
         let question = block(random, &stock, 1, columns, question_atoms);
-        let list = if random.percent(60) {
-            list_like(random, &stock, &question)
-        } else {
-            let count = random.pick(&[1, 1, 2, 3]);
-            block(random, &stock, 2, columns, count)
-        };
         let mut lines = question.clone();
-        lines.extend(list);
+        lines.extend(lists(random, &stock, &question));
         let mut values = stock.constants.clone();
         values.push(random.pick(&[3, 7, 9]));
         let count = random.between(0, 5);
@@ -761,14 +813,9 @@ pub fn pinned(random: &mut Random) -> (Lines, Vec<Fact>) {
         let columns = random.pick(&[0, 1, 1, 2, 3]);
         let atoms = random.pick(&[1, 1, 2, 2, 3]);
         let question = block(random, &stock, 1, columns, atoms);
-        let list = if random.percent(60) {
-            list_like(random, &stock, &question)
-        } else {
-            let count = random.pick(&[1, 2, 2, 3]);
-            block(random, &stock, 2, columns, count)
-        };
+        let lists = lists(random, &stock, &question);
         let mut lines = question;
-        lines.extend(list);
+        lines.extend(lists);
         for relation in &relations {
             let terms = (1..=COLUMNS[*relation]).map(|c| -(c as i64));
             lines.push(std::iter::once(3).chain(terms.clone()).collect());
@@ -807,10 +854,9 @@ pub fn planted(random: &mut Random) -> (Lines, Vec<Fact>) {
         let columns = random.pick(&[0, 1, 1, 2]);
         let atoms = random.between(1, 4);
         let question = block(random, &stock, 1, columns, atoms);
-        let count = random.between(1, 4);
-        let list = block(random, &stock, 2, columns, count);
+        let lists = lists(random, &stock, &question);
         let mut lines = question;
-        lines.extend(list);
+        lines.extend(lists);
         for _ in 0..random.between(1, 6) {
             let view_columns = random.between(1, 4);
             let atoms = random.pick(&[1, 1, 1, 2, 2, 3]);

@@ -39,7 +39,8 @@ fn asking(head: &[i64], atom: &[i64]) -> Lines {
 /// As many lines as a sheet may have.
 fn full() -> Lines {
     let seat = [4, 9, 1, 1, 1, 1];
-    let mut lines = [vec![vec![1, 1, 2, 3, 4]], repeated(&seat, 6), vec![vec![2, 1, 2, 3, 4]], repeated(&seat, 6)].concat();
+    let list = [vec![vec![2, 1, 2, 3, 4]], repeated(&seat, 6)].concat();
+    let mut lines = [vec![vec![1, 1, 2, 3, 4]], repeated(&seat, 6), vec![list; 4].concat()].concat();
     lines.extend([vec![vec![3, -1, -2, -3, -4]], repeated(&[4, 9, -1, -2, -3, -4], 3)].concat());
     lines.extend((1..=40).map(|n| vec![5, n, 1, 1, 1]));
     for n in 1..8 {
@@ -55,6 +56,8 @@ fn sheets() -> Vec<(&'static str, Lines, Told, Lines, Told)> {
     let spread = |count: usize| sheet_of(1, 1, [view(1), rows(1, 20), view(1), rows(5, count - 20)].concat());
     let row = |value: i64| sheet_of(1, 1, [view(1), vec![vec![5, value]]].concat());
     let two = |second: i64| sheet_of(1, 1, [view(1), vec![vec![5, 7], vec![5, second]]].concat());
+    let lists = |times: usize| vec![vec![vec![2], vec![4, 2, -1]]; times].concat();
+    let seat = |times: usize| repeated(&[4, 9, 1, 1, 1, 1], times);
     let in_atom = |term: i64| asking(&[1], &[4, 2, term]);
     let ok = (0, 0);
     vec![
@@ -68,7 +71,7 @@ fn sheets() -> Vec<(&'static str, Lines, Told, Lines, Told)> {
         ("views", sheet_of(1, 1, views(8)), ok, sheet_of(1, 1, views(9)), (6, 21)),
         ("rows of one view", listed(40), ok, listed(41), (6, 47)),
         ("rows of two views", spread(40), ok, spread(41), (6, 49)),
-        ("lines", full(), ok, [full(), vec![vec![4, 5, -1, 7]]].concat(), (6, 87)),
+        ("lines", full(), ok, [full(), vec![vec![4, 5, -1, 7]]].concat(), (6, 108)),
         ("columns of the question's head", asking(&[1, 7, 7, 7, 7], &[4, 2, -1]), ok, asking(&[1, 7, 7, 7, 7, 7], &[4, 2, -1]), (3, 1)),
         (
             "columns of the list's head",
@@ -117,7 +120,37 @@ fn sheets() -> Vec<(&'static str, Lines, Told, Lines, Told)> {
         ("the widest negative number", in_atom(-9_999_999), (5, 2), in_atom(-10_000_000), (2, 2)),
         ("a row above the one before", two(8), ok, two(7), (9, 8)),
         ("question and list", sheet_of(1, 1, vec![]), ok, vec![vec![1], vec![4, 2, -1]], (3, 0)),
-        ("once a list", sheet_of(1, 1, vec![]), ok, sheet_of(1, 1, vec![vec![2]]), (3, 5)),
+        ("lists", sheet_of(1, 1, lists(3)), ok, sheet_of(1, 1, lists(4)), (6, 11)),
+        (
+            "lists, the fifth with a term out of range",
+            sheet_of(1, 1, lists(3)),
+            ok,
+            sheet_of(1, 1, [lists(3), vec![vec![2, -13]]].concat()),
+            (5, 11),
+        ),
+        (
+            "lists, the fifth of another length",
+            sheet_of(1, 1, lists(3)),
+            ok,
+            sheet_of(1, 1, [lists(3), vec![vec![2, 7]]].concat()),
+            (6, 11),
+        ),
+        ("lists before views", sheet_of(1, 1, [lists(2), views(1)].concat()), ok, sheet_of(1, 1, [views(1), lists(1)].concat()), (3, 7)),
+        (
+            "atoms of the fourth list",
+            sheet_of(1, 1, [lists(3), seat(5)].concat()),
+            ok,
+            sheet_of(1, 1, [lists(3), seat(6)].concat()),
+            (6, 16),
+        ),
+        ("an atom at least, fourth list", sheet_of(1, 1, lists(3)), ok, sheet_of(1, 1, [lists(2), vec![vec![2]]].concat()), (8, 9)),
+        (
+            "the third list's head as long as the question's",
+            sheet_of(1, 1, lists(2)),
+            ok,
+            sheet_of(1, 1, [lists(1), vec![vec![2, 7]]].concat()),
+            (7, 7),
+        ),
         ("once a question", sheet_of(1, 1, vec![]), ok, sheet_of(1, 1, vec![vec![1]]), (3, 5)),
     ]
 }
@@ -156,12 +189,12 @@ pub fn all() -> (usize, Vec<String>) {
         count += 1;
         for (side, lines, expected) in [("met", within, met), ("exceeded", beyond, exceeded)] {
             let (bytes, words) = (sheet::bytes_of(&lines), sheet::words_of(&lines));
-            let read = library::read(&bytes, &mut lender.words(602));
-            hold(name, side, "read", expected, ended(read), told(sheet::read(&bytes, 602)), &mut failed);
-            // More than 86 lines are too many words already.
-            let expected_words = if lines.len() > 86 { (1, 0) } else { expected };
-            let write = library::write(&words, &mut lender.bytes(4214));
-            hold(name, side, "write", expected_words, ended(write), told(sheet::write(&words, 4214)), &mut failed);
+            let read = library::read(&bytes, &mut lender.words(749));
+            hold(name, side, "read", expected, ended(read), told(sheet::read(&bytes, 749)), &mut failed);
+            // More than 107 lines are too many words already.
+            let expected_words = if lines.len() > 107 { (1, 0) } else { expected };
+            let write = library::write(&words, &mut lender.bytes(5243));
+            hold(name, side, "write", expected_words, ended(write), told(sheet::write(&words, 5243)), &mut failed);
             let evaluate = library::evaluate(&bytes, 1, &[], &mut lender.words(0));
             hold(name, side, "evaluate", expected, ended(evaluate), told(meaning::evaluate(&bytes, 1, &[], 0)), &mut failed);
             let judge = library::judge(&bytes, &mut lender.words(1_260));
@@ -204,12 +237,27 @@ pub fn all() -> (usize, Vec<String>) {
         let evaluate = library::evaluate(&plain, block, &facts, &mut lender.words(lent));
         hold(name, "", "evaluate", (number, 0), ended(evaluate), told(meaning::evaluate(&plain, block, &facts, lent)), &mut failed);
     }
-    for (lent, number) in [(602, 0), (601, 13)] {
+    // With four lists and eight views the last block is 13.
+    let blocks = sheet::bytes_of(&full());
+    for (block, number) in [(1, 0), (5, 0), (6, 0), (13, 0), (14, 10), (0, 10)] {
+        count += 1;
+        let evaluate = library::evaluate(&blocks, block, &[], &mut lender.words(0));
+        hold(
+            "blocks of four lists",
+            "",
+            "evaluate",
+            (number, 0),
+            ended(evaluate),
+            told(meaning::evaluate(&blocks, block, &[], 0)),
+            &mut failed,
+        );
+    }
+    for (lent, number) in [(749, 0), (748, 13)] {
         let read = library::read(&plain, &mut lender.words(lent));
         hold("words for read", "", "read", (number, 0), ended(read), told(sheet::read(&plain, lent)), &mut failed);
     }
     let words = sheet::words_of(&sheet_of(1, 1, views(8)));
-    for (lent, number) in [(4214, 0), (4213, 13)] {
+    for (lent, number) in [(5243, 0), (5242, 13)] {
         let write = library::write(&words, &mut lender.bytes(lent));
         hold("bytes for write", "", "write", (number, 0), ended(write), told(sheet::write(&words, lent)), &mut failed);
     }
@@ -217,20 +265,20 @@ pub fn all() -> (usize, Vec<String>) {
         let judge = library::judge(&plain, &mut lender.words(lent));
         hold("words for judge", "", "judge", (number, 0), (judge.number, judge.line), (number, 0), &mut failed);
     }
-    // Words by sevens, and no more than 602 of them.
+    // Words by sevens, and no more than 749 of them.
     let whole = sheet::words_of(&full());
-    for (length, number) in [(602, 0), (601, 2), (603, 1), (609, 1)] {
+    for (length, number) in [(749, 0), (748, 2), (750, 1), (756, 1)] {
         let mut words = whole.clone();
         words.resize(length, 0);
-        let write = library::write(&words, &mut lender.bytes(4214));
-        hold("words of a form", "", "write", (number, 0), ended(write), told(sheet::write(&words, 4214)), &mut failed);
+        let write = library::write(&words, &mut lender.bytes(5243));
+        hold("words of a form", "", "write", (number, 0), ended(write), told(sheet::write(&words, 5243)), &mut failed);
     }
     // Bytes: a sheet, then lines without fields.
     for (length, expected) in [(8192, (2, 21)), (8193, (1, 0))] {
         let mut bytes = plain.clone();
         bytes.resize(length, 10);
-        let read = library::read(&bytes, &mut lender.words(602));
-        hold("bytes of a sheet", "", "read", expected, ended(read), told(sheet::read(&bytes, 602)), &mut failed);
+        let read = library::read(&bytes, &mut lender.words(749));
+        hold("bytes of a sheet", "", "read", expected, ended(read), told(sheet::read(&bytes, 749)), &mut failed);
     }
     (count + 5, failed)
 }

@@ -31,16 +31,17 @@ pub struct Atom {
     pub terms: Vec<i64>,
 }
 
-/// A head, its atoms and, for a view, its listed rows. The line is the head's.
+/// A head, its atoms and, for a view, its listed rows. Kind and line are the head's.
 #[derive(Clone, Debug)]
 pub struct Block {
+    pub kind: i64,
     pub line: usize,
     pub head: Vec<i64>,
     pub atoms: Vec<Atom>,
     pub rows: Vec<Vec<i64>>,
 }
 
-/// The question, the list, then the views.
+/// The question, the lists, then the views.
 #[derive(Clone, Debug)]
 pub struct Sheet {
     pub blocks: Vec<Block>,
@@ -51,12 +52,21 @@ impl Sheet {
         &self.blocks[0]
     }
 
-    pub fn list(&self) -> &Block {
-        &self.blocks[1]
+    /// How many blocks come before the views.
+    pub fn first_view(&self) -> usize {
+        self.blocks.iter().filter(|b| b.kind < 3).count()
+    }
+
+    pub fn lists(&self) -> &[Block] {
+        &self.blocks[1..self.first_view()]
     }
 
     pub fn views(&self) -> &[Block] {
-        &self.blocks[2..]
+        &self.blocks[self.first_view()..]
+    }
+
+    pub fn without_views(&self) -> Sheet {
+        Sheet { blocks: self.blocks[..self.first_view()].to_vec() }
     }
 
     /// The constants that stand in heads, atoms and rows, ascending.
@@ -129,10 +139,13 @@ pub fn blocks(lines: &[Fields]) -> Taken<Sheet> {
         // 3: the kind, its place, its field count.
         let in_place = match kind {
             1 => line == 1,
-            2 => blocks.len() == 1,
-            3 => blocks.len() >= 2,
+            2 => blocks.last().is_some_and(|b| b.kind < 3),
+            3 => blocks.iter().any(|b| b.kind == 2),
             4 => (1..=4).contains(&before),
-            5 => blocks.len() >= 3 && (before == 4 || before == 5 || before == 3 && is(Slip::RowAfterViewHeadLeftTo8)),
+            5 => {
+                blocks.last().is_some_and(|b| b.kind == 3)
+                    && (before == 4 || before == 5 || before == 3 && is(Slip::RowAfterViewHeadLeftTo8))
+            }
             _ => false,
         };
         let counted = if kind == 4 { (3..=6).contains(&fields.len()) } else { fields.len() <= 5 };
@@ -153,11 +166,14 @@ pub fn blocks(lines: &[Fields]) -> Taken<Sheet> {
             return refuse(5, line);
         }
         // 6: one too many.
-        let most_atoms = if blocks.len() <= 2 { 6 } else { 3 };
+        let most_atoms = if blocks.last().is_some_and(|b| b.kind == 3) { 3 } else { 6 };
+        let most_lists = if is(Slip::FifthListTaken) { 5 } else { 4 };
+        let of_kind = |kind: i64| blocks.iter().filter(|b| b.kind == kind).count();
         let rows: usize = blocks.iter().map(|b| b.rows.len()).sum();
         let most_rows = if is(Slip::ThirtyNineRows) { 39 } else { 40 };
         let too_many = match kind {
-            3 => blocks.len() == 10,
+            2 => of_kind(2) == most_lists,
+            3 => of_kind(3) == 8,
             4 => blocks.last().unwrap().atoms.len() == most_atoms,
             5 => rows == most_rows,
             _ => false,
@@ -184,11 +200,11 @@ pub fn blocks(lines: &[Fields]) -> Taken<Sheet> {
         match kind {
             4 => blocks.last_mut().unwrap().atoms.push(Atom { relation: rest[0] as usize, terms: terms.to_vec() }),
             5 => blocks.last_mut().unwrap().rows.push(terms.to_vec()),
-            _ => blocks.push(Block { line, head: terms.to_vec(), atoms: vec![], rows: vec![] }),
+            _ => blocks.push(Block { kind, line, head: terms.to_vec(), atoms: vec![], rows: vec![] }),
         }
         before = kind;
     }
-    if blocks.len() < 2 {
+    if !blocks.iter().any(|b| b.kind == 2) {
         return refuse(3, 0);
     }
     for block in &blocks {
@@ -211,7 +227,7 @@ pub fn of_bytes(sheet: &[u8]) -> Taken<(Vec<Vec<i64>>, Sheet)> {
 }
 
 pub fn of_words(words: &[i32]) -> Taken<Vec<Vec<i64>>> {
-    if words.len() > 602 {
+    if words.len() > 749 {
         return refuse(1, 0);
     }
     if words.len() % 7 != 0 {
@@ -245,7 +261,7 @@ pub fn words_of(lines: &[Vec<i64>]) -> Vec<i32> {
 /// What reading does: the number form, or a refusal.
 pub fn read(sheet: &[u8], lent: usize) -> Taken<Vec<i32>> {
     let (lines, _) = of_bytes(sheet)?;
-    if lent < 602 {
+    if lent < 749 {
         return refuse(13, 0);
     }
     Ok(words_of(&lines))
@@ -254,7 +270,7 @@ pub fn read(sheet: &[u8], lent: usize) -> Taken<Vec<i32>> {
 /// What writing does: the bytes, or a refusal.
 pub fn write(words: &[i32], lent: usize) -> Taken<Vec<u8>> {
     let lines = of_words(words)?;
-    if lent < 4214 {
+    if lent < 5243 {
         return refuse(13, 0);
     }
     Ok(bytes_of(&lines))

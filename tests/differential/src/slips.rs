@@ -42,12 +42,16 @@ pub enum Slip {
     SeventeenSheetsTaken,
     LastEndUnasked,
     OwedRowsUnasked,
+    FifthListTaken,
+    ViewsAsBehindOneList,
+    FirstListAlone,
+    LastListForgotten,
 }
 
 use Slip::*;
 
 /// Each slip with the call that it is looked for in, by its place in main's table of calls.
-pub const ALL: [(Slip, usize); 37] = [
+pub const ALL: [(Slip, usize); 41] = [
     (MinusZeroTaken, 0),
     (UnclosedLastLineTaken, 0),
     (ConstantOneTooHigh, 0),
@@ -85,6 +89,10 @@ pub const ALL: [(Slip, usize); 37] = [
     (SeventeenSheetsTaken, 5),
     (LastEndUnasked, 5),
     (OwedRowsUnasked, 4),
+    (FifthListTaken, 0),
+    (ViewsAsBehindOneList, 3),
+    (FirstListAlone, 4),
+    (LastListForgotten, 4),
 ];
 
 static CURRENT: AtomicUsize = AtomicUsize::new(None as usize);
