@@ -1,7 +1,7 @@
 //! Sheets to measure by: pages as clubs have them, and families that are built to be hard, each with a size.
 
 use crate::joins::{Body, Facts, Join, Value};
-use crate::sheet::{owed_to, self, page, view, Atom, Block, Sheet, View, COLUMNS, MOST_CONSTANT, MOST_ROWS, MOST_VIEWS};
+use crate::sheet::{owed_to, self, page, page_of, view, Atom, Block, Sheet, View, COLUMNS, MOST_CONSTANT, MOST_ROWS, MOST_VIEWS};
 use std::collections::BTreeSet;
 
 /// Numbers that look drawn by chance and are the same in each run.
@@ -801,7 +801,7 @@ fn some_page(dice: &mut Dice) -> Sheet {
             views.push(View { block, rows });
         }
     }
-    Sheet { question, saved, views }
+    Sheet { question, lists: vec![saved], views }
 }
 
 pub const PAGES: usize = 200;
@@ -950,6 +950,25 @@ pub fn hard() -> Vec<Sample> {
     samples
 }
 
+/// Numbers from 1, a row each.
+fn singles(count: i32) -> Vec<Vec<i32>> {
+    (1..=count).map(|n| vec![n]).collect()
+}
+
+/// Rowers of so many crews, a list for each, or of one crew more: the lists cover together, and no list alone.
+fn crew_lists(crews: i32, rowers: i32, hole: bool) -> Sheet {
+    let lists: Vec<String> = (1..=crews).map(|crew| format!("(r): Rower(r,{crew})")).collect();
+    let views = vec![view("(r): Rower(r,k)", singles(rowers)), view("(k): Rower(r,k)", singles(crews + hole as i32))];
+    page_of("(r): Rower(r,k)", &lists, views)
+}
+
+/// The tick of one strap among many, which is one of so many that have a list each, or of one more.
+fn tick_lists(ticks: i32, straps: i32, hole: bool) -> Sheet {
+    let lists: Vec<String> = (1..=ticks).map(|tick| format!("(): Sig(7,{tick})")).collect();
+    let views = vec![view("(s): Sig(s,t)", singles(straps)), view("(t): Sig(s,t)", singles(ticks + hole as i32))];
+    page_of("(): Sig(7,t)", &lists, views)
+}
+
 /// The families of which each verdict is known beforehand.
 fn known() -> Vec<Sample> {
     let mut samples = Vec::new();
@@ -987,6 +1006,13 @@ fn known() -> Vec<Sample> {
     }
     for n in [5, 6, 9, 10, 15, 16, 21, 22, 31, 32] {
         add("chain, parity, ring", format!("{n}"), if n % 2 == 1 { NO_LOG } else { NOT_COVERED }, parity_ring(n));
+    }
+    for lists in 2..=4 {
+        for hole in [false, true] {
+            let (size, verdict) = (format!("{lists}{}", if hole { ", one more" } else { "" }), if hole { NOT_COVERED } else { COVERED });
+            add("a list for each crew", size.clone(), verdict, crew_lists(lists, 35, hole));
+            add("a list for each tick", size, verdict, tick_lists(lists, 35, hole));
+        }
     }
     let mut dice = Dice::new(11);
     for n in 3..=6 {

@@ -147,7 +147,7 @@ pub fn speeds(sheet: &[u8]) -> Option<(f64, f64)> {
         fn figdawesa_read(sheet: *const u8, sheet_bytes: usize, out: *mut i32, out_words: usize) -> Ended;
         fn figdawesa_write(words: *const i32, word_count: usize, out: *mut u8, out_bytes: usize) -> Ended;
     }
-    let (mut words, mut bytes) = ([0i32; 602], [0u8; 4214]);
+    let (mut words, mut bytes) = ([0i32; 749], [0u8; 5243]);
     let lines = sheet.iter().filter(|b| **b == 10).count();
     let speed = |run: &mut dyn FnMut() -> Ended, count: usize| {
         let ended = run();

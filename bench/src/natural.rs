@@ -325,7 +325,7 @@ fn some_page(dice: &mut Dice) -> Sheet {
             view.rows.dedup();
         }
     }
-    Sheet { question, saved, views }
+    Sheet { question, lists: vec![saved], views }
 }
 
 /// The natural pages.

@@ -14,6 +14,7 @@ pub const MOST_CONSTANT: i32 = 9_999_999;
 const MOST_VARIABLE: i32 = 12;
 const MOST_ATOMS: usize = 6;
 const MOST_VIEW_ATOMS: usize = 3;
+pub const MOST_LISTS: usize = 4;
 pub const MOST_VIEWS: usize = 8;
 pub const MOST_ROWS: usize = 40;
 
@@ -38,7 +39,7 @@ pub struct View {
 #[derive(Clone, Debug, PartialEq, Eq)]
 pub struct Sheet {
     pub question: Block,
-    pub saved: Block,
+    pub lists: Vec<Block>,
     pub views: Vec<View>,
 }
 
@@ -48,7 +49,7 @@ impl Sheet {
         let views = self.views.iter_mut();
         let (blocks, rows): (Vec<_>, Vec<_>) = views.map(|v| (&mut v.block, &mut v.rows)).unzip();
         let of = |b: &mut Block| b.head.iter_mut().chain(b.atoms.iter_mut().flat_map(|a| a.terms.iter_mut())).for_each(|t| raise(t, by));
-        [&mut self.question, &mut self.saved].into_iter().chain(blocks).for_each(of);
+        std::iter::once(&mut self.question).chain(&mut self.lists).chain(blocks).for_each(of);
         rows.into_iter().flatten().flatten().for_each(|t| raise(t, by));
         self
     }
@@ -88,10 +89,11 @@ pub fn fields(line: &[u8]) -> Option<Vec<i32>> {
     line.chunks(8).map(field).collect()
 }
 
-/// What has been read so far: blocks with the lines of their heads, and the kind of the last line.
+/// What has been read so far: blocks with the lines of their heads, how many of them are lists, and the kind of the last line.
 #[derive(Default)]
 struct Reader {
     blocks: Vec<(Block, usize)>,
+    lists: usize,
     rows: Vec<Vec<Vec<i32>>>,
     last: i32,
 }
@@ -101,12 +103,13 @@ impl Reader {
     fn take(&mut self, fields: &[i32], line: usize) -> Result<(), usize> {
         let (kind, rest) = (fields[0], &fields[1..]);
         let count = self.blocks.len();
+        let in_view = count > 1 + self.lists;
         let in_place = match kind {
             1 => count == 0,
-            2 => count == 1,
-            3 => count >= 2,
+            2 => count > 0 && !in_view,
+            3 => self.lists > 0,
             4 => (1..=4).contains(&self.last),
-            5 => count > 2 && (self.last == 4 || self.last == 5),
+            5 => in_view && (self.last == 4 || self.last == 5),
             _ => false,
         };
         let counts = if kind == 4 { 3..=6 } else { 1..=5 };
@@ -123,8 +126,9 @@ impl Reader {
             return Err(5);
         }
         let too_many = match kind {
-            3 => count - 2 == MOST_VIEWS,
-            4 => self.blocks[count - 1].0.atoms.len() == if count > 2 { MOST_VIEW_ATOMS } else { MOST_ATOMS },
+            2 => self.lists == MOST_LISTS,
+            3 => count - 1 - self.lists == MOST_VIEWS,
+            4 => self.blocks[count - 1].0.atoms.len() == if in_view { MOST_VIEW_ATOMS } else { MOST_ATOMS },
             5 => self.rows.iter().map(Vec::len).sum::<usize>() == MOST_ROWS,
             _ => false,
         };
@@ -151,6 +155,7 @@ impl Reader {
             _ => {
                 self.blocks.push((Block { head: terms.to_vec(), atoms: Vec::new() }, line));
                 self.rows.push(Vec::new());
+                self.lists += (kind == 2) as usize;
             }
         }
         self.last = kind;
@@ -173,7 +178,7 @@ pub fn read(bytes: &[u8]) -> Result<Sheet, Refusal> {
             return refused(number, at + 1);
         }
     }
-    if reader.blocks.len() < 2 {
+    if reader.lists == 0 {
         return refused(3, 0);
     }
     for (block, line) in &reader.blocks {
@@ -183,9 +188,10 @@ pub fn read(bytes: &[u8]) -> Result<Sheet, Refusal> {
         }
     }
     let mut blocks = reader.blocks.into_iter().map(|(block, _)| block);
-    let (question, saved) = (blocks.next().unwrap(), blocks.next().unwrap());
-    let views = blocks.zip(reader.rows.into_iter().skip(2)).map(|(block, rows)| View { block, rows }).collect();
-    Ok(Sheet { question, saved, views })
+    let question = blocks.next().unwrap();
+    let lists: Vec<Block> = blocks.by_ref().take(reader.lists).collect();
+    let views = blocks.zip(reader.rows.into_iter().skip(1 + reader.lists)).map(|(block, rows)| View { block, rows }).collect();
+    Ok(Sheet { question, lists, views })
 }
 
 fn put_line(out: &mut Vec<u8>, kind: i32, fields: &[i32]) {
@@ -208,7 +214,9 @@ fn put_block(out: &mut Vec<u8>, kind: i32, block: &Block) {
 pub fn write(sheet: &Sheet) -> Vec<u8> {
     let mut out = Vec::new();
     put_block(&mut out, 1, &sheet.question);
-    put_block(&mut out, 2, &sheet.saved);
+    for list in &sheet.lists {
+        put_block(&mut out, 2, list);
+    }
     for view in &sheet.views {
         put_block(&mut out, 3, &view.block);
         for row in &view.rows {
@@ -254,7 +262,12 @@ pub fn view(text: &str, mut rows: Vec<Vec<i32>>) -> View {
     View { block: block(text), rows }
 }
 
-/// A sheet of blocks in short.
+/// A sheet of blocks in short, with one list.
 pub fn page(question: &str, saved: &str, views: Vec<View>) -> Sheet {
-    Sheet { question: block(question), saved: block(saved), views }
+    page_of(question, &[saved.to_string()], views)
+}
+
+/// The same with several lists.
+pub fn page_of(question: &str, lists: &[String], views: Vec<View>) -> Sheet {
+    Sheet { question: block(question), lists: lists.iter().map(|list| block(list)).collect(), views }
 }
