@@ -25,7 +25,7 @@ CAUSES = {
     3: "a line is out of place, or the question or a list is missing",
     4: "no such relation, or not its columns",
     5: "a term is out of range, or a row has a variable",
-    6: "more atoms, views or rows than fit",
+    6: "more atoms, lists, views or rows than fit",
     7: "a head or a row has the wrong length",
     8: "a block has no atoms, or a variable of its head is in none",
     9: "a row is not above the one before it",

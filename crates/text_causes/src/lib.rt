@@ -17,7 +17,7 @@ pub fn put_cause(out: &mut [u8], at: usize, number: usize) -> usize
         ),
         4 => put(out, at, b"no such relation, or not its columns"),
         5 => put(out, at, b"a term is out of range, or a row has a variable"),
-        6 => put(out, at, b"more atoms, views or rows than fit"),
+        6 => put(out, at, b"more atoms, lists, views or rows than fit"),
         7 => put(out, at, b"a head or a row has the wrong length"),
         8 => put(
             out,

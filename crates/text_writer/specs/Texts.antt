@@ -170,7 +170,7 @@ causes =
     ∷ bytes "a line is out of place, or the question or a list is missing"
     ∷ bytes "no such relation, or not its columns"
     ∷ bytes "a term is out of range, or a row has a variable"
-    ∷ bytes "more atoms, views or rows than fit"
+    ∷ bytes "more atoms, lists, views or rows than fit"
     ∷ bytes "a head or a row has the wrong length"
     ∷ bytes "a block has no atoms, or a variable of its head is in none"
     ∷ bytes "a row is not above the one before it"
