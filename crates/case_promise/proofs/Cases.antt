@@ -7,7 +7,6 @@ use Prim.Native.Nat.{ℕ, _+_, _<_, min}
 use native.Mathlib.Omega.{arith}
 use lib.IntN.{pos}
 use lib.ListN.{length}
-use Rattle.case_verdicts.proofs.Plain.{no-keys}
 use Rattle.tableau_layout.specs.Layout.{question-block, list-block, view-block}
 use Rattle.sheet_format.specs.Limits.{most-atoms}
 use Rattle.list_laws.specs.Order.{_⊏_}
@@ -19,7 +18,7 @@ use Rattle.query_join.specs.Joins.{Given}
 use Rattle.query_encoding.specs.Encoding.{BlockNumbers, FactNumbers, Shaped, ShapedLog, padded}
 use Rattle.query_encoding.proofs.Bridge.{answer-given, given-answer, head-length}
 use Rattle.query_encoding.proofs.Order.{pad-more, pad-same}
-use Rattle.case_verdicts.specs.Table.{relation, Lawful}
+use Rattle.case_verdicts.specs.Table.{Table, relation, SameKey, Lawful}
 use Rattle.case_verdicts.specs.Verdict.{Sheet, Agreeing, Case}
 use Rattle.tableau_plan.specs.Plan.{rowAt, rowValues, listAt, viewCount, blockNumbers, blockSize}
 use Rattle.tableau_parts.specs.Views.{GivenAt, NoStray, AllGiven, Agree, Missing, LeastMissing}
@@ -35,6 +34,10 @@ use Rattle.case_promise.proofs.Owed.{parented-numbers, numbers-parented
 -- each relation is one of the ten
 abbrev pub KnownLog : Log → Type 0
 KnownLog log = (f : Fact) → In f log → 0 < columnsOf (pos (f .rel))
+
+-- rows alike in a key are alike: dropping facts cannot change it
+abbrev pub KeyedLog : Table → Log → Type 0
+KeyedLog table log = (f g : Fact) → In f log → In g log → SameKey table f g → f .row ≡ g .row
 
 -- ---- a block's answers and the rows that it is given
 
@@ -76,19 +79,19 @@ module _ (p : List ℕ) (x : Sheet) (r : ReadyPlan p x) {ns : List ℕ} {log : L
           let (i, li, f, q) = r .plan .every-row v lt t (a .agrees (nth (x .views) v) (view-in v lt) .none-more t b) in
           (i, li, f, q ∙ sym e)
 
-  lawful : KnownLog log → Parented ns → Lawful (x .table) log
-  lawful known owed = record {
+  lawful : KnownLog log → KeyedLog (x .table) log → Parented ns → Lawful (x .table) log
+  lawful known keyed owed = record {
     formed = λ f m. record { known = subst (λ k. 0 < k) (sym (columns f)) (known f m); full = sh f m .0 ∙ sym (columns f) };
     parented = numbers-parented (r .plain) fn (r .accepted .table) sh owed;
-    keyed = λ f g m n k. no-keys (r .plain) f g k;
+    keyed = keyed;
   }
     where
       columns : (f : Fact) → relation (x .table) (f .rel) .columns ≡ columnsOf (pos (f .rel))
       columns f = r .plain .columns (f .rel)
 
-  agreeing : KnownLog log → Parented ns → Agree p ns → Agreeing x log
-  agreeing known owed (all, none) = record {
-    lawful = lawful known owed;
+  agreeing : KnownLog log → KeyedLog (x .table) log → Parented ns → Agree p ns → Agreeing x log
+  agreeing known keyed owed (all, none) = record {
+    lawful = lawful known keyed owed;
     agrees = λ w m. record { none-more = none-stray p x x (r .plan) (ready-task p x r Counterexample) log ns fn none w m; none-missing = given w m };
   }
     where
@@ -120,14 +123,14 @@ module _ (p : List ℕ) (x : Sheet) (r : ReadyPlan p x) {ns : List ℕ} {log : L
   pub case-numbers : (a : List ℕ) → Case x log a → IsCase p ns
   case-numbers a c = (agree (c .agreeing), (padded a, missing a c), parented-numbers (r .plain) fn (c .agreeing .lawful .parented))
 
-  module _ (known : KnownLog log) where
+  module _ (known : KnownLog log) (keyed : KeyedLog (x .table) log) where
     case-of : Agree p ns → Parented ns → (u : List ℕ) → Missing p ns u → (a : List ℕ) × (u ≡ padded a) × Case x log a
     case-of ag owed u m =
         let (a, e, b) = answer-at p 0 (r .plan .question) (r .question) fn sh u (m .asked) in (
           a,
           e,
           record {
-            agreeing = agreeing known owed ag;
+            agreeing = agreeing known keyed owed ag;
             asked = b;
             missing = λ l i c.
                 let (j, lt, f) = list-index p x r l i in

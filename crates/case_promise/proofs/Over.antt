@@ -30,7 +30,7 @@ use Rattle.case_order.specs.Order.{fiveAt, Rising, Among, Ordered}
 use Rattle.case_minimization.specs.Minimization.{IsCase, SubFacts, Shrunk}
 use Rattle.search_task.specs.Task.{ReadyPlan}
 use Rattle.case_promise.proofs.Words.{FineFact, dropped-numbers, fine-fact, fine-same, rising-far, same-fact, same-five, words-accepted, words-count, words-distinct, words-numbers}
-use Rattle.case_promise.proofs.Cases.{KnownLog, case-numbers, least-case}
+use Rattle.case_promise.proofs.Cases.{KnownLog, KeyedLog, case-numbers, least-case}
 
 -- a case and its missing answer, in plain numbers: k facts and a row
 pub record HandedNumbers (x : Sheet) (ks : List ℕ) (k : ℕ) (u : List ℕ) : Type 0 where
@@ -196,7 +196,7 @@ spare-free-places x l d none f m rest z t c =
 
 -- ---- in order, and shrunk
 
-module _ (p : List ℕ) (x : Sheet) (r : ReadyPlan p x) {ns : List ℕ} {log : Log} (fn : FactNumbers ns log) (sh : ShapedLog log) (known : KnownLog log)
+module _ (p : List ℕ) (x : Sheet) (r : ReadyPlan p x) {ns : List ℕ} {log : Log} (fn : FactNumbers ns log) (sh : ShapedLog log) (known : KnownLog log) (keyed : KeyedLog (x .table) log)
     (few : length log ≤ tableau-atoms) (made : MadeUp top value-end x log) {ms : List ℕ} {m : ℕ} (o : Ordered ns (length log) ms m) (room : m * 5 ≤ length ms) where
   fine : (i : ℕ) → i < length log → FineFact ns i
   fine = fine-fact fn sh known (λ f i n j. ⊎-elim (λ s. let h = stands-small x (r .accepted) n s in omega arith) (λ s. s .1) (made f i n j))
@@ -215,7 +215,7 @@ module _ (p : List ℕ) (x : Sheet) (r : ReadyPlan p x) {ns : List ℕ} {log : L
   -- shrunk it can be handed over
   pub handed-numbers : {ks : List ℕ} {k : ℕ} → Shrunk p (take (m * 5) ms) m ks k → (u : List ℕ) → LeastMissing p ks u → HandedNumbers x ks k u
   handed-numbers {ks} {k} s u least =
-      let (a, e, c, l) = least-case p x r told shaped (λ f i. known f (within .at f i)) (s .still .0) (s .still .2) u least in
+      let (a, e, c, l) = least-case p x r told shaped (λ f i. known f (within .at f i)) (λ f g i j. keyed f g (within .at f i) (within .at g j)) (s .still .0) (s .still .2) u least in
       record {
         handed = check.handed x (r .accepted) rest a c l spare-free distinct (λ f i. made f (within .at f i));
         log-is = refl;

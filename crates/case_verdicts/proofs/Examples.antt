@@ -20,7 +20,7 @@ examples-pass = refl
 
 -- the three with verdict 1 have more to show
 examples-only : Onlys examples
-examples-only = (whole-shows, (tt, (tt, (tt, (straps-show, (tt, (tt, (tt, (tt, (ticks-show, (tt, (tt, (tt, (tt, tt))))))))))))))
+examples-only = (whole-shows, (tt, (tt, (tt, (straps-show, (tt, (tt, (tt, (tt, (ticks-show, (tt, (tt, (tt, (tt, (tt, (tt, (tt, tt)))))))))))))))))
 
 pub examples-hold : (e : Entry) → In e examples → Says e
 examples-hold = each-says examples examples-only examples-pass

@@ -24,3 +24,4 @@ pub mod Verdicts
 pub mod Words
 pub mod Plain
 pub mod OneList
+pub mod Grows

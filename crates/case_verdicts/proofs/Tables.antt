@@ -6,7 +6,7 @@ use Prim.Native.Nat.{ℕ, zero, suc, _<_}
 use native.Mathlib.Omega.{arith}
 use lib.IntN.{pos}
 use lib.ListN.{getD, length}
-use Rattle.sheet_format.specs.Relations.{relations, parentNumbers, columnsOf, parentOf}
+use Rattle.sheet_format.specs.Relations.{relations, keyNumbers, parentNumbers, columnsOf, keyOf, parentOf}
 use Rattle.query_meaning.specs.Meaning.{In}
 use Rattle.case_verdicts.specs.Table.{Relation, Table, unknown, relation, Sound}
 use Rattle.case_verdicts.specs.Sheets.{tableOf, ten}
@@ -35,28 +35,30 @@ sound table each = record {
 
 -- ---- the ten
 
-line-of : (ns ps : List ℕ) (n : ℕ) → length ns ≡ length ps
-    → (getD (tableOf ns ps) n unknown .columns ≡ getD ns n 0) × (getD (tableOf ns ps) n unknown .key ≡ 0) × (getD (tableOf ns ps) n unknown .parent ≡ getD ps n 0)
-line-of [] [] n e = (refl, refl, refl)
-line-of [] (p ∷ ps) n e = absurd (omega arith)
-line-of (c ∷ ns) [] n e = absurd (omega arith)
-line-of (c ∷ ns) (p ∷ ps) zero e = (refl, refl, refl)
-line-of (c ∷ ns) (p ∷ ps) (suc n) e = line-of ns ps n (omega arith)
+line-of : (ns ks ps : List ℕ) (n : ℕ) → length ns ≡ length ks → length ns ≡ length ps
+    → (getD (tableOf ns ks ps) n unknown .columns ≡ getD ns n 0) × (getD (tableOf ns ks ps) n unknown .key ≡ getD ks n 0) × (getD (tableOf ns ks ps) n unknown .parent ≡ getD ps n 0)
+line-of [] [] [] n e f = (refl, refl, refl)
+line-of [] [] (p ∷ ps) n e f = absurd (omega arith)
+line-of [] (k ∷ ks) ps n e f = absurd (omega arith)
+line-of (c ∷ ns) [] ps n e f = absurd (omega arith)
+line-of (c ∷ ns) (k ∷ ks) [] n e f = absurd (omega arith)
+line-of (c ∷ ns) (k ∷ ks) (p ∷ ps) zero e f = (refl, refl, refl)
+line-of (c ∷ ns) (k ∷ ks) (p ∷ ps) (suc n) e f = line-of ns ks ps n (omega arith) (omega arith)
 
 pub ten-columns : (n : ℕ) → relation ten n .columns ≡ columnsOf (pos n)
 unfolding relation columnsOf
 ten-columns zero = refl
-ten-columns (suc n) = line-of relations parentNumbers n refl .0
+ten-columns (suc n) = line-of relations keyNumbers parentNumbers n refl refl .0
 
-pub ten-keyless : (n : ℕ) → relation ten n .key ≡ 0
-unfolding relation
-ten-keyless zero = refl
-ten-keyless (suc n) = line-of relations parentNumbers n refl .1
+pub ten-keys : (n : ℕ) → relation ten n .key ≡ keyOf n
+unfolding relation keyOf
+ten-keys zero = refl
+ten-keys (suc n) = line-of relations keyNumbers parentNumbers n refl refl .1
 
 pub ten-parents : (n : ℕ) → relation ten n .parent ≡ parentOf n
 unfolding relation parentOf
 ten-parents zero = refl
-ten-parents (suc n) = line-of relations parentNumbers n refl .2
+ten-parents (suc n) = line-of relations keyNumbers parentNumbers n refl refl .2
 
 abbrev Each : (Relation → Type 0) → Table → Type 0
 Each P [] = Unit {0}

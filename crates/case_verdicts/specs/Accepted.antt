@@ -5,7 +5,7 @@ use mathlib.Core.List.{List, [], _∷_}
 use Prim.Native.Nat.{ℕ, _<_}
 use lib.ListN.{length}
 use lib.IntN.{pos}
-use Rattle.sheet_format.specs.Relations.{columnsOf, parentOf}
+use Rattle.sheet_format.specs.Relations.{columnsOf, keyOf, parentOf}
 use Rattle.query_layout.specs.Layout.{names}
 use Rattle.sheet_format.specs.Line.{gather}
 use Rattle.query_meaning.specs.Meaning.{Term, con, var, Atom, Apart, Block, In}
@@ -32,10 +32,10 @@ pub record FineAtom (top : ℕ) (table : Table) (a : Atom) : Type 0 where
   pub known : 0 < relation table (a .rel) .columns
   pub full : length (a .terms) ≡ relation table (a .rel) .columns
 
--- a table without keys, whose columns and parents are the format's: what the search can work with so far
+-- a table whose columns, keys and parents are the format's: what the search can work with so far
 pub record PlainTable (table : Table) : Type 0 where
   pub columns : (n : ℕ) → relation table n .columns ≡ columnsOf (pos n)
-  pub keyless : (n : ℕ) → relation table n .key ≡ 0
+  pub keys : (n : ℕ) → relation table n .key ≡ keyOf n
   pub parents : (n : ℕ) → relation table n .parent ≡ parentOf n
 
 -- so are all terms of the block, and its atoms

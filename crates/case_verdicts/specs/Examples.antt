@@ -85,6 +85,9 @@ beat ts = record { rel = 5; terms = ts }
 abbrev noise : List Term → Atom
 noise ts = record { rel = 6; terms = ts }
 
+abbrev pulse : List Term → Atom
+pulse ts = record { rel = 7; terms = ts }
+
 abbrev pause : List Term → Atom
 pause ts = record { rel = 10; terms = ts }
 
@@ -132,6 +135,16 @@ one-pause = block [] (pause (con 1 ∷ []) ∷ [])
 abbrev pub same-tick : Block
 same-tick = block (t ∷ []) (beat (con 7 ∷ t ∷ []) ∷ noise (con 7 ∷ t ∷ []) ∷ [])
 
+-- strap 7's rates at tick 1: one rate, and two rates side by side
+abbrev all-pulse : Block
+all-pulse = block (s ∷ t ∷ var 3 ∷ []) (pulse (s ∷ t ∷ var 3 ∷ []) ∷ [])
+
+abbrev pub one-rate : Block
+one-rate = block (s ∷ s ∷ []) (pulse (con 7 ∷ con 1 ∷ s ∷ []) ∷ [])
+
+abbrev pub two-rates : Block
+two-rates = block both (pulse (con 7 ∷ con 1 ∷ s ∷ []) ∷ pulse (con 7 ∷ con 1 ∷ t ∷ []) ∷ [])
+
 -- ---- the table
 
 abbrev pub examples : List Entry
@@ -150,4 +163,7 @@ examples =
     ∷ evaluate sig-straps (fact 4 (7 ∷ 1 ∷ []) ∷ fact 4 (7 ∷ 2 ∷ []) ∷ fact 4 (8 ∷ 2 ∷ []) ∷ []) ((7 ∷ []) ∷ (8 ∷ []) ∷ [])
     ∷ evaluate all-beat (fact 5 (7 ∷ 1 ∷ []) ∷ []) ((7 ∷ 1 ∷ []) ∷ [])
     ∷ evaluate-any [] []
+    ∷ judge-any (view all-pulse ((7 ∷ 1 ∷ 60 ∷ []) ∷ (7 ∷ 1 ∷ 61 ∷ []) ∷ []) ∷ [])
+    ∷ judge (sheet two-rates (one-rate ∷ []) []) covered
+    ∷ evaluate two-rates (fact 7 (7 ∷ 1 ∷ 60 ∷ []) ∷ fact 7 (7 ∷ 1 ∷ 61 ∷ []) ∷ []) ((60 ∷ 60 ∷ []) ∷ (60 ∷ 61 ∷ []) ∷ (61 ∷ 60 ∷ []) ∷ (61 ∷ 61 ∷ []) ∷ [])
     ∷ []

@@ -115,7 +115,7 @@ module _ (p : List ℕ) (x : Sheet) (r : ReadyPlan p x) (st : List ℕ) (f : Sta
       room = let a = ordered-few in omega arith
 
       pub ordered-is : IsCase p (take (m * 5) two)
-      ordered-is = ordered-case p x r numbers shaped known few made ordered room (headOf x s) case
+      ordered-is = ordered-case p x r numbers shaped known (f .good .keyed) few made ordered room (headOf x s) case
 
       -- ---- shrunk
 
@@ -124,7 +124,7 @@ module _ (p : List ℕ) (x : Sheet) (r : ReadyPlan p x) (st : List ℕ) (f : Sta
         shrunk-few = let a = ordered-few in let b = part-few (shrunk .part) in omega arith
 
         pub handed : (some : Bool) (u : List ℕ) → MissingBy some p (take (k * 5) three) u → HandedNumbers x (take (k * 5) three) k u
-        handed true u least = handed-numbers p x r numbers shaped known few made ordered room shrunk u least
+        handed true u least = handed-numbers p x r numbers shaped known (f .good .keyed) few made ordered room shrunk u least
         handed false u lacking = absurd (lacking (shrunk .still .1 .0) (shrunk .still .1 .1))
 
 -- what state::facts, order::arrange and shrink::shrink ensure, together

@@ -20,15 +20,11 @@ use Rattle.sheet_format.specs.Relations.{columnsOf, relations}
 use Rattle.query_meaning.specs.Meaning.{Fact, Log, In}
 use Rattle.query_meaning.specs.Facts.{factByFact, factIn, factsIn, factsRefusal, fives, isValue, logOf, relationOf, unused, used, value-end, wrongFact}
 use Rattle.query_encoding.specs.Encoding.{FactNumbers, ShapedLog, factAt}
+use Rattle.sheet_terms.proofs.Laws.{table-most}
 use Rattle.query_facts.specs.Parts.{factBefore, inRange, most-fact-words}
 use Rattle.query_facts.proofs.Words.{not-either, zero-word, value-range, zero-range, part-slice, all-same}
 
 -- ---- a relation's columns
-
-table-most : (l : List ℕ) → all (λ n. leb n 4) l ≡ true → (n : ℕ) → getD l n 0 ≤ 4
-table-most [] e n = omega arith
-table-most (x ∷ l) e zero = leb-true x 4 (both (leb x 4) _ e .0)
-table-most (x ∷ l) e (suc n) = table-most l (both (leb x 4) _ e .1) n
 
 pub columns-most : (z : ℤ) → columnsOf z ≤ 4
 unfolding columnsOf

@@ -1,5 +1,7 @@
-// What the search should do next in a state: a list that is given the question's head, or a row of a view to repair and the listed rows to try first.
+// What the search should do next in a state: a list that is given the question's head, two facts that clash in a key, or a row of a view to repair and the
+// listed rows to try first.
 // Nothing here is believed: the search checks each proposal, and has a complete walk for where there is none.
+use query_layout::COLUMNS;
 use search_board::ALIVE;
 use search_board::ANY_ROW;
 use search_board::Advice;
@@ -12,6 +14,7 @@ use search_board::BYTE;
 use search_board::CHANGED;
 use search_board::COUNTS_AT;
 use search_board::FACT_END;
+use search_board::FACT_WORDS;
 use search_board::FAILURES;
 use search_board::FELL;
 use search_board::FELL_ROW;
@@ -19,12 +22,14 @@ use search_board::FOUND_ENTRY;
 use search_board::HINT;
 use search_board::KEPT_AT;
 use search_board::KEPT_COUNT;
+use search_board::KEY_BROKEN;
 use search_board::LEAST;
 use search_board::LIST_GIVEN;
 use search_board::LOOKED;
 use search_board::MOST_KEPT;
 use search_board::NOTHING;
 use search_board::OVER;
+use search_board::RELATIONS;
 use search_board::ROW_FAILS;
 use search_board::ROW_GIVEN;
 use search_board::STARTED;
@@ -260,6 +265,130 @@ fn known_rows(
         i = search_board::next_digit(set, i + 1);
     }
     known
+}
+
+// ---- facts that clash in a key
+
+// Whether two rows are alike in column c, as far as that is one of the first n.
+fn is_alike_at(a: &[usize; 4], b: &[usize; 4], n: usize, c: usize) -> bool {
+    if COLUMNS <= c {
+        return true;
+    }
+    if n <= c {
+        return true;
+    }
+    a[c] == b[c]
+}
+
+// Whether two rows are alike in the first n columns.
+fn is_alike(a: &[usize; 4], b: &[usize; 4], n: usize) -> bool {
+    is_alike_at(a, b, n, 0)
+        & is_alike_at(a, b, n, 1)
+        & is_alike_at(a, b, n, 2)
+        & is_alike_at(a, b, n, 3)
+}
+
+// Those in the set that may have the row's value in column c, as far as that is one of the first n.
+fn alike_at(
+    set: [u64; FACT_WORDS],
+    row: &[usize; 4],
+    n: usize,
+    c: usize,
+    bits: &[u64; BITS],
+) -> [u64; FACT_WORDS] {
+    if COLUMNS <= c {
+        return set;
+    }
+    if n <= c {
+        return set;
+    }
+    search_board::both(set, search_board::sharing(bits, c, row[c]))
+}
+
+// The facts of a relation that count and may have the row's values in the first n columns.
+fn facts_alike(
+    relation: usize,
+    row: &[usize; 4],
+    n: usize,
+    bits: &[u64; BITS],
+) -> [u64; FACT_WORDS] {
+    let all = search_board::alive_of(bits, relation);
+    let a = alike_at(all, row, n, 0, bits);
+    let b = alike_at(a, row, n, 1, bits);
+    let c = alike_at(b, row, n, 2, bits);
+    alike_at(c, row, n, 3, bits)
+}
+
+// A fact that is alike with fact i in the first n columns and not in all; FACT_END if there is none.
+fn clashing(
+    relation: usize,
+    i: usize,
+    n: usize,
+    bd: &[u32; BOARD],
+    bits: &[u64; BITS],
+) -> usize {
+    let row = search_board::fact_row(bd, i);
+    let set = facts_alike(relation, &row, n, bits);
+    let mut k = search_board::next_fact(&set, 0);
+    while k < FACT_END {
+        let other = search_board::fact_row(bd, k);
+        if is_alike(&row, &other, n) {
+            if !search_board::same_row(&row, &other) {
+                return k;
+            }
+        }
+        k = search_board::next_fact(&set, k + 1);
+    }
+    FACT_END
+}
+
+// That two facts clash in a key.
+fn by_facts(i: usize, k: usize) -> Advice {
+    let mut at = [0usize; MOST_ATOMS];
+    at[0] = i;
+    at[1] = k;
+    Advice {
+        kind: KEY_BROKEN,
+        block: 0,
+        at,
+        hint: 0,
+    }
+}
+
+// Two facts of a relation, one of them in the set, that clash in its first n columns.
+fn clash_of(
+    relation: usize,
+    n: usize,
+    of: &[u64; FACT_WORDS],
+    bd: &[u32; BOARD],
+    bits: &[u64; BITS],
+) -> Advice {
+    let mut i = search_board::next_fact(of, 0);
+    while i < FACT_END {
+        let k = clashing(relation, i, n, bd, bits);
+        if k < FACT_END {
+            return by_facts(i, k);
+        }
+        i = search_board::next_fact(of, i + 1);
+    }
+    nothing()
+}
+
+// Two facts that clash in a key.
+fn clash(bd: &[u32; BOARD], bits: &[u64; BITS]) -> Advice {
+    let mut relation = 1;
+    while relation < RELATIONS {
+        let n = sheet_terms::key(relation);
+        if 0 < n {
+            let all = search_board::alive_of(bits, relation);
+            let a = clash_of(relation, n, &all, bd, bits);
+            if a.kind != NOTHING {
+                return a;
+            }
+        }
+        relation += 1;
+    }
+    nothing()
 }
 
 // ---- choosing a kept row
@@ -558,6 +687,10 @@ fn advise_row(
         [0; 4]
     };
     search_fold::fold(p, ws, from, &fixed, all, bd, bits);
+    let key = clash(bd, bits);
+    if key.kind != NOTHING {
+        return key;
+    }
     let a = choose(p, ws, asked, sl, bd, bits);
     if a.kind != NOTHING {
         return a;
@@ -568,7 +701,8 @@ fn advise_row(
     last_look(p, sl, bd, bits)
 }
 
-// What to do in the state that the words tell. Where the question is asked, a list that is given its head comes first.
+// What to do in the state that the words tell. Where the question is asked, a list that is given its head comes first. A key leaves one alternative, and
+// comes once facts that add nothing are left out.
 pub fn advise(
     p: &[usize; PLAN_NUMBERS],
     ws: &[usize; SLOTS],

@@ -173,6 +173,9 @@ pub const ROW_GIVEN: usize = 2;
 
 pub const ROW_FAILS: usize = 3;
 
+// Two facts that clash in a key, the first two of those told.
+pub const KEY_BROKEN: usize = 4;
+
 // The block and the facts that its atoms are, and the listed rows to try first.
 pub struct Advice {
     pub kind: usize,

@@ -12,6 +12,7 @@ use Rattle.case_verdicts.specs.Verdict.{Sheet}
 use Rattle.case_verdicts.specs.Tableau.{State, jobs, copy, tableauLog, Meets, Good}
 use Rattle.tableau_plan.specs.Plan.{rowAt, rowValues, rowCount}
 use Rattle.tableau_parts.specs.Views.{GivenToList, StrayBy}
+use Rattle.search_keys.specs.Keys.{KeysHold}
 use Rattle.search_task.specs.Task.{ReadyPlan, asks, sheetBy, numbersOf, Settled, askedRow}
 use Rattle.search_task.proofs.ReadyLaws.{jobs-count, ready-facts}
 use Rattle.search_task.proofs.Copies.{copy-small, first-met, head-long, head-numbers, row-met}
@@ -33,8 +34,8 @@ module _ (p : List ℕ) (x : Sheet) (r : ReadyPlan p x) (goal : Goal) (s : State
           let lt : i < rowCount p = (let few = copy-small (jobs (sheetBy goal x)) c m in let count = jobs-count p x r goal in omega arith) in
           row-met p x r i lt goal s (head-is i lt (h .each i lt)) c m e
 
-  -- no list is given the head, where it is asked, and there is no stray row
-  pub good : (ns : List ℕ) → ns ≡ numbersOf goal p s → (asks goal ≡ true → GivenToList p ns (askedRow p s) → ⊥) → (b : Bool) (v : ℕ) (u : List ℕ) → b ≡ false → StrayBy b p ns v u
+  -- no list is given the head, where it is asked, keys hold, and there is no stray row
+  pub good : (ns : List ℕ) → ns ≡ numbersOf goal p s → (asks goal ≡ true → GivenToList p ns (askedRow p s) → ⊥) → KeysHold ns → (b : Bool) (v : ℕ) (u : List ℕ) → b ≡ false → StrayBy b p ns v u
       → Settled (sheetBy goal x) s → Good (sheetBy goal x) s
-  good ns e lacks true v u off st = absurd (true≢false off)
-  good ns e lacks false v u off none = closed p x r goal s ns (subst (λ l. FactNumbers l (tableauLog (sheetBy goal x) s)) (sym e) (ready-facts p x r goal s)) lacks none
+  good ns e lacks keys true v u off st = absurd (true≢false off)
+  good ns e lacks keys false v u off none = closed p x r goal s ns (subst (λ l. FactNumbers l (tableauLog (sheetBy goal x) s)) (sym e) (ready-facts p x r goal s)) lacks keys none

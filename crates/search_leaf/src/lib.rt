@@ -3,6 +3,7 @@ use query_layout::BLOCK_NUMBERS;
 use query_layout::FACT_NUMBERS;
 use query_layout::HEAD_AT;
 use query_layout::NAMES;
+use search_keys::Clash;
 use search_task::Goal;
 use search_violation::Stray;
 use sheet_format::MOST_LISTS;
@@ -29,6 +30,7 @@ ghost use Rattle.case_verdicts.specs.Words.{stateOf};
 ghost use Rattle.tableau_plan.specs.Plan.{blockNumbers, blockSize, rowCount, rowValues};
 ghost use Rattle.tableau_parts.specs.Views.{GivenToList, StrayBy};
 ghost use Rattle.tableau_parts.specs.Walks.{FormedPlan};
+ghost use Rattle.search_keys.specs.Keys.{KeysBy};
 ghost use Rattle.search_task.specs.Task.{ReadyPlan, asks, sheetBy, numbersOf, Settled, askedRow};
 ghost use Rattle.search_leaf.specs.Leaf.{rowHead, RowHeads};
 
@@ -117,11 +119,16 @@ fn is_answered(p: &[usize; PLAN_NUMBERS], goal: Goal, ws: &[usize; SLOTS], facts
     tableau_answers::giving_list(p, facts, row) < MOST_LISTS
 }
 
-// Whether a state's facts show nothing against it: no list is given the question's head, where that is asked, and no view a stray row.
+// Whether a state's facts show nothing against it: no list is given the question's head, where that is asked, no two of them clash in a key, and no
+// view is given a stray row.
 fn is_clean(p: &[usize; PLAN_NUMBERS], goal: Goal, ws: &[usize; SLOTS], facts: &[usize]) -> bool
     ensures { λ r. ⌜ ((x : Sheet) → ReadyPlan (now (p .entry)) x → r ≡ true → length (now (ws .entry)) ≡ slot-end → now (facts .entry) ≡ numbersOf goal (now (p .entry)) (stateOf top (now (ws .entry))) → Settled (sheetBy goal x) (stateOf top (now (ws .entry))) → Good (sheetBy goal x) (stateOf top (now (ws .entry)))) ⌝ }
 {
     if is_answered(p, goal, ws, facts) {
+        return false;
+    }
+    let clash = search_keys::first_clash(facts);
+    if clash.some {
         return false;
     }
     let stray = search_violation::first(p, facts);
@@ -148,6 +155,15 @@ pub fn is_given(p: &[usize; PLAN_NUMBERS], goal: Goal, ws: &[usize; SLOTS]) -> b
     let mut room = [0; TABLEAU_NUMBERS];
     let n = write_facts(p, goal, ws, &mut room);
     is_answered(p, goal, ws, &room[..n * 5])
+}
+
+// Two facts of the state that clash in a key, if there are any.
+pub fn first_clash(p: &[usize; PLAN_NUMBERS], goal: Goal, ws: &[usize; SLOTS]) -> Clash
+    ensures { λ r. ⌜ ((x : Sheet) → ReadyPlan (now (p .entry)) x → length (now (ws .entry)) ≡ slot-end → KeysBy (r .some) (numbersOf goal (now (p .entry)) (stateOf top (now (ws .entry)))) (r .left) (r .right)) ⌝ }
+{
+    let mut room = [0; TABLEAU_NUMBERS];
+    let n = write_facts(p, goal, ws, &mut room);
+    search_keys::first_clash(&room[..n * FACT_NUMBERS])
 }
 
 // The first stray row that the facts of the state give a view, if there is one, and the places of facts that give it.

@@ -6,4 +6,5 @@ pub mod Shut
 pub mod Sets
 pub mod Calls
 pub mod Terms
+pub mod Keys
 pub mod Nodes

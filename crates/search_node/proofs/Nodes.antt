@@ -17,6 +17,8 @@ use Rattle.search_task.specs.declared.Goal.the-variants.{Counterexample, Agreem
 use Rattle.search_task.proofs.NodeLaws.{closed, stray-is}
 use Rattle.search_task.proofs.ReadyLaws.{ready-facts}
 use Rattle.search_slots.specs.Slots.{inSet}
+use Rattle.search_keys.specs.Keys.{KeyClash, KeysHold, KeysBy}
+use Rattle.search_keys.proofs.Laws.{some-clash}
 use Rattle.search_links.specs.Links.{linkedState}
 use Rattle.search_reasons.specs.Reasons.{RestsOn}
 use Rattle.search_node.specs.Node.{Standing, Wordly, StateFound}
@@ -47,14 +49,17 @@ module _ (p : List ℕ) (x : Sheet) (r : ReadyPlan p x) {ws : List ℕ} (out : L
   pub read-stray : (b : Bool) (v : ℕ) (u : List ℕ) → b ≡ true → StrayBy b p (numbersOf goal p (stateOf top out)) v u → StrayAt p (numbersOf goal p (linkedState top ws)) v u
   read-stray b v u e s = subst (λ (t : State). StrayAt p (numbersOf goal p t) v u) same (stray-is p (numbersOf goal p (stateOf top out)) b v u e s)
 
+  pub read-clash : (b : Bool) (i k : ℕ) → b ≡ true → KeysBy b (numbersOf goal p (stateOf top out)) i k → KeyClash (numbersOf goal p (linkedState top ws)) i k
+  read-clash b i k e c = subst (λ (t : State). KeyClash (numbersOf goal p t) i k) same (some-clash (numbersOf goal p (stateOf top out)) b i k e c)
+
   none-left : (b : Bool) (v : ℕ) (u : List ℕ) → b ≡ false → StrayBy b p (numbersOf goal p (stateOf top out)) v u → NoStray p (numbersOf goal p (stateOf top out))
   none-left true v u e s = absurd (true≢false e)
   none-left false v u e s = s
 
-  pub read-good : (asks goal ≡ true → GivenToList p (numbersOf goal p (stateOf top out)) (askedRow p (stateOf top out)) → ⊥)
+  pub read-good : (asks goal ≡ true → GivenToList p (numbersOf goal p (stateOf top out)) (askedRow p (stateOf top out)) → ⊥) → KeysHold (numbersOf goal p (stateOf top out))
       → (b : Bool) (v : ℕ) (u : List ℕ) → b ≡ false → StrayBy b p (numbersOf goal p (stateOf top out)) v u → StateFound x (sheetBy goal x) out
-  read-good lacks b v u e s = record {
-    good = closed p x r goal (stateOf top out) (numbersOf goal p (stateOf top out)) (ready-facts p x r goal (stateOf top out)) lacks (none-left b v u e s)
+  read-good lacks keys b v u e s = record {
+    good = closed p x r goal (stateOf top out) (numbersOf goal p (stateOf top out)) (ready-facts p x r goal (stateOf top out)) lacks keys (none-left b v u e s)
         (subst (λ (t : State). Settled (sheetBy goal x) t) (sym same) (w .settled));
     size = size;
     stood = λ n h. subst (Standing x) (sym (each n h)) (slot-stands x ws (λ k l. let z = w .size in w .stood k (omega arith)) n h);

@@ -12,7 +12,8 @@ use Rattle.case_verdicts.specs.Sheets.{top}
 use Rattle.case_verdicts.specs.Tableau.{State, Good}
 use Rattle.case_verdicts.specs.Words.{stateOf}
 use Rattle.tableau_plan.specs.Plan.{rowAt, rowValues, rowCount, tableauAt, tableauSize}
-use Rattle.search_task.specs.Task.{Settled}
+use Rattle.search_task.specs.Task.{Settled, fromBy}
+use Rattle.search_task.specs.declared.Goal.{Goal}
 use Rattle.search_slots.specs.Slots.{SetWithin}
 use Rattle.search_links.specs.Links.{Linked, linkedState}
 use Rattle.search_links.specs.Steps.{RootValues}
@@ -40,6 +41,11 @@ TermAt p i w = (c : ℕ) × (c < 4) × (tableauAt p i (1 + c) ≡ w)
 
 abbrev pub TableauTerm : List ℕ → ℕ → Type 0
 TableauTerm p w = (i : ℕ) × (i < tableauSize p) × TermAt p i w
+
+-- two atoms of the tableau that a search has
+pub record AtomsOf (goal : Goal) (p : List ℕ) (i k : ℕ) : Type 0 where
+  pub left : (fromBy goal p ≤ i) × (i < tableauSize p)
+  pub right : (fromBy goal p ≤ k) × (k < tableauSize p)
 
 -- a good state, each slot's word its value
 pub record StateFound (x y : Sheet) (out : List ℕ) : Type 0 where

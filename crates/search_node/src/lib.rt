@@ -8,8 +8,10 @@ use query_layout::MADE_UP;
 use search_board::Advice;
 use search_board::BITS;
 use search_board::BOARD;
+use search_board::KEY_BROKEN;
 use search_board::LIST_GIVEN;
 use search_board::NOTHING;
+use search_keys::Clash;
 use search_slots::SET_WORDS;
 use search_task::Goal;
 use search_violation::Stray;
@@ -37,8 +39,11 @@ ghost use Rattle.tableau_parts.specs.Walks.{Limited};
 ghost use Rattle.search_links.specs.Links.{linkedState};
 ghost use Rattle.search_reasons.specs.Reasons.{RestsOn};
 ghost use Rattle.search_slots.specs.Slots.{inSet};
+ghost use Rattle.search_keys.specs.Keys.{KeyClash};
+ghost use Rattle.search_keys.specs.Clashes.{ClashAt};
 ghost use Rattle.search_node.specs.Choices.{rows-kind, pair-kind, each-kind, right-at, nodeKind, nodeHint, oneValue, nodeBy, partOf, leftOf, rightOf, howMany, LiveBy};
-ghost use Rattle.search_node.specs.Node.{Standing, Wordly, WordOf, TermAt, TableauTerm, StateFound, RowOpen, OpenState, NodeBy};
+ghost use Rattle.search_node.specs.Node.{Standing, Wordly, WordOf, TermAt, TableauTerm, AtomsOf, StateFound, RowOpen, OpenState, NodeBy};
+ghost use Rattle.search_task.specs.declared.Goal.{Goal};
 
 // ---- nodes
 
@@ -427,8 +432,88 @@ fn by_row(
     by_all(view, values, set, node);
 }
 
-// A state looked at whole: good, and then its values stand in `out`; refuted, by a list that is given the question's head; or open at the first row
-// that is not listed.
+// The node of two atoms of the search that clash in a key: their rows have to become one.
+fn key_node(
+    p: &[usize; PLAN_NUMBERS],
+    ws: &[usize; SLOTS],
+    i: usize,
+    k: usize,
+    set: &mut [u64; SET_WORDS],
+    node: &mut [usize; NODE_NUMBERS],
+)
+    ensures { λ r. ⌜ ((goal : Goal) (x : Sheet) → ReadyPlan (now (p .entry)) x → Wordly x (sheetBy goal x) (now (ws .entry)) → AtomsOf goal (now (p .entry)) i k → ClashAt (now (p .entry)) (now (ws .entry)) i k → OpenState (now (p .entry)) x (Good (sheetBy goal x)) (now (ws .entry)) (now (set .exit)) (now (node .exit))) ⌝ }
+    ensures { λ r. ⌜ length (now (set .exit)) ≡ length (now (set .entry)) ⌝ }
+{
+    search_slots::clear(set);
+    let rows = search_keys::show(p, ws, i, k, set);
+    let left = rows.left;
+    let right = rows.right;
+    *node = pair_node(left, right);
+}
+
+// The node of two facts of the whole state that clash in a key.
+fn by_clash(
+    p: &[usize; PLAN_NUMBERS],
+    ws: &[usize; SLOTS],
+    goal: Goal,
+    clash: Clash,
+    set: &mut [u64; SET_WORDS],
+    node: &mut [usize; NODE_NUMBERS],
+)
+    ensures { λ r. ⌜ ((x : Sheet) → ReadyPlan (now (p .entry)) x → Wordly x (sheetBy goal x) (now (ws .entry)) → KeyClash (numbersOf goal (now (p .entry)) (linkedState top (now (ws .entry)))) (clash .left) (clash .right) → OpenState (now (p .entry)) x (Good (sheetBy goal x)) (now (ws .entry)) (now (set .exit)) (now (node .exit))) ⌝ }
+    ensures { λ r. ⌜ length (now (set .exit)) ≡ length (now (set .entry)) ⌝ }
+{
+    let from = search_task::start(p, goal);
+    let i = clash.left;
+    let k = clash.right;
+    if TABLEAU_ATOMS < from {
+        return;
+    }
+    if TABLEAU_ATOMS <= i {
+        return;
+    }
+    if TABLEAU_ATOMS <= k {
+        return;
+    }
+    key_node(p, ws, from + i, from + k, set, node);
+}
+
+// The node that two atoms show which clash in a key. False: they show nothing.
+fn clash_node(
+    p: &[usize; PLAN_NUMBERS],
+    ws: &[usize; SLOTS],
+    goal: Goal,
+    i: usize,
+    k: usize,
+    set: &mut [u64; SET_WORDS],
+    node: &mut [usize; NODE_NUMBERS],
+) -> bool
+    ensures { λ r. ⌜ ((x : Sheet) → ReadyPlan (now (p .entry)) x → Wordly x (sheetBy goal x) (now (ws .entry)) → r ≡ true → OpenState (now (p .entry)) x (Good (sheetBy goal x)) (now (ws .entry)) (now (set .exit)) (now (node .exit))) ⌝ }
+    ensures { λ r. ⌜ length (now (set .exit)) ≡ length (now (set .entry)) ⌝ }
+{
+    let from = search_task::start(p, goal);
+    let size = p[TABLEAU_SIZE_AT];
+    if i < from {
+        return false;
+    }
+    if size <= i {
+        return false;
+    }
+    if k < from {
+        return false;
+    }
+    if size <= k {
+        return false;
+    }
+    if !search_keys::are_clashing(p, ws, i, k) {
+        return false;
+    }
+    key_node(p, ws, i, k, set, node);
+    true
+}
+
+// A state looked at whole: good, and then its values stand in `out`; refuted, by a list that is given the question's head; or open at two facts that
+// clash in a key, or at the first row that is not listed.
 fn by_walk(
     p: &[usize; PLAN_NUMBERS],
     ws: &[usize; SLOTS],
@@ -444,6 +529,11 @@ fn by_walk(
     if search_leaf::is_given(p, goal, out) {
         fill(set);
         refute(node);
+        return false;
+    }
+    let clash = search_leaf::first_clash(p, goal, out);
+    if clash.some {
+        by_clash(p, ws, goal, clash, set, node);
         return false;
     }
     let stray = search_leaf::first_stray(p, goal, out);
@@ -536,6 +626,9 @@ pub fn show_node(
     let at = a.at;
     if a.kind == LIST_GIVEN {
         return list_node(p, ws, goal, a.block, &at, set, node);
+    }
+    if a.kind == KEY_BROKEN {
+        return clash_node(p, ws, goal, at[0], at[1], set, node);
     }
     view_node(p, ws, goal, a.block, &at, a.hint, set, node)
 }

@@ -7,7 +7,6 @@ use native.Mathlib.Nat.{min-eq-left}
 use native.Mathlib.Omega.{arith}
 use lib.IntN.{pos}
 use lib.ListN.{length, length-map}
-use Rattle.case_verdicts.proofs.Plain.{no-keys}
 use Rattle.tableau_layout.specs.Layout.{list-block, view-block}
 use Rattle.sheet_format.specs.Relations.{columnsOf}
 use Rattle.sheet_format.proofs.Lists.{append-nil}
@@ -30,6 +29,8 @@ use Rattle.case_verdicts.proofs.Refute.{list-gives, view-gives, copy-gives, ste
 use Rattle.tableau_plan.specs.Plan.{rowAt, rowValues, rowCount, viewCount, blockNumbers, blockSize, Plan}
 use Rattle.tableau_plan.proofs.Whole.{nth-in}
 use Rattle.tableau_parts.specs.Views.{GivenAt, ListedRow, StrayAt, NoStray}
+use Rattle.search_keys.specs.Keys.{KeysHold}
+use Rattle.search_keys.proofs.Laws.{keys-held}
 use Rattle.search_task.proofs.Padded.{refuted-padded}
 
 -- ---- a task: the sheet itself, or the bare sheet, whose cases are the agreeing logs
@@ -130,9 +131,9 @@ module _ (p : List ℕ) (x y : Sheet) (plan : Plan p x) (task : Task p x y) (s :
       step (copy-gives y (task .accepted) s (record { number = suc i; job = record { block = w .block; is = map con (o .row) } }) k)
       (λ alt j. ⊎-elim (λ z. subst (λ a. RefutedBy top y s a) (sym z) (subst (λ a. RefutedBy top y s (equations t a)) (sym (row-con (copy s (suc i)) (o .row))) q)) absurd j)
 
-  -- every copy's head is what it must be, no view gives a stray row, no list gives the question's head: the state is good
-  pub good-state : ((c : Copy) → In c (numbered (jobs y)) → Meets (copy s (c .number)) (c .job)) → NoStray p ns → ((l : Block) → In l (y .lists) → Answer (tableauLog y s) l (headOf y s) → ⊥) → Good y s
-  good-state meets none lacks = record { meets = meets; keyed = λ f g m n k. no-keys (task .plain) f g k; none-more = none-stray p x y plan task (tableauLog y s) ns fn none; missing = lacks }
+  -- every copy's head is what it must be, keys hold, no view gives a stray row, no list gives the question's head: the state is good
+  pub good-state : ((c : Copy) → In c (numbered (jobs y)) → Meets (copy s (c .number)) (c .job)) → KeysHold ns → NoStray p ns → ((l : Block) → In l (y .lists) → Answer (tableauLog y s) l (headOf y s) → ⊥) → Good y s
+  good-state meets keys none lacks = record { meets = meets; keyed = keys-held (task .plain) fn shaped-log keys; none-more = none-stray p x y plan task (tableauLog y s) ns fn none; missing = lacks }
 
 -- ---- what is settled stays settled
 

@@ -24,6 +24,7 @@ use Rattle.tableau_plan.specs.Plan.{listCount, listAt, blockNumbers, blockSize,
 use Rattle.tableau_plan.proofs.Tableau.{tableau-length}
 use Rattle.tableau_parts.specs.Views.{GivenAt, GivenToList, SafePlan, StrayAt, NoStray, StrayBy}
 use Rattle.tableau_parts.specs.Walks as walks
+use Rattle.search_keys.specs.Keys.{KeysHold}
 use Rattle.search_task.specs.Task.{ReadyPlan, sheetBy, fromBy, numbersOf, Settled, askedRow, asks}
 use Rattle.search_task.proofs.Node.{list-refuted, list-lacks, good-state}
 use Rattle.search_task.proofs.ReadyLaws.{ready-task, ready-facts}
@@ -95,16 +96,16 @@ module _ (p : List ℕ) (x : Sheet) (r : ReadyPlan p x) where
       list-refuted p x x (r .plan) (ready-task p x r Counterexample) s ns fn i (listAt x i) (list-in i lt) (list-shaped i lt) (r .plan .list i lt) (subst (GivenAt p (list-block i) ns) (asked-head s) g)
       (r .lists (listAt x i) (list-in i lt) .1 ∙ sym (head-length s))
 
-  -- none is, and there is no stray row: good, once the copies' heads are settled
+  -- none is, keys hold, and there is no stray row: good, once the copies' heads are settled
   pub closed : (goal : Goal) (s : State) (ns : List ℕ) → FactNumbers ns (tableauLog (sheetBy goal x) s)
-      → (asks goal ≡ true → GivenToList p ns (askedRow p s) → ⊥) → NoStray p ns → Settled (sheetBy goal x) s → Good (sheetBy goal x) s
-  closed Counterexample s ns fn lacks clean st =
-      good-state p x x (r .plan) (ready-task p x r Counterexample) s ns fn st clean
+      → (asks goal ≡ true → GivenToList p ns (askedRow p s) → ⊥) → KeysHold ns → NoStray p ns → Settled (sheetBy goal x) s → Good (sheetBy goal x) s
+  closed Counterexample s ns fn lacks keys clean st =
+      good-state p x x (r .plan) (ready-task p x r Counterexample) s ns fn st keys clean
       (λ l m.
       let (i, lt, e) = list-index l m in
       subst (λ b. Answer (tableauLog x s) b (headOf x s) → ⊥) e
       (list-lacks p x x (r .plan) (ready-task p x r Counterexample) s ns fn i (listAt x i) (list-shaped i lt) (r .plan .list i lt) (λ g. lacks refl (i, lt, subst (GivenAt p (list-block i) ns) (sym (asked-head s)) g))))
-  closed Agreement s ns fn lacks clean st = good-state p x (bare x) (r .plan) (ready-task p x r Agreement) s ns fn st clean (λ k m. absurd m)
+  closed Agreement s ns fn lacks keys clean st = good-state p x (bare x) (r .plan) (ready-task p x r Agreement) s ns fn st keys clean (λ k m. absurd m)
 
   pub from-few : (goal : Goal) → fromBy goal p ≤ tableauSize p
   from-few Counterexample = omega arith

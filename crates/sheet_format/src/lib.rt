@@ -37,6 +37,10 @@ pub const COLUMNS: [usize; 10] = [2, 1, 3, 2, 2, 2, 3, 2, 4, 1];
 // The relations' parents: in a log that counts, a relation's parent has each of its rows. Beats and noise are signals; 0 is no parent.
 pub const PARENTS: [usize; 10] = [0, 0, 0, 0, 4, 4, 0, 0, 0, 0];
 
+// The relations' keys: in a log that counts, rows alike in the first so many columns are alike in all. A strap has one rower in a session and one rate at a
+// tick; 0 is no key.
+pub const KEYS: [usize; 10] = [0, 0, 2, 0, 0, 0, 2, 0, 0, 0];
+
 // The most atoms of the question or a list, and of a view; the most lists; the most views; the most rows, of all views together.
 pub const MOST_ATOMS: usize = 6;
 

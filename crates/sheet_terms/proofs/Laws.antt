@@ -1,18 +1,20 @@
 -- A signed word by its two cases: as a term, and as a relation's number. Assumes nothing.
 use mathlib.Core.Path.{_≡_, refl, sym, ap}
 use mathlib.Core.Bool.{true, false}
+use mathlib.Core.List.{List, [], _∷_}
 use Prim.Native.Nat.{ℕ, zero, suc, _<_, _≤_, _-_}
 use native.Mathlib.Nat.{zero-add}
 use native.Mathlib.Omega.{arith}
+use lib.Dec.{leb}
 use lib.IntN.{ℤ, pos, negsuc, _-ℤ_}
 use lib.ListN.{getD, List·getD-eq-default}
 use lib.Signed.{ltZ}
-use borrow.Author.Tests.{ltb-true, ltb-false, lt-ltb, le-ltb}
+use borrow.Author.Tests.{ltb-true, ltb-false, lt-ltb, le-ltb, leb-true}
 use Rattle.sheet_format.specs.Limits.{constant-end}
-use Rattle.sheet_format.specs.Line.{natural}
-use Rattle.sheet_format.proofs.Lists.{no-way}
+use Rattle.sheet_format.specs.Line.{all, natural}
+use Rattle.sheet_format.proofs.Lists.{no-way, both}
 use Rattle.sheet_format.specs.Cause.{termOf, orOut}
-use Rattle.sheet_format.specs.Relations.{columnsOf, parentOf, parentNumbers, relations}
+use Rattle.sheet_format.specs.Relations.{columnsOf, keyOf, keyNumbers, parentOf, parentNumbers, relations}
 use Rattle.sheet_format.specs.declared.FieldTerm.the-variants.{Constant, Variable, OutOfRange}
 
 -- ---- terms
@@ -69,7 +71,36 @@ pub columns-past : (n : ℕ) → 10 ≤ n → 0 ≡ columnsOf (pos (suc n))
 unfolding columnsOf
 columns-past n h = sym (List·getD-eq-default relations 0 h)
 
--- so it is with parents
+-- no entry is more than a row has columns
+pub table-most : (l : List ℕ) → all (λ n. leb n 4) l ≡ true → (n : ℕ) → getD l n 0 ≤ 4
+table-most [] e n = omega arith
+table-most (x ∷ l) e zero = leb-true x 4 (both (leb x 4) _ e .0)
+table-most (x ∷ l) e (suc n) = table-most l (both (leb x 4) _ e .1) n
+
+-- so it is with keys, of which none is longer than a row
+pub key-few : (n : ℕ) → keyOf n ≤ 4
+unfolding keyOf
+key-few zero = omega arith
+key-few (suc n) = table-most keyNumbers refl n
+
+pub key-none : (n : ℕ) → n ≡ 0 → 0 ≡ keyOf n
+unfolding keyOf
+key-none zero e = refl
+key-none (suc n) e = absurd (omega arith)
+
+pub key-past : (n : ℕ) → 10 < n → 0 ≡ keyOf n
+unfolding keyOf
+key-past zero h = refl
+key-past (suc n) h = let l : 10 ≤ n = omega arith in sym (List·getD-eq-default keyNumbers 0 l)
+
+pub key-at : (n : ℕ) → (n ≡ 0 → ⊥) → getD keyNumbers (n - 1) 0 ≡ keyOf n
+unfolding keyOf
+key-at zero ne = absurd (ne refl)
+key-at (suc n) ne =
+    let e : suc n - 1 ≡ n = omega arith in
+    ap (λ k. getD keyNumbers k 0) e
+
+-- and with parents
 pub parent-none : (n : ℕ) → n ≡ 0 → 0 ≡ parentOf n
 unfolding parentOf
 parent-none zero e = refl

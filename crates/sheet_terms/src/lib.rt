@@ -2,12 +2,14 @@
 use sheet_format::COLUMNS;
 use sheet_format::CONSTANT_END;
 use sheet_format::FieldTerm;
+use sheet_format::KEYS;
 use sheet_format::PARENTS;
 use sheet_format::VARIABLES;
 ghost use mathlib.Core.Path.{_≡_};
+ghost use Prim.Native.Nat.{_≤_};
 ghost use Rattle.sheet_format.specs.Cause.{termOf};
 ghost use Rattle.sheet_format.specs.Line.{natural};
-ghost use Rattle.sheet_format.specs.Relations.{columnsOf, parentOf};
+ghost use Rattle.sheet_format.specs.Relations.{columnsOf, keyOf, parentOf};
 
 const LAST_VARIABLE: i32 = -VARIABLES;
 
@@ -52,6 +54,19 @@ pub fn parent(relation: usize) -> usize
         return 0;
     }
     PARENTS[relation - 1]
+}
+
+// How many of a relation's columns settle the others, 0 where it has no key.
+pub fn key(relation: usize) -> usize
+    ensures { λ r. ⌜ (r ≡ keyOf relation) × (r ≤ 4) ⌝ }
+{
+    if relation == 0 {
+        return 0;
+    }
+    if KEYS.len() < relation {
+        return 0;
+    }
+    KEYS[relation - 1]
 }
 
 // A word as a plain number; a negative one as 0.
