@@ -226,6 +226,10 @@ pub fn to_judge(random: &mut Random) -> Drawn {
             let (lines, _) = generate::at_times_seven_digits(random, |_| (lines, vec![]));
             (name, sheet::bytes_of(&lines), Known::Large, vec![])
         }
+        30..=36 => {
+            let (lines, _) = generate::at_times_seven_digits(random, |random| (generate::resting_on_keys(random), vec![]));
+            ("small, resting on keys", sheet::bytes_of(&lines), Known::Searched, vec![])
+        }
         _ => ("small", sheet::bytes_of(&generate::small_or_seven_digits(random)), Known::Searched, vec![]),
     }
 }
@@ -233,6 +237,9 @@ pub fn to_judge(random: &mut Random) -> Drawn {
 /// The verdicts that are right here, and how they are known. Where no slip is on, `large` has to come to the same verdict.
 pub fn verdicts(sheet: &sheet::Sheet, known: Known, log: &[meaning::Fact]) -> Result<(Vec<usize>, &'static str), String> {
     let (right, how) = plain_verdicts(sheet, known, log)?;
+    if !slips::any() && right.len() == 1 {
+        only_grows(sheet, right[0])?;
+    }
     if slips::any() || known == Known::Large {
         return Ok((right, how));
     }
@@ -242,6 +249,15 @@ pub fn verdicts(sheet: &sheet::Sheet, known: Known, log: &[meaning::Fact]) -> Re
         }
         Some(verdict) if right.len() > 1 => Ok((vec![verdict], BY_SEARCH)),
         _ => Ok((right, how)),
+    }
+}
+
+/// Keys leave fewer logs: what is covered without them is covered or has no log, and what has none without them has none.
+fn only_grows(sheet: &sheet::Sheet, verdict: usize) -> Result<(), String> {
+    match large::verdict_without_keys(sheet, SECOND_STEPS)? {
+        Some(0) if verdict == 1 => Err("the ways here differ: 0 without keys and 1 with them".into()),
+        Some(2) if verdict != 2 => Err(format!("the ways here differ: 2 without keys and {verdict} with them")),
+        _ => Ok(()),
     }
 }
 
@@ -304,6 +320,11 @@ fn judge(random: &mut Random, show: bool) -> Outcome {
         }
         if told.verdict == 0 && large::verdict(&alone, SECOND_STEPS)? == Some(1) {
             notes.push("0 that is 1 without the views");
+        }
+        match (told.verdict, large::verdict_without_keys(taken, SECOND_STEPS)?) {
+            (0, Some(1)) => notes.push("0 that is 1 without keys"),
+            (2, Some(0 | 1)) => notes.push("2 that is 0 or 1 without keys"),
+            _ => {}
         }
         if told.verdict == 1 && out.after().chunks(5).take(told.count).any(|f| f[1..].iter().any(|v| *v >= meaning::MADE_UP)) {
             notes.push("1 with values that are made up");

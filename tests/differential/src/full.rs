@@ -1,10 +1,10 @@
 //! Sheets to judge up to every limit, many of them exactly at one, and which limits a sheet meets.
 
-use crate::generate::{any, atom, closed, facts, head, list_like, part, taken, Lines, Stock};
+use crate::generate::{any, atom, closed, facts, head, list_like, obeying, part, share_keys, taken, Lines, Stock};
 use crate::large::{answers, Steps};
 use crate::meaning::Fact;
 use crate::random::Random;
-use crate::sheet::{Block, Sheet, COLUMNS, MOST_CONSTANT};
+use crate::sheet::{key_of, Block, Sheet, COLUMNS, MOST_CONSTANT};
 
 const LISTS: usize = 4;
 const VIEWS: usize = 8;
@@ -73,6 +73,7 @@ fn linked(random: &mut Random, stock: &Stock, kind: i64, columns: usize, count: 
         }
         atoms.push(line);
     }
+    share_keys(random, stock, &mut atoms);
     [vec![head(random, stock, kind, columns, &atoms)], atoms].concat()
 }
 
@@ -107,14 +108,14 @@ fn whole_view(random: &mut Random, relation: usize, atoms: usize) -> Lines {
     lines
 }
 
-/// So many rows of a relation's columns, of a few values and of any.
-fn some_rows(random: &mut Random, columns: usize, count: usize, values: &[i64]) -> Lines {
+/// So many rows of so many columns, of a few values and of any, no two of them alike in the first so many.
+fn some_rows(random: &mut Random, columns: usize, key: usize, count: usize, values: &[i64]) -> Lines {
     let mut rows: Lines = Vec::new();
     while rows.len() < count {
         let often = if columns < 3 { 50 } else { 10 };
         let row: Vec<i64> =
             std::iter::once(5).chain((0..columns).map(|_| if random.percent(often) { any(random) } else { random.pick(values) })).collect();
-        if !rows.contains(&row) {
+        if !rows.iter().any(|other| other[..=key] == row[..=key]) {
             rows.push(row);
         }
     }
@@ -154,6 +155,7 @@ fn drawn(random: &mut Random) -> Option<Lines> {
     let count = random.between(4, 24);
     let log = facts(random, &relations, &values, count);
     let log = if random.percent(90) { closed(log) } else { log };
+    let log = if random.percent(90) { obeying(log) } else { log };
     let (mut shown, mut atoms) = (Lines::new(), Lines::new());
     for _ in 0..views - 1 {
         let mut tries = 0;
@@ -179,7 +181,8 @@ fn drawn(random: &mut Random) -> Option<Lines> {
     }
     let count = if full { VIEWED } else { random.pick(&[1, VIEWED]) };
     shown.extend(whole_view(random, filling, count));
-    shown.extend(some_rows(random, COLUMNS[filling], left, &values));
+    let key = key_of(filling).filter(|_| random.percent(90)).unwrap_or(COLUMNS[filling]);
+    shown.extend(some_rows(random, COLUMNS[filling], key, left, &values));
     // The question asks for what the views show, for the relation that is listed whole, and for one that no view shows.
     let mut asked = Lines::new();
     let mut wide = Stock { relations: relations.clone(), ..stock };
@@ -267,7 +270,7 @@ fn largest(random: &mut Random) -> Lines {
         };
         lines.push(vec![3, -1]);
         lines.extend(relations.iter().enumerate().map(atom).collect::<Lines>());
-        lines.extend(some_rows(random, 1, count, &[1, 2, 3, 4, 5, 6, 7, 8]));
+        lines.extend(some_rows(random, 1, 1, count, &[1, 2, 3, 4, 5, 6, 7, 8]));
     }
     lines
 }

@@ -1,8 +1,9 @@
 //! Inputs: sheets that are right, at the limits, damaged or random; facts likewise; small sheets to judge.
 
+use crate::large;
 use crate::meaning::{answers, owed, Fact, MADE_UP, MOST_VALUE};
 use crate::random::Random;
-use crate::sheet::{blocks, bytes_of, Sheet, COLUMNS, MOST_CONSTANT};
+use crate::sheet::{blocks, bytes_of, key_of, Sheet, COLUMNS, MOST_CONSTANT};
 use std::collections::{BTreeMap, BTreeSet};
 use std::sync::atomic::{AtomicBool, Ordering};
 
@@ -56,6 +57,23 @@ pub fn atom(random: &mut Random, stock: &Stock) -> Vec<i64> {
     line
 }
 
+/// Atoms of a relation whose first columns settle the others often begin alike: as an earlier one does, or with the first constant, as in
+/// other blocks.
+pub fn share_keys(random: &mut Random, stock: &Stock, atoms: &mut Lines) {
+    for at in 0..atoms.len() {
+        let Some(key) = key_of(atoms[at][1] as usize) else { continue };
+        let earlier: Vec<Vec<i64>> = atoms[..at].iter().filter(|line| line[1] == atoms[at][1]).cloned().collect();
+        match random.below(10) {
+            0..=3 if !earlier.is_empty() => {
+                let from = random.pick(&earlier);
+                atoms[at][2..2 + key].copy_from_slice(&from[2..2 + key]);
+            }
+            4..=6 => atoms[at][2..2 + key].fill(stock.constants[0]),
+            _ => {}
+        }
+    }
+}
+
 /// A head's line over atoms, safe unless it is too long for any.
 pub fn head(random: &mut Random, stock: &Stock, kind: i64, columns: usize, atoms: &Lines) -> Vec<i64> {
     let variables: Vec<i64> = atoms.iter().flat_map(|a| a[2..].iter().copied()).filter(|t| *t < 0).collect();
@@ -68,7 +86,8 @@ pub fn head(random: &mut Random, stock: &Stock, kind: i64, columns: usize, atoms
 
 /// A block's lines, rows not included.
 fn block(random: &mut Random, stock: &Stock, kind: i64, columns: usize, count: usize) -> Lines {
-    let atoms: Lines = (0..count).map(|_| atom(random, stock)).collect();
+    let mut atoms: Lines = (0..count).map(|_| atom(random, stock)).collect();
+    share_keys(random, stock, &mut atoms);
     let mut lines = vec![head(random, stock, kind, columns, &atoms)];
     lines.extend(atoms);
     lines
@@ -513,11 +532,22 @@ pub fn facts(random: &mut Random, relations: &[usize], values: &[i64], count: us
         for word in &mut fact[1..=COLUMNS[relation]] {
             *word = random.pick(values) as i32;
         }
+        if let Some(key) = key_of(relation).filter(|_| random.percent(30)) {
+            fact[1..=key].fill(values[0] as i32);
+        }
         all.push(fact);
     }
     all.sort();
     all.dedup();
     all
+}
+
+/// The facts without those that a key forbids beside earlier ones.
+pub fn obeying(mut log: Vec<Fact>) -> Vec<Fact> {
+    let key = |fact: &Fact| key_of(fact[0] as usize).map(|key| fact[..=key].to_vec());
+    let mut seen = BTreeSet::new();
+    log.retain(|fact| key(fact).is_none_or(|key| seen.insert(key)));
+    log
 }
 
 /// The facts with the rows that they owe.
@@ -729,15 +759,38 @@ pub fn deep() -> bool {
 
 /// A small sheet to judge, with few variables in all. Its valuations are so many that they can be tried.
 pub fn small(random: &mut Random) -> Lines {
+    let keyed = random.percent(20);
+    small_of(random, keyed)
+}
+
+/// A small sheet of Worn and Pulse whose verdict would mostly be another one if no column settled another.
+pub fn resting_on_keys(random: &mut Random) -> Lines {
+    for _ in 0..200 {
+        let lines = small_of(random, true);
+        let sheet = taken(&lines).unwrap();
+        let with = large::verdict(&sheet, KEY_STEPS).ok().flatten();
+        if with.is_some() && with != large::verdict_without_keys(&sheet, KEY_STEPS).ok().flatten() {
+            return lines;
+        }
+    }
+    small(random)
+}
+
+/// The steps of `large` for a sheet that is only looked for.
+const KEY_STEPS: u64 = 20_000;
+
+fn small_of(random: &mut Random, keyed: bool) -> Lines {
     let (least, most) = random.pick(&[(0, 400), (0, 400), (50, 400), (400, 5_000), (400, 5_000), (5_000, 60_000)]);
     let (least, most) = if deep() { (50_000, 5_000_000) } else { (least, most) };
-    let tiny = most == 400 && random.percent(25);
+    let tiny = !keyed && most == 400 && random.percent(25);
     loop {
         let mut stock = Stock::few(random);
         if tiny {
             stock.relations = vec![2, 10];
             stock.relations.truncate(random.between(1, 2));
             stock.constants.truncate(2);
+        } else if keyed {
+            stock.relations = (0..random.between(1, 3)).map(|_| random.pick(&[3, 7, 3, 7, 7, 5, 2])).collect();
         } else if random.percent(80) {
             stock.relations = (0..random.between(1, 3)).map(|_| random.pick(&[2, 10, 4, 5, 6, 1, 8, 4, 5, 7, 3])).collect();
         }
@@ -752,6 +805,7 @@ pub fn small(random: &mut Random) -> Lines {
         let count = random.between(0, 5);
         let log = facts(random, &stock.relations, &values, count);
         let log = if random.percent(85) { closed(log) } else { log };
+        let log = if random.percent(85) { obeying(log) } else { log };
         let planted = random.percent(75);
         for _ in 0..random.pick(&[0, 1, 1, 2, 2, 3, 4]) {
             let mut view_columns = random.pick(&[0, 1, 1, 2, 2, 3, 4]);
@@ -810,6 +864,8 @@ pub fn pinned(random: &mut Random) -> (Lines, Vec<Fact>) {
             facts(random, &relations, &values, count).into_iter().filter(|f| relations.contains(&(f[0] as usize))).collect();
         // Where signals are listed, rows that are owed may be missing: then no log agrees.
         let log = if relations.contains(&4) && random.percent(30) { log } else { closed(log) };
+        // Rows that a key allows one of are at times listed together: then none does either.
+        let log = if random.percent(20) { log } else { obeying(log) };
         let columns = random.pick(&[0, 1, 1, 2, 3]);
         let atoms = random.pick(&[1, 1, 2, 2, 3]);
         let question = block(random, &stock, 1, columns, atoms);
@@ -850,7 +906,7 @@ pub fn planted(random: &mut Random) -> (Lines, Vec<Fact>) {
         let mut values = stock.constants.clone();
         values.extend([3, 4, 5, 6, 9]);
         let count = random.between(3, 12);
-        let log = closed(facts(random, &stock.relations, &values, count));
+        let log = obeying(closed(facts(random, &stock.relations, &values, count)));
         let columns = random.pick(&[0, 1, 1, 2]);
         let atoms = random.between(1, 4);
         let question = block(random, &stock, 1, columns, atoms);

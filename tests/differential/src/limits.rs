@@ -223,6 +223,7 @@ pub fn all() -> (usize, Vec<String>) {
             ("a fact's unused word", 1, one(2, 1, 1), 4, 11),
             ("facts ascend", 1, [strap(1), strap(2)].concat(), 4, 0),
             ("facts ascend", 1, [strap(2), strap(2)].concat(), 4, 12),
+            ("facts that a key allows one of", 1, [[7, 7, 1, 90, 0], [7, 7, 1, 91, 0]].concat(), 0, 0),
             ("the last block", 10, straps(1), 4, 0),
             ("the last block", 11, straps(1), 4, 10),
             ("the first block", 1, straps(1), 4, 0),

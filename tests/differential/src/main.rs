@@ -1,6 +1,7 @@
 //! Compares the library, through its calls for C, with an implementation of its own of all that the library is described to do.
 //!
 //!     cargo run --release --offline -- [COUNT [SEED]]              COUNT inputs of each call, 100,000 with seed 1 where nothing is said
+//!     cargo run --release --offline -- COUNT SEED --call CALL      inputs of one call
 //!     cargo run --release --offline -- COUNT SEED --only CALL N    input N of a call, with both answers
 //!     cargo run --release --offline -- [COUNT [SEED]] --deep       judge alone, on sheets that take this program longer
 //!     cargo run --release --offline -- --slip                      mistakes put into this implementation, and into results: all are found
@@ -275,6 +276,9 @@ fn main() {
             slips::set(slip);
             compared(call, count.unwrap_or(20_000), seed)
         }
+        ["--call", call] if CALLS.contains(&call) => {
+            compared(CALLS.iter().position(|c| *c == call).unwrap(), count.unwrap_or(100_000), seed)
+        }
         ["--only", call, index] if CALLS.contains(&call) && index.parse::<u64>().is_ok() => {
             let outcome = compare::one(CALLS.iter().position(|c| *c == call).unwrap(), seed, index.parse().unwrap(), true);
             println!("{}\n{}, {}", outcome.input, outcome.result, outcome.known);
@@ -282,7 +286,10 @@ fn main() {
             !outcome.differs
         }
         _ => {
-            eprintln!("usage: [COUNT [SEED]] [--slip [NAME] | --deep] [--only read|write|line|evaluate|judge|judge_set N]");
+            eprintln!(
+                "usage: [COUNT [SEED]] [--slip [NAME] | --deep] [--call CALL | --only CALL N], where CALL is one of {}",
+                CALLS.join(", ")
+            );
             std::process::exit(2);
         }
     };

@@ -10,6 +10,11 @@ pub fn owed_to(relation: usize) -> Option<usize> {
     (relation == 5 || relation == 6).then_some(4)
 }
 
+/// How many first columns of a relation settle the others: strap and session the rower, strap and tick the rate.
+pub fn key_of(relation: usize) -> Option<usize> {
+    (relation == 3 || relation == 7).then_some(2)
+}
+
 /// Constants are 0 to this.
 pub const MOST_CONSTANT: i64 = 9_999_999;
 

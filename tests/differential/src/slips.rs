@@ -46,12 +46,16 @@ pub enum Slip {
     ViewsAsBehindOneList,
     FirstListAlone,
     LastListForgotten,
+    KeysOfQuestionAlone,
+    MadeUpNeverMadeEqual,
+    KeyClashIsCovered,
+    KeyOfOneColumn,
 }
 
 use Slip::*;
 
 /// Each slip with the call that it is looked for in, by its place in main's table of calls.
-pub const ALL: [(Slip, usize); 41] = [
+pub const ALL: [(Slip, usize); 45] = [
     (MinusZeroTaken, 0),
     (UnclosedLastLineTaken, 0),
     (ConstantOneTooHigh, 0),
@@ -93,6 +97,10 @@ pub const ALL: [(Slip, usize); 41] = [
     (ViewsAsBehindOneList, 3),
     (FirstListAlone, 4),
     (LastListForgotten, 4),
+    (KeysOfQuestionAlone, 4),
+    (MadeUpNeverMadeEqual, 4),
+    (KeyClashIsCovered, 4),
+    (KeyOfOneColumn, 4),
 ];
 
 static CURRENT: AtomicUsize = AtomicUsize::new(None as usize);
