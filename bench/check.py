@@ -5,9 +5,9 @@
     python3 bench/check.py --sheets FOLDER [COUNT] [SECONDS]
 
 Run it at the repository's root, after `cargo build --release --offline` in bench/. It takes COUNT generated sheets (4,000
-unless said), as many damaged ones, and the stored cases. Verdicts and refusals have to be the same with each strategy of
-the search; each case handed over has to be a case, without facts to spare, in order, with its least missing answer.
-PROGRAM, if given, is a program like target/bin/cover, and is asked beside it.
+unless said), half of them of Worn and Pulse, as many damaged ones, and the stored cases. Verdicts and refusals have to be the
+same with each strategy of the search; each case handed over has to be a case, without facts to spare, in order, with its least
+missing answer. PROGRAM, if given, is a program like target/bin/cover, and is asked beside it.
 
 With --sheets it takes the files of a folder, as `bench sheets` writes them, COUNT of them in even steps (all unless said), and the best
 strategy alone. The other judge is slow: what it does not judge, or whose case is not looked at, in SECONDS (2 unless said) is counted so.
@@ -19,8 +19,8 @@ import sys
 
 sys.path.insert(0, str(pathlib.Path(__file__).resolve().parent.parent / "tests"))
 
-from cover_cases import (COLUMNS, MADE_UP, Dice, answers_in_steps, blocks_of, constants_of, has_no_fact_to_spare, is_case, judged_by_search, lacking,  # noqa: E402
-                         most_general, parts_of, some_block, some_sheet)
+from cover_cases import (COLUMNS, KEYED, MADE_UP, Dice, answers_in_steps, blocks_of, constants_of, has_no_fact_to_spare, is_case, judged_by_search,  # noqa: E402
+                         lacking, most_general, obeying, parts_of, some_block, some_sheet)
 from evaluate_cases import raised_lines  # noqa: E402
 from sheet_cases import MOST_WORDS, read, sheet_of  # noqa: E402
 
@@ -28,14 +28,14 @@ BENCH = pathlib.Path(__file__).resolve().parent / "target/release/bench"
 STRATEGIES = 11
 
 
-def wider_sheet(dice):
+def wider_sheet(dice, often=range(1, 11)):
     """Lines of a sheet with more views, rows and relations than some_sheet has."""
-    relations = [1 + dice.below(10) for _ in range(1 + dice.below(4))]
+    relations = [dice.one(often) for _ in range(1 + dice.below(4))]
     top = 1 + dice.below(4)
     columns = dice.below(5)
     lines = some_block(dice, 1, columns, 1 + dice.below(4), relations, top) + some_block(dice, 2, columns, 1 + dice.below(4), relations, top)
-    log = [(relation, tuple(1 + dice.below(top) for _ in range(COLUMNS[relation])))
-           for relation in (dice.one(relations) for _ in range(1 + dice.below(6)))]
+    log = obeying([(relation, tuple(1 + dice.below(top) for _ in range(COLUMNS[relation])))
+                   for relation in (dice.one(relations) for _ in range(1 + dice.below(6)))])
     for _ in range(dice.below(6)):
         columns = dice.below(5)
         block = some_block(dice, 3, columns, 1 + dice.below(3), relations, top)
@@ -183,7 +183,8 @@ def main():
     dice = Dice(seed)
     sheets = list(stored())
     while len(sheets) < count:
-        lines = (some_sheet if dice.below(2) else wider_sheet)(dice)
+        way = some_sheet if dice.below(2) else wider_sheet
+        lines = way(dice, often=KEYED) if dice.below(2) else way(dice)
         sheet = sheet_of(raised_lines(lines, dice.one((0, 0, 1_000_000, 9_999_990))))
         sheets.append(sheet)
         sheets.append(damaged(dice, sheet))

@@ -7,6 +7,11 @@ pub fn owed_to(relation: usize) -> Option<usize> {
     (relation == 5 || relation == 6).then_some(4)
 }
 
+/// How many first columns of a relation settle the others: strap and session a rower, strap and tick a rate.
+pub fn key_of(relation: usize) -> Option<usize> {
+    (relation == 3 || relation == 7).then_some(2)
+}
+
 pub const NAMES: [&str; 11] = ["", "Rower", "Strap", "Worn", "Sig", "Beat", "Noise", "Pulse", "Coach", "Seat", "Pause"];
 
 const MOST_BYTES: usize = 8192;
