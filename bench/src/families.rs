@@ -1,7 +1,8 @@
 //! Sheets to measure by: pages as clubs have them, and families that are built to be hard, each with a size.
 
 use crate::joins::{Body, Facts, Join, Value};
-use crate::sheet::{owed_to, self, page, page_of, view, Atom, Block, Sheet, View, COLUMNS, MOST_CONSTANT, MOST_ROWS, MOST_VIEWS};
+use crate::natural;
+use crate::sheet::{key_of, owed_to, self, page, page_of, view, Atom, Block, Sheet, View, COLUMNS, MOST_CONSTANT, MOST_ROWS, MOST_VIEWS};
 use std::collections::BTreeSet;
 
 /// Numbers that look drawn by chance and are the same in each run.
@@ -102,8 +103,8 @@ fn covered_late(n: i32, three: bool, last: bool) -> Sheet {
     let mut views = free(n, 2);
     let at = |k: i32| if last { n - k } else { 1 + k };
     let saved = if three {
-        views.push(view("(x,y,z): Worn(x,y,z)", product(&[&[1, 2], &[1, 2], &[1, 2]])));
-        format!("(): Sig({},x), Sig({},y), Sig({},z), Worn(x,y,z)", at(0), at(1), at(2))
+        views.push(view("(x,y,z): Seat(x,y,z,0)", product(&[&[1, 2], &[1, 2], &[1, 2]])));
+        format!("(): Sig({},x), Sig({},y), Sig({},z), Seat(x,y,z,0)", at(0), at(1), at(2))
     } else {
         views.push(view("(x,y): Worn(x,y,z)", product(&[&[1, 2], &[1, 2]])));
         format!("(): Sig({},x), Sig({},y), Worn(x,y,z)", at(0), at(1))
@@ -211,8 +212,8 @@ fn pigeons(pigeons: i32, holes: i32, columns: usize) -> Sheet {
 fn triples(points: i32, triples: Rows) -> Sheet {
     page(
         NEVER,
-        "(): Worn(i,j,k), Rower(i,c), Rower(j,c), Rower(k,c)",
-        vec![view("(i,j,k): Worn(i,j,k)", triples), view("(i): Rower(i,c)", single(1..=points)), view("(c): Rower(i,c)", single([1, 2]))],
+        "(): Seat(i,j,k,0), Rower(i,c), Rower(j,c), Rower(k,c)",
+        vec![view("(i,j,k): Seat(i,j,k,0)", triples), view("(i): Rower(i,c)", single(1..=points)), view("(c): Rower(i,c)", single([1, 2]))],
     )
 }
 
@@ -244,12 +245,12 @@ fn for_all_exists(dice: &mut Dice, guesses: i32, values: usize, rows: usize) -> 
     };
     page(
         NEVER,
-        "(): Rower(i,a), Rower(j,b), Noise(i,j), Pulse(a,b,y), Coach(y,z), Beat(z,a)",
+        "(): Rower(i,a), Rower(j,b), Noise(i,j), Seat(a,b,y,0), Coach(y,z), Beat(z,a)",
         vec![
             view("(i): Rower(i,c)", single(1..=guesses)),
             view("(c): Rower(i,c)", single(1..=values as i32)),
             view("(i,j): Noise(i,j)", (1..guesses).map(|i| vec![i, i + 1]).collect()),
-            view("(a,b,y): Pulse(a,b,y)", table(3, rows)),
+            view("(a,b,y): Seat(a,b,y,0)", table(3, rows)),
             view("(y,z): Coach(y,z)", table(2, rows / 2)),
             view("(z,a): Beat(z,a)", table(2, rows / 2)),
         ],
@@ -342,7 +343,7 @@ fn product_joined(n: i32) -> Sheet {
 
 fn largest() -> Sheet {
     let rows = (0..40).map(|i| (0..4).map(|c| i + 100 * c).collect()).collect();
-    let pulses: Vec<String> = (0..6).map(|i| format!("Pulse(1,2,{i})")).collect();
+    let pulses: Vec<String> = (0..6).map(|i| format!("Pulse(1,{i},2)")).collect();
     page(&format!("(): {}", pulses.join(", ")), NEVER, vec![view("(a,b,c,d): Rower(a,b), Sig(b,c), Coach(c,d)", rows)])
 }
 
@@ -513,7 +514,8 @@ fn three_on_end(rows: i32) -> Sheet {
     page("(): Strap(1)", NEVER, views)
 }
 
-/// A ring of n pulses; odd rates follow even ones all the way round.
+/// A ring of n pulses; odd rates follow even ones all the way round. Eight steps are listed, and fewer pulses than eight, with a rate
+/// each, do not give them.
 fn parity_ring(n: i32) -> Sheet {
     let views = vec![
         view("(a,b): Pulse(a,b,r)", (1..=n).map(|i| vec![i, i % n + 1]).collect()),
@@ -644,12 +646,12 @@ fn three_each(dice: &mut Dice, n: usize) -> Rows {
 
 /// Each point is there (1) or not (0); of each listed triple no two are there, and the list finds one of which none is there.
 fn cover_by_points(points: i32, triples: &Rows) -> Sheet {
-    let both = |one: &str, other: &str| view(&format!("(): Worn(i,j,k), Rower({one},1), Rower({other},1)"), vec![]);
+    let both = |one: &str, other: &str| view(&format!("(): Seat(i,j,k,0), Rower({one},1), Rower({other},1)"), vec![]);
     page(
         "(): Strap(1)",
-        "(): Worn(i,j,k), Rower(i,0), Rower(j,0), Rower(k,0)",
+        "(): Seat(i,j,k,0), Rower(i,0), Rower(j,0), Rower(k,0)",
         vec![
-            view("(i,j,k): Worn(i,j,k)", triples.clone()),
+            view("(i,j,k): Seat(i,j,k,0)", triples.clone()),
             view("(i): Rower(i,c)", single(1..=points)),
             view("(c): Rower(i,c)", single([0, 1])),
             both("i", "j"),
@@ -657,6 +659,77 @@ fn cover_by_points(points: i32, triples: &Rows) -> Sheet {
             both("j", "k"),
         ],
     )
+}
+
+// --- Keys -----------------------------------------------------------------------------------------------------------
+
+/// How two walks end: apart, which cannot be; together, with a case; with a list that has the other walk's end; and after they
+/// started apart.
+const WALKS: [(&str, u8); 4] = [("ends apart", NO_LOG), ("ends together", NOT_COVERED), ("covered", COVERED), ("starts apart", NOT_COVERED)];
+
+/// Two walks of n steps from one rower: each strap's rower is settled by the one before, and the keys make the walks one, step by step.
+fn two_walks(n: i32, way: usize) -> Sheet {
+    let steps: Rows = (1..=n).map(|k| vec![k, k + 1]).collect();
+    let last = n + 1;
+    let mut views: Vec<View> =
+        [1, 2].map(|session| view(&format!("(k,m): Worn(k,{session},y), Pulse(y,1,z), Worn(m,{session},z)"), steps.clone())).into();
+    views.push(match way {
+        3 => view("(x,y): Worn(1,1,x), Worn(1,2,y)", vec![vec![907, 908]]),
+        _ => view("(x): Worn(1,1,x), Worn(1,2,x)", single([907])),
+    });
+    let end = format!("(): Worn({last},1,x), Worn({last},2,x)");
+    match way {
+        0 => views.push(view(&end, vec![])),
+        1 => views.push(view(&end, vec![vec![]])),
+        _ => {}
+    }
+    let (question, saved) = (format!("(): Worn({last},1,x), Strap(x)"), format!("(): Worn({last},2,x), Strap(x)"));
+    if way < 2 {
+        page(&question, NEVER, views)
+    } else {
+        page(&question, &saved, views)
+    }
+}
+
+/// Rates lead from each of n straps to the next one; n walkers go two steps each, and the question five, which lead it to the list's end.
+fn walkers(n: i32, fits: bool) -> Sheet {
+    let views = vec![
+        view("(s,r): Pulse(s,1,r)", (1..=n).map(|s| vec![s, s + 1]).collect()),
+        view("(x): Pulse(x,1,a), Pulse(a,1,b), Rower(b,x)", single(1..n)),
+    ];
+    let end = if fits { 6 } else { 7 };
+    page("(): Pulse(1,1,a), Pulse(a,1,b), Pulse(b,1,c), Pulse(c,1,d), Pulse(d,1,e), Strap(e)", &format!("(): Strap({end})"), views)
+}
+
+/// n straps in n sessions, each worn by one of the rowers, no rower with two straps in a session or with a strap twice: a Latin square,
+/// and none where rowers are too few.
+fn square(n: i32, rowers: i32) -> Sheet {
+    let alike = |n: i32| (1..=n).map(|k| vec![k, k]).collect::<Rows>();
+    let views = vec![
+        view("(p,s): Worn(p,s,r)", product(&[&(1..=n).collect::<Vec<i32>>(), &(1..=n).collect::<Vec<i32>>()])),
+        view("(r): Worn(p,s,r)", single(101..=100 + rowers)),
+        view("(p,q): Worn(p,s,r), Worn(q,s,r)", alike(n)),
+        view("(s,t): Worn(p,s,r), Worn(p,t,r)", alike(n)),
+    ];
+    page("(): Strap(1)", NEVER, views)
+}
+
+/// Who wore each strap with whom, at one time or another: straps and sessions are listed, and pairs of rowers, as a log gives them.
+fn pairs_by_strap(dice: &mut Dice, straps: i32, sessions: i32, rowers: usize) -> Sheet {
+    loop {
+        let mut log: Log = Vec::new();
+        for session in 1..=sessions {
+            let mut free: Vec<i32> = (101..101 + rowers as i32).collect();
+            for strap in 1..=straps {
+                log.push((3, vec![strap, session, free.remove(dice.below(free.len()))]));
+            }
+        }
+        let blocks = ["(p,s): Worn(p,s,r)", "(r,q): Worn(p,s,r), Worn(p,t,q)"].map(sheet::block);
+        let views: Vec<View> = blocks.into_iter().map(|block| View { rows: rows_of(&block, &log, MOST_ROWS), block }).collect();
+        if views.iter().map(|v| v.rows.len()).sum::<usize>() <= MOST_ROWS {
+            return page("(r,s): Worn(p,s,r)", "(r,s): Worn(p,s,r), Worn(p,t,q), Pause(t)", views);
+        }
+    }
 }
 
 // --- Pages ----------------------------------------------------------------------------------------------------------
@@ -753,7 +826,9 @@ fn some_page(dice: &mut Dice) -> Sheet {
         let relation = dice.one(&relations);
         log.insert((relation, KINDS[relation].iter().map(|k| some_value(dice, *k)).collect::<Vec<i32>>()));
     }
-    // Only logs count that have the rows they owe.
+    // Only logs count that obey the keys and have the rows they owe.
+    let mut begun = BTreeSet::new();
+    log.retain(|(r, row): &(usize, Vec<i32>)| key_of(*r).map_or(true, |key| begun.insert((*r, row[..key].to_vec()))));
     let owed: Vec<(usize, Vec<i32>)> = log.iter().filter_map(|(r, row)| owed_to(*r).map(|other| (other, row.clone()))).collect();
     let log: Log = log.into_iter().chain(owed).collect::<BTreeSet<_>>().into_iter().collect();
     let (question, kinds) = loop {
@@ -832,6 +907,7 @@ pub fn pages() -> Vec<Sample> {
         let sheet = with_serials(sheet, at);
         samples.push(Sample::new(if at % 10 == 9 { "pages, pairs" } else { "pages" }, format!("{}", at + 1), sheet));
     }
+    samples.extend(natural::strap_pages());
     samples
 }
 
@@ -1005,13 +1081,32 @@ fn known() -> Vec<Sample> {
         add("chain, parity, three on end", format!("{}", 3 * rows), NO_LOG, three_on_end(rows));
     }
     for n in [5, 6, 9, 10, 15, 16, 21, 22, 31, 32] {
-        add("chain, parity, ring", format!("{n}"), if n % 2 == 1 { NO_LOG } else { NOT_COVERED }, parity_ring(n));
+        add("chain, parity, ring", format!("{n}"), if n % 2 == 1 || n < 8 { NO_LOG } else { NOT_COVERED }, parity_ring(n));
     }
     for lists in 2..=4 {
         for hole in [false, true] {
             let (size, verdict) = (format!("{lists}{}", if hole { ", one more" } else { "" }), if hole { NOT_COVERED } else { COVERED });
             add("a list for each crew", size.clone(), verdict, crew_lists(lists, 35, hole));
             add("a list for each tick", size, verdict, tick_lists(lists, 35, hole));
+        }
+    }
+    for n in [4, 9, 19] {
+        for (way, (name, verdict)) in WALKS.iter().enumerate() {
+            add("keys, two walks", format!("{n}, {name}"), *verdict, two_walks(n, way));
+        }
+    }
+    for n in [6, 12, 20] {
+        add("keys, walkers", format!("{n}"), COVERED, walkers(n, true));
+        add("keys, walkers", format!("{n}, another end"), NOT_COVERED, walkers(n, false));
+    }
+    for n in 3..=5 {
+        add("keys, a square", format!("{n}"), NOT_COVERED, square(n, n));
+        add("keys, a square", format!("{n}, a rower too few"), NO_LOG, square(n, n - 1));
+    }
+    let mut dice = Dice::new(70);
+    for (straps, sessions, rowers) in [(2, 3, 5), (3, 3, 5), (3, 3, 6)] {
+        for at in 1..=3 {
+            add("keys, pairs by strap", format!("{straps}x{sessions}, {rowers}, {at}"), NOT_COVERED, pairs_by_strap(&mut dice, straps, sessions, rowers));
         }
     }
     let mut dice = Dice::new(11);

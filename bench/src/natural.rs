@@ -328,6 +328,42 @@ fn some_page(dice: &mut Dice) -> Sheet {
     Sheet { question, lists: vec![saved], views }
 }
 
+/// So many pages about straps and rates are judged, each of eight views and 32 to 40 rows, every second one of 40.
+const STRAP_PAGES: usize = 200;
+
+fn strap_page(dice: &mut Dice, most_left: usize) -> Sheet {
+    let texts = [&STRAPS[..], &RATES].concat();
+    let asked: Vec<&str> = ASKED.into_iter().filter(|text| text.contains("Worn") || text.contains("Pulse")).collect();
+    loop {
+        let club = some_club(dice);
+        let (mut views, mut left): (Vec<View>, usize) = (Vec::new(), MOST_ROWS);
+        for _ in 0..60 {
+            let text = texts[dice.below(texts.len())];
+            let block = filled(dice, &club, text);
+            if views.len() == MOST_VIEWS || views.iter().any(|v| v.block == block) {
+                continue;
+            }
+            let rows = rows_of(&block, &club.log, left);
+            if rows.len() <= left && !rows.is_empty() {
+                left -= rows.len();
+                views.push(View { block, rows });
+            }
+        }
+        if views.len() == MOST_VIEWS && left <= most_left {
+            let text = dice.one(&asked);
+            let question = filled(dice, &club, text);
+            let saved = some_list(dice, &club, &question);
+            return Sheet { question, lists: vec![saved], views };
+        }
+    }
+}
+
+/// Pages about who wore which strap, and rates at ticks.
+pub fn strap_pages() -> Vec<Sample> {
+    let mut dice = Dice::new(7_003);
+    (1..=STRAP_PAGES).map(|at| Sample::new("pages, straps", at.to_string(), with_serials(strap_page(&mut dice, if at % 2 == 0 { 0 } else { 8 }), at))).collect()
+}
+
 /// The natural pages.
 pub fn pages() -> Vec<Sample> {
     let mut dice = Dice::new(1_869);
