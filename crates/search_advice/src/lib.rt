@@ -2,6 +2,7 @@
 // listed rows to try first.
 // Nothing here is believed: the search checks each proposal, and has a complete walk for where there is none.
 use query_layout::COLUMNS;
+use query_layout::MADE_UP;
 use search_board::ALIVE;
 use search_board::ANY_ROW;
 use search_board::Advice;
@@ -54,6 +55,9 @@ const PROBE_BUDGET: usize = 10000;
 // What is to be as it was when a step is undone: the words of the board's first two sets, the facts alive and those folded, and how many entries are
 // kept.
 pub const STAND: usize = CHANGED + 1;
+
+// In the place of a list's number: a trial failed by two facts that clash in a key.
+const BY_KEY: usize = BYTE + 1;
 
 // No advice.
 fn nothing() -> Advice {
@@ -111,6 +115,162 @@ fn kept_count(bd: &[u32; BOARD]) -> usize {
     n
 }
 
+// ---- facts that clash in a key
+
+// Whether two rows are alike in column c, as far as that is one of the first n.
+fn is_alike_at(a: &[usize; 4], b: &[usize; 4], n: usize, c: usize) -> bool {
+    if COLUMNS <= c {
+        return true;
+    }
+    if n <= c {
+        return true;
+    }
+    a[c] == b[c]
+}
+
+// Whether two rows are alike in the first n columns.
+fn is_alike(a: &[usize; 4], b: &[usize; 4], n: usize) -> bool {
+    is_alike_at(a, b, n, 0)
+        & is_alike_at(a, b, n, 1)
+        & is_alike_at(a, b, n, 2)
+        & is_alike_at(a, b, n, 3)
+}
+
+// Those in the set that may have the row's value in column c, as far as that is one of the first n.
+fn alike_at(
+    set: [u64; FACT_WORDS],
+    row: &[usize; 4],
+    n: usize,
+    c: usize,
+    bits: &[u64; BITS],
+) -> [u64; FACT_WORDS] {
+    if COLUMNS <= c {
+        return set;
+    }
+    if n <= c {
+        return set;
+    }
+    search_board::both(set, search_board::sharing(bits, c, row[c]))
+}
+
+// The facts of a relation that count and may have the row's values in the first n columns.
+fn facts_alike(
+    relation: usize,
+    row: &[usize; 4],
+    n: usize,
+    bits: &[u64; BITS],
+) -> [u64; FACT_WORDS] {
+    let all = search_board::alive_of(bits, relation);
+    let a = alike_at(all, row, n, 0, bits);
+    let b = alike_at(a, row, n, 1, bits);
+    let c = alike_at(b, row, n, 2, bits);
+    alike_at(c, row, n, 3, bits)
+}
+
+// Whether two values are constants that differ.
+fn is_apart(v: usize, w: usize) -> bool {
+    (v < MADE_UP) & (w < MADE_UP) & (v != w)
+}
+
+// Whether two rows that are alike in a key break it: they differ; or where only what cannot be mended counts, they have two constants that do.
+fn is_broken(a: &[usize; 4], b: &[usize; 4], fatal: bool) -> bool {
+    if fatal {
+        return is_apart(a[0], b[0])
+            | is_apart(a[1], b[1])
+            | is_apart(a[2], b[2])
+            | is_apart(a[3], b[3]);
+    }
+    !search_board::same_row(a, b)
+}
+
+// A fact that is alike with fact i in the first n columns and breaks the key; FACT_END if there is none.
+fn clashing(
+    relation: usize,
+    i: usize,
+    n: usize,
+    fatal: bool,
+    bd: &[u32; BOARD],
+    bits: &[u64; BITS],
+) -> usize {
+    let row = search_board::fact_row(bd, i);
+    let set = facts_alike(relation, &row, n, bits);
+    let mut k = search_board::next_fact(&set, 0);
+    while k < FACT_END {
+        let other = search_board::fact_row(bd, k);
+        if is_alike(&row, &other, n) {
+            if is_broken(&row, &other, fatal) {
+                return k;
+            }
+        }
+        k = search_board::next_fact(&set, k + 1);
+    }
+    FACT_END
+}
+
+// That two facts clash in a key.
+fn by_facts(i: usize, k: usize) -> Advice {
+    let mut at = [0usize; MOST_ATOMS];
+    at[0] = i;
+    at[1] = k;
+    Advice {
+        kind: KEY_BROKEN,
+        block: 0,
+        at,
+        hint: 0,
+    }
+}
+
+// Two facts of a relation, one of them in the set, that clash in its first n columns.
+fn clash_of(
+    relation: usize,
+    n: usize,
+    of: &[u64; FACT_WORDS],
+    fatal: bool,
+    bd: &[u32; BOARD],
+    bits: &[u64; BITS],
+) -> Advice {
+    let mut i = search_board::next_fact(of, 0);
+    while i < FACT_END {
+        let k = clashing(relation, i, n, fatal, bd, bits);
+        if k < FACT_END {
+            return by_facts(i, k);
+        }
+        i = search_board::next_fact(of, i + 1);
+    }
+    nothing()
+}
+
+// The facts of a relation to look at: all that count; or in a trial those that changed.
+fn facts_to_test(relation: usize, trial: bool, bits: &[u64; BITS]) -> [u64; FACT_WORDS] {
+    if trial {
+        return search_board::changed_of(bits, relation);
+    }
+    search_board::alive_of(bits, relation)
+}
+
+// Two facts of a relation that clash in its key.
+fn clash_in(relation: usize, trial: bool, bd: &[u32; BOARD], bits: &[u64; BITS]) -> Advice {
+    let n = sheet_terms::key(relation);
+    if n == 0 {
+        return nothing();
+    }
+    let of = facts_to_test(relation, trial, bits);
+    clash_of(relation, n, &of, trial, bd, bits)
+}
+
+// Two facts that clash in a key; in a trial one of them changed, and nothing can mend it.
+fn clash(trial: bool, bd: &[u32; BOARD], bits: &[u64; BITS]) -> Advice {
+    let mut relation = 1;
+    while relation < RELATIONS {
+        let a = clash_in(relation, trial, bd, bits);
+        if a.kind != NOTHING {
+            return a;
+        }
+        relation += 1;
+    }
+    nothing()
+}
+
 // ---- trying a listed row
 
 // Notes the facts by which a list is given the question's head in a trial.
@@ -143,6 +303,13 @@ fn is_refuted(
             note_facts(&at, bd);
             return true;
         }
+    }
+    let key = clash(true, bd, bits);
+    if key.kind != NOTHING {
+        let at = key.at;
+        search_board::put(bd, BY_LIST, BY_KEY);
+        note_facts(&at, bd);
+        return true;
     }
     search_board::put(bd, BY_LIST, 0);
     search_look::look(p, sl, false, false, bd, bits)
@@ -265,130 +432,6 @@ fn known_rows(
         i = search_board::next_digit(set, i + 1);
     }
     known
-}
-
-// ---- facts that clash in a key
-
-// Whether two rows are alike in column c, as far as that is one of the first n.
-fn is_alike_at(a: &[usize; 4], b: &[usize; 4], n: usize, c: usize) -> bool {
-    if COLUMNS <= c {
-        return true;
-    }
-    if n <= c {
-        return true;
-    }
-    a[c] == b[c]
-}
-
-// Whether two rows are alike in the first n columns.
-fn is_alike(a: &[usize; 4], b: &[usize; 4], n: usize) -> bool {
-    is_alike_at(a, b, n, 0)
-        & is_alike_at(a, b, n, 1)
-        & is_alike_at(a, b, n, 2)
-        & is_alike_at(a, b, n, 3)
-}
-
-// Those in the set that may have the row's value in column c, as far as that is one of the first n.
-fn alike_at(
-    set: [u64; FACT_WORDS],
-    row: &[usize; 4],
-    n: usize,
-    c: usize,
-    bits: &[u64; BITS],
-) -> [u64; FACT_WORDS] {
-    if COLUMNS <= c {
-        return set;
-    }
-    if n <= c {
-        return set;
-    }
-    search_board::both(set, search_board::sharing(bits, c, row[c]))
-}
-
-// The facts of a relation that count and may have the row's values in the first n columns.
-fn facts_alike(
-    relation: usize,
-    row: &[usize; 4],
-    n: usize,
-    bits: &[u64; BITS],
-) -> [u64; FACT_WORDS] {
-    let all = search_board::alive_of(bits, relation);
-    let a = alike_at(all, row, n, 0, bits);
-    let b = alike_at(a, row, n, 1, bits);
-    let c = alike_at(b, row, n, 2, bits);
-    alike_at(c, row, n, 3, bits)
-}
-
-// A fact that is alike with fact i in the first n columns and not in all; FACT_END if there is none.
-fn clashing(
-    relation: usize,
-    i: usize,
-    n: usize,
-    bd: &[u32; BOARD],
-    bits: &[u64; BITS],
-) -> usize {
-    let row = search_board::fact_row(bd, i);
-    let set = facts_alike(relation, &row, n, bits);
-    let mut k = search_board::next_fact(&set, 0);
-    while k < FACT_END {
-        let other = search_board::fact_row(bd, k);
-        if is_alike(&row, &other, n) {
-            if !search_board::same_row(&row, &other) {
-                return k;
-            }
-        }
-        k = search_board::next_fact(&set, k + 1);
-    }
-    FACT_END
-}
-
-// That two facts clash in a key.
-fn by_facts(i: usize, k: usize) -> Advice {
-    let mut at = [0usize; MOST_ATOMS];
-    at[0] = i;
-    at[1] = k;
-    Advice {
-        kind: KEY_BROKEN,
-        block: 0,
-        at,
-        hint: 0,
-    }
-}
-
-// Two facts of a relation, one of them in the set, that clash in its first n columns.
-fn clash_of(
-    relation: usize,
-    n: usize,
-    of: &[u64; FACT_WORDS],
-    bd: &[u32; BOARD],
-    bits: &[u64; BITS],
-) -> Advice {
-    let mut i = search_board::next_fact(of, 0);
-    while i < FACT_END {
-        let k = clashing(relation, i, n, bd, bits);
-        if k < FACT_END {
-            return by_facts(i, k);
-        }
-        i = search_board::next_fact(of, i + 1);
-    }
-    nothing()
-}
-
-// Two facts that clash in a key.
-fn clash(bd: &[u32; BOARD], bits: &[u64; BITS]) -> Advice {
-    let mut relation = 1;
-    while relation < RELATIONS {
-        let n = sheet_terms::key(relation);
-        if 0 < n {
-            let all = search_board::alive_of(bits, relation);
-            let a = clash_of(relation, n, &all, bd, bits);
-            if a.kind != NOTHING {
-                return a;
-            }
-        }
-        relation += 1;
-    }
-    nothing()
 }
 
 // ---- choosing a kept row
@@ -660,6 +703,7 @@ fn bring_up(
     bits: &mut [u64; BITS],
 ) -> bool {
     search_board::refresh(p, ws, from, bd, bits);
+    search_board::note_links(ws, bits);
     search_fits::mark_struck(sl, bd, bits);
     search_board::keep_one(bd, bits);
     let first = search_board::get(bd, STARTED) == 0;
@@ -687,7 +731,7 @@ fn advise_row(
         [0; 4]
     };
     search_fold::fold(p, ws, from, &fixed, all, bd, bits);
-    let key = clash(bd, bits);
+    let key = clash(false, bd, bits);
     if key.kind != NOTHING {
         return key;
     }
@@ -767,10 +811,14 @@ pub fn reason(bd: &[u32; BOARD]) -> Advice {
     if l == 0 {
         return by_entry(search_board::get(bd, FOUND_ENTRY), 0);
     }
+    let at = noted_facts(bd);
+    if l == BY_KEY {
+        return by_facts(at[0], at[1]);
+    }
     Advice {
         kind: LIST_GIVEN,
         block: LIST_BLOCKS + (l - 1) % BYTE,
-        at: noted_facts(bd),
+        at,
         hint: 0,
     }
 }

@@ -132,7 +132,10 @@ const SHARES: usize = 32;
 
 const SHARES_AT: usize = TWINS_AT + MOST_VIEWS * COLUMN_PAIRS;
 
-pub const BITS: usize = SHARES_AT + COLUMNS * SHARES * FACT_WORDS;
+// Slots whose values other slots share.
+pub const TAKEN: usize = SHARES_AT + COLUMNS * SHARES * FACT_WORDS;
+
+pub const BITS: usize = TAKEN + SET_WORDS;
 
 // The pairs of two columns.
 pub const COLUMN_PAIRS: usize = 6;
@@ -720,13 +723,36 @@ pub fn note_head(bd: &mut [u32; BOARD], row: &[usize; 4]) {
     put(bd, ASKED_HEAD_AT + 3, row[3]);
 }
 
-// Whether a value is made up and its slot's facts are left out.
+// Notes that slot n's word is a link, if it is one: the slot that it leads to shares its value.
+fn note_link(n: usize, word: usize, bits: &mut [u64; BITS]) {
+    if word < MADE_UP {
+        return;
+    }
+    if word - MADE_UP < n {
+        set_bit(bits, TAKEN, word - MADE_UP);
+    }
+}
+
+// Notes the slots whose values other slots share.
+pub fn note_links(ws: &[usize; SLOTS], bits: &mut [u64; BITS]) {
+    clear(bits, TAKEN, SET_WORDS);
+    let mut n = 0;
+    while n < SLOTS {
+        note_link(n, ws[n], bits);
+        n += 1;
+    }
+}
+
+// Whether a value is made up and its slot's facts are left out. A value that other slots share is none of those.
 fn is_left_out(bd: &[u32; BOARD], bits: &[u64; BITS], v: usize) -> bool {
     if v < MADE_UP {
         return false;
     }
     let n = v - MADE_UP;
     if SLOTS <= n {
+        return false;
+    }
+    if is_in(bits, TAKEN, n) {
         return false;
     }
     is_in(bits, FOLDED, get(bd, ATOM_AT + n))

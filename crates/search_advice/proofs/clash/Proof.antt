@@ -6,22 +6,16 @@ use Rattle.search_advice.proofs.clash.Statement.{statement}
 use Rattle.search_advice.proofs.clash.Tie as tie
 
 abbrev Inv-loop : tie.InvT-loop
-Inv-loop bd bits relation₀ relation = relation ≤ relation-end
+Inv-loop trial bd bits relation₀ relation = relation ≤ relation-end
 
 abbrev μ-loop : tie.MeasureT-loop
-μ-loop bd bits relation₀ relation = relation-end - relation
+μ-loop trial bd bits relation₀ relation = relation-end - relation
 
 loop-holds : tie.Need-loop-holds Inv-loop μ-loop
 loop-holds c = search needs
 
-key-requires : tie.Need-key-requires Inv-loop μ-loop
-key-requires c κs = search needs
-
-alive-of-requires : tie.Need-alive-of-requires Inv-loop μ-loop
-alive-of-requires c κs = search needs
-
-clash-of-requires : tie.Need-clash-of-requires Inv-loop μ-loop
-clash-of-requires c κs = search needs
+clash-in-requires : tie.Need-clash-in-requires Inv-loop μ-loop
+clash-in-requires c κs = search needs
 
 returns : tie.Need-returns Inv-loop μ-loop
 returns c = search needs
@@ -48,9 +42,7 @@ clash-spec =
     Inv-loop
     μ-loop
     loop-holds
-    key-requires
-    alive-of-requires
-    clash-of-requires
+    clash-in-requires
     returns
     add-relation
     loop-less

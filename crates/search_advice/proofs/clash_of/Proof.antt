@@ -6,10 +6,10 @@ use Rattle.search_advice.proofs.clash_of.Statement.{statement}
 use Rattle.search_advice.proofs.clash_of.Tie as tie
 
 abbrev Inv-loop : tie.InvT-loop
-Inv-loop relation n of bd bits i₀ i = i ≤ fact-end
+Inv-loop relation n of fatal bd bits i₀ i = i ≤ fact-end
 
 abbrev μ-loop : tie.MeasureT-loop
-μ-loop relation n of bd bits i₀ i = fact-end - i
+μ-loop relation n of fatal bd bits i₀ i = fact-end - i
 
 next-fact-requires : tie.Need-next-fact-requires Inv-loop μ-loop
 next-fact-requires c κs = search needs

@@ -6,10 +6,10 @@ use Rattle.search_advice.proofs.clashing.Statement.{statement}
 use Rattle.search_advice.proofs.clashing.Tie as tie
 
 abbrev Inv-loop : tie.InvT-loop
-Inv-loop relation i n bd bits row set k₀ k = k ≤ fact-end
+Inv-loop relation i n fatal bd bits row set k₀ k = k ≤ fact-end
 
 abbrev μ-loop : tie.MeasureT-loop
-μ-loop relation i n bd bits row set k₀ k = fact-end - k
+μ-loop relation i n fatal bd bits row set k₀ k = fact-end - k
 
 fact-row-requires : tie.Need-fact-row-requires Inv-loop μ-loop
 fact-row-requires c κs = search needs
@@ -29,8 +29,8 @@ fact-row-requires-2 c κs = search needs
 is-alike-requires : tie.Need-is-alike-requires Inv-loop μ-loop
 is-alike-requires c κs = search needs
 
-same-row-requires : tie.Need-same-row-requires Inv-loop μ-loop
-same-row-requires c κs = search needs
+is-broken-requires : tie.Need-is-broken-requires Inv-loop μ-loop
+is-broken-requires c κs = search needs
 
 returns : tie.Need-returns Inv-loop μ-loop
 returns c = search needs
@@ -62,7 +62,7 @@ clashing-spec =
     loop-holds
     fact-row-requires-2
     is-alike-requires
-    same-row-requires
+    is-broken-requires
     returns
     add-next-fact
     next-fact-requires-2
