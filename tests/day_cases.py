@@ -19,8 +19,8 @@ import tempfile
 
 from cover_cases import LENT_WORDS, NO_ROOM, page
 from evaluate_cases import raised_lines
-from set_cases import (COVERED_ONE, MOST_SHEETS, NO_LIST, NO_LOG_ONE, NO_RELATION, OTHER_LENGTH, OUT_OF_RANGE, ROWS_DESCEND, SEVENTH_ATOM, SMALL, TOO_LONG,
-                       TWO_TICKS, UNCLOSED, UNSAFE, WORKED, WRONG_ENDS, ends_of, judged_alone, judged_set, refused, some_set, some_sheet)
+from set_cases import (COVERED_ONE, MOST_SHEETS, NO_LIST, NO_LOG_ONE, NO_RELATION, ONE_ROWER, OTHER_LENGTH, OUT_OF_RANGE, ROWS_DESCEND, SETTLED, SEVENTH_ATOM,
+                       SMALL, TOO_LONG, TWO_RATES, TWO_TICKS, UNCLOSED, UNSAFE, WORKED, WRONG_ENDS, ends_of, judged_alone, judged_set, refused, some_set, some_sheet)
 from sheet_cases import MOST_WORDS, Dice, noted, read, sheet_of
 
 # --- The page -------------------------------------------------------------------------------------------------------
@@ -117,6 +117,7 @@ def pages():
         taken(f"a sheet that is refused by {number}, beside one that is not", [SMALL, sheet], f"1 0 0 0 / 2 9 {number} 0 / 1 0 0 1 0")
     high = [sheet_of(raised_lines(read(sheet, MOST_WORDS)[2], 9_999_990)) for sheet in (WORKED, COVERED_ONE, NO_LOG_ONE)]
     taken("constants of seven digits", high, "1 1 0 2 / 2 0 0 0 / 3 2 0 0 / 1 1 1 0 2")
+    taken("keys, each verdict", [ONE_ROWER, SETTLED, TWO_RATES], "1 0 0 0 / 2 1 0 2 / 3 2 0 0 / 1 1 1 0 2")
 
 
 def rooms():

@@ -233,6 +233,20 @@ def several_lists():
     assert judged_alone(hole).missing[0] == 12 and judged_alone(one).missing[0] == 11
 
 
+# Sheets whose verdicts rest on the keys of Pulse and Worn.
+TWO_RATES = page("(): Pause(1)", "(): Pause(2)", "(r): Pulse(7,1,r) = (90) (91)")
+ONE_ROWER = page("(a,b): Worn(s,t,a), Worn(s,t,b)", "(a,a): Worn(s,t,a)")
+SETTLED = page("(r): Pulse(7,1,r), Strap(r)", "(r): Pause(r)", "(s): Pulse(s,1,90) = (7)")
+
+
+def keys():
+    heading("sheets with keys beside others")
+    taken("two rates in one sheet, and one in each of two", [TWO_RATES, SETTLED, page("(r): Pulse(7,1,r)", "(r): Pause(r)", "(r): Pulse(7,1,r) = (91)")], [2, 1, 1])
+    taken("keys, each verdict", [ONE_ROWER, SETTLED, TWO_RATES], [0, 1, 2])
+    taken("keys between others", [WORKED, TWO_RATES, NO_LIST, ONE_ROWER, TWO_TICKS, SETTLED], [1, 2, (9, 3), 0, 1, 1])
+    assert judged_alone(SETTLED).facts == facts_in("Strap(90) Pulse(7,1,90)") and judged_alone(SETTLED).missing[0] == 90
+
+
 def some_set(dice, pool, count):
     sheets = []
     for _ in range(count):
@@ -276,6 +290,7 @@ def main():
     generated("generated", "set", Dice(16), 30, 1, 400)
     several_lists()
     generated("generated: sheets with one to four lists", "set with lists", Dice(20), 20, 4, 500)
+    keys()
     texts = ["".join(line + "\n" for line in lines).encode("ascii") for lines in (given, wanted)]
     assert all(0 < len(line) < HELD_LINE and ("|" in line) != line.startswith("#") for line in given)
     for kind, count in sorted(tally.items()):
