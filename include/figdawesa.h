@@ -143,7 +143,8 @@ struct figdawesa_ended figdawesa_evaluate(const uint8_t *sheet, size_t sheet_byt
 /* Whether the sheet's lists, one to four, together cover its question. Verdicts 0 and 2 write nothing. Verdict 1 writes `count` facts of
  * five words at the front of `out`, ascending, each once: a log that gives exactly the listed rows, shows that the lists do not cover, and
  * has no fact to spare.
- * Only logs count in which relation 4 (Sig) has each row of relations 5 (Beat) and 6 (Noise); figdawesa_evaluate does not ask for these rows.
+ * Only logs count in which relation 4 (Sig) has each row of relations 5 (Beat) and 6 (Noise), and in which rows of relation 3 (Worn), and of
+ * relation 7 (Pulse), that are alike in the first two columns are alike in the third; figdawesa_evaluate asks for neither.
  * There are at most 252 of them, so at most 1,260 words are written; their values are numbers of the sheet, or made up from 10,000,000 to
  * 10,000,999.
  * Verdict 9: refused by 1 to 9, and then by 13 where out_words is below 1,260, whatever the verdict would be. */

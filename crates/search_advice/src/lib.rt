@@ -24,13 +24,14 @@ use search_board::HINT;
 use search_board::KEPT_AT;
 use search_board::KEPT_COUNT;
 use search_board::KEY_BROKEN;
+use search_board::KEYED;
 use search_board::LEAST;
+use search_board::LINKS;
 use search_board::LIST_GIVEN;
 use search_board::LOOKED;
 use search_board::MOST_KEPT;
 use search_board::NOTHING;
 use search_board::OVER;
-use search_board::RELATIONS;
 use search_board::ROW_FAILS;
 use search_board::ROW_GIVEN;
 use search_board::STARTED;
@@ -248,25 +249,24 @@ fn facts_to_test(relation: usize, trial: bool, bits: &[u64; BITS]) -> [u64; FACT
     search_board::alive_of(bits, relation)
 }
 
-// Two facts of a relation that clash in its key.
-fn clash_in(relation: usize, trial: bool, bd: &[u32; BOARD], bits: &[u64; BITS]) -> Advice {
-    let n = sheet_terms::key(relation);
-    if n == 0 {
-        return nothing();
-    }
-    let of = facts_to_test(relation, trial, bits);
-    clash_of(relation, n, &of, trial, bd, bits)
-}
-
 // Two facts that clash in a key; in a trial one of them changed, and nothing can mend it.
 fn clash(trial: bool, bd: &[u32; BOARD], bits: &[u64; BITS]) -> Advice {
-    let mut relation = 1;
-    while relation < RELATIONS {
-        let a = clash_in(relation, trial, bd, bits);
+    let keyed = search_board::get(bd, KEYED) as u64;
+    let mut relation = search_board::next_digit(keyed, 0);
+    while relation < 64 {
+        let of = facts_to_test(relation, trial, bits);
+        let a = clash_of(
+            relation,
+            sheet_terms::key(relation),
+            &of,
+            trial,
+            bd,
+            bits,
+        );
         if a.kind != NOTHING {
             return a;
         }
-        relation += 1;
+        relation = search_board::next_digit(keyed, relation + 1);
     }
     nothing()
 }
@@ -703,7 +703,9 @@ fn bring_up(
     bits: &mut [u64; BITS],
 ) -> bool {
     search_board::refresh(p, ws, from, bd, bits);
-    search_board::note_links(ws, bits);
+    if search_board::get(bd, LINKS) == 1 {
+        search_board::note_links(ws, bits);
+    }
     search_fits::mark_struck(sl, bd, bits);
     search_board::keep_one(bd, bits);
     let first = search_board::get(bd, STARTED) == 0;
@@ -733,6 +735,7 @@ fn advise_row(
     search_fold::fold(p, ws, from, &fixed, all, bd, bits);
     let key = clash(false, bd, bits);
     if key.kind != NOTHING {
+        search_board::put(bd, LINKS, 1);
         return key;
     }
     let a = choose(p, ws, asked, sl, bd, bits);

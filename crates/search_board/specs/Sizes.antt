@@ -16,7 +16,3 @@ keys = 256
 -- the first of the values that slots cannot have, for slots that share a place
 abbrev pub firsts : ℕ
 firsts = 64
-
--- one past the last relation
-abbrev pub relation-end : ℕ
-relation-end = 11

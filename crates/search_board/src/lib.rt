@@ -83,8 +83,13 @@ pub const TRY_COUNT: usize = FELL_ROW + 1;
 
 pub const TRY_KEPT: usize = FELL_ROW + 2;
 
+// As digits, the relations with a key that have atoms; whether a key has made slots share a value.
+pub const KEYED: usize = FELL_ROW + 3;
+
+pub const LINKS: usize = FELL_ROW + 4;
+
 // How many listed rows each kept row fits.
-pub const COUNTS_AT: usize = FELL_ROW + 3;
+pub const COUNTS_AT: usize = FELL_ROW + 5;
 
 // Values of a view's columns, where each may be found by what it is; of the values that slots cannot have, the first for a slot, and the next.
 pub const KEYS: usize = BYTE;
@@ -886,6 +891,15 @@ fn note_slot(t: usize, i: usize, bd: &mut [u32; BOARD]) {
     }
 }
 
+// Notes that a relation with a key has an atom.
+fn note_key(relation: usize, bd: &mut [u32; BOARD]) {
+    if sheet_terms::key(relation) == 0 {
+        return;
+    }
+    let set = get(bd, KEYED) as u64;
+    put(bd, KEYED, (set | bit(relation)) as usize);
+}
+
 // Notes atom i's relation, its slots, and that it counts.
 fn note_atom(
     p: &[usize; PLAN_NUMBERS],
@@ -899,6 +913,7 @@ fn note_atom(
         return;
     }
     put(bd, i * FACT_NUMBERS, r);
+    note_key(r, bd);
     set_bit(bits, share_of(0, 0), i);
     set_bit(bits, share_of(1, 0), i);
     set_bit(bits, share_of(2, 0), i);

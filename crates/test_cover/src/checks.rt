@@ -24,11 +24,15 @@ const LIST: i32 = 2;
 const VIEW: i32 = 3;
 
 // The relations of beats, noise and signals.
+const WORN: i32 = 3;
+
 const SIG: i32 = 4;
 
 const BEAT: i32 = 5;
 
 const NOISE: i32 = 6;
+
+const PULSE: i32 = 7;
 
 const ANSWERS: usize = 1024;
 
@@ -130,11 +134,14 @@ fn is_case(sheet: &[u8], words: &[i32], facts: &[i32]) -> bool
     agrees(sheet, words, facts)
 }
 
-// Whether each beat and each noise is a signal, and each view's answers are its listed rows.
+// Whether each beat and each noise is a signal, a strap has one rower in a session and one rate at a tick, and each view's answers are its listed rows.
 fn agrees(sheet: &[u8], words: &[i32], facts: &[i32]) -> bool
     requires { ⌜ length (now words) ≡ most-words ⌝ }
 {
     if !are_signals(facts) {
+        return false;
+    }
+    if !are_settled(facts) {
         return false;
     }
     let blocks = heads(words, MOST_LINES, VIEW);
@@ -184,6 +191,33 @@ fn is_signal(facts: &[i32], i: usize) -> bool
         k += 1;
     }
     false
+}
+
+// Whether no two facts of Worn, or of Pulse, are alike in the first two columns. Facts ascend, so that such ones stand side by side.
+fn are_settled(facts: &[i32]) -> bool {
+    let mut i = 1;
+    while i < facts.len() / FACT {
+        if is_unsettled(facts, i) {
+            return false;
+        }
+        i += 1;
+    }
+    true
+}
+
+// Whether fact i and the one before it are alike in the first two columns, in a relation where these settle the third.
+fn is_unsettled(facts: &[i32], i: usize) -> bool
+    requires { ⌜ (1 ≤ i) × (i * 5 + 5 ≤ length (now facts)) ⌝ }
+{
+    let at = i * FACT;
+    let relation = facts[at];
+    if relation != WORN && relation != PULSE {
+        return false;
+    }
+    let before = at - FACT;
+    facts[before] == relation
+        && facts[before + 1] == facts[at + 1]
+        && facts[before + 2] == facts[at + 2]
 }
 
 // Whether facts k and i have the same row.

@@ -10,7 +10,7 @@
 // where they are not. Of a case that was handed over four marks more, "=" where it is so and "!" where it is not:
 //
 //     its facts are facts, ascend, and have values that stand in the sheet or are made up
-//     each beat and each noise is a signal, and each view's answers are its listed rows
+//     each beat and each noise is a signal, a strap has one rower in a session and one rate at a tick, and each view's answers are its listed rows
 //     the missing answer is the least of the question's that every list lacks
 //     with any one fact dropped it is no case
 //

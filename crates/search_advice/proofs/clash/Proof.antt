@@ -1,27 +1,41 @@
 -- `clash` is safe and ends.
 use Prim.Native.Nat.{_≤_, _-_}
-use Rattle.search_board.specs.Sizes.{relation-end}
 use borrow.Author.Needs.{needs}
 use Rattle.search_advice.proofs.clash.Statement.{statement}
 use Rattle.search_advice.proofs.clash.Tie as tie
 
 abbrev Inv-loop : tie.InvT-loop
-Inv-loop trial bd bits relation₀ relation = relation ≤ relation-end
+Inv-loop trial bd bits keyed relation₀ relation = relation ≤ 64
 
 abbrev μ-loop : tie.MeasureT-loop
-μ-loop trial bd bits relation₀ relation = relation-end - relation
+μ-loop trial bd bits keyed relation₀ relation = 64 - relation
+
+get-requires : tie.Need-get-requires Inv-loop μ-loop
+get-requires c κs = search needs
+
+next-digit-requires : tie.Need-next-digit-requires Inv-loop μ-loop
+next-digit-requires c κs = search needs
 
 loop-holds : tie.Need-loop-holds Inv-loop μ-loop
 loop-holds c = search needs
 
-clash-in-requires : tie.Need-clash-in-requires Inv-loop μ-loop
-clash-in-requires c κs = search needs
+facts-to-test-requires : tie.Need-facts-to-test-requires Inv-loop μ-loop
+facts-to-test-requires c κs = search needs
+
+key-requires : tie.Need-key-requires Inv-loop μ-loop
+key-requires c κs = search needs
+
+clash-of-requires : tie.Need-clash-of-requires Inv-loop μ-loop
+clash-of-requires c κs = search needs
 
 returns : tie.Need-returns Inv-loop μ-loop
 returns c = search needs
 
-add-relation : tie.Need-add-relation Inv-loop μ-loop
-add-relation c = search needs
+add-next-digit : tie.Need-add-next-digit Inv-loop μ-loop
+add-next-digit c = search needs
+
+next-digit-requires-2 : tie.Need-next-digit-requires-2 Inv-loop μ-loop
+next-digit-requires-2 c κs = search needs
 
 loop-less : tie.Need-loop-less Inv-loop μ-loop
 loop-less c = search needs
@@ -41,10 +55,15 @@ clash-spec =
     (tie.spec
     Inv-loop
     μ-loop
+    get-requires
+    next-digit-requires
     loop-holds
-    clash-in-requires
+    facts-to-test-requires
+    key-requires
+    clash-of-requires
     returns
-    add-relation
+    add-next-digit
+    next-digit-requires-2
     loop-less
     loop-again
     nothing-requires
