@@ -45,7 +45,7 @@ all-put {a} {b} {s} {r} p room few =
 abbrev pub term-bytes : ℕ
 term-bytes = field-bytes + 1
 
-abbrev name-bytes : ℕ
+abbrev pub name-bytes : ℕ
 name-bytes = 5
 
 abbrev most-columns : ℕ
@@ -131,7 +131,7 @@ few-at [] k h other l n = l
 few-at (t ∷ ts) k h other l zero = leb-true (length t) k (and-left (leb (length t) k) (all (λ t. leb (length t) k) ts) h)
 few-at (t ∷ ts) k h other l (suc n) = few-at ts k (and-right (leb (length t) k) (all (λ t. leb (length t) k) ts) h) other l n
 
-relation-few : (n : ℕ) → length (relationBytes n) ≤ name-bytes
+pub relation-few : (n : ℕ) → length (relationBytes n) ≤ name-bytes
 unfolding relationBytes
 relation-few zero = omega arith
 relation-few (suc n) = few-at relationNames name-bytes refl [] (omega arith) n

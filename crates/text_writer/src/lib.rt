@@ -4,8 +4,6 @@ use sheet_format::FIELD_END;
 use sheet_format::FieldTerm;
 use sheet_format::MOST_SHEET_BYTES;
 use text_buffer::put_byte;
-use text_reader::NAME;
-use text_reader::NAMES;
 ghost use mathlib.Core.Path.{_≡_};
 ghost use mathlib.Core.Bool.{cond};
 ghost use mathlib.Core.List.{[], _∷_, _++_};
@@ -17,6 +15,11 @@ ghost use Rattle.text_writer.specs.Texts.{withoutBlanks, wordBytes, numb
 
 // The room that the text of a sheet, and all that is said in words, want: twice as many bytes as a sheet may have, for the facts of a case.
 pub const TEXT_ROOM: usize = MOST_SHEET_BYTES * 2;
+
+// The bytes of a relation's name at most, and all names, each filled up with blanks.
+pub const NAME: usize = 5;
+
+const NAMES: [u8; 50] = *b"RowerStrapWorn Sig  Beat NoisePulseCoachSeat Pause";
 
 // A byte that is no blank.
 fn put_unless_blank(out: &mut [u8], at: usize, b: u8) -> usize

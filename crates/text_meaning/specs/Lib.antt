@@ -1,0 +1,4 @@
+pub mod Tokens
+pub mod Names
+pub mod Places
+pub mod Reading
