@@ -1,8 +1,8 @@
 -- Names and numbers: what a token stands for.
-use mathlib.Core.Bool.{Bool, true, false, cond, _&&_, _||_}
+use mathlib.Core.Bool.{Bool, true, false, cond, _&&_}
 use mathlib.Core.List.{List, [], _∷_, _++_}
 use Prim.Native.Nat.{ℕ, zero, suc, _+_, _-_, _*_, min}
-use lib.Dec.{eqb, ltb}
+use lib.Dec.{eqb, ltb, leb}
 use lib.ListN.{length}
 use Rattle.sheet_format.specs.Limits.{field-end, most-variables}
 use Rattle.text_writer.specs.Texts.{relationNames}
@@ -58,7 +58,7 @@ placeIn w (n ∷ ns) = cond (sameBytes w n) 0 (suc (placeIn w ns))
 -- the names of a block with one more where it is new. Only as many are kept as a block may have variables: any more have the number after them,
 -- which no sheet takes.
 unfoldable pub noted : List ℕ → List (List ℕ) → List (List ℕ)
-noted w ns = cond (ltb (placeIn w ns) (length ns) || ltb (most-variables - 1) (length ns)) ns (ns ++ (w ∷ []))
+noted w ns = cond (ltb (placeIn w ns) (length ns)) ns (cond (leb most-variables (length ns)) ns (ns ++ (w ∷ [])))
 
 -- ---- marks
 

@@ -1,5 +1,5 @@
 use borrow.Author.Needs.{needs}
-use borrow.Author.Tests.{eq-eqb, ne-eqb, lt-ltb, le-ltb, le-leb, lt-leb}
+use borrow.Author.Tests.{eq-eqb, ne-eqb}
 use Rattle.text_meaning.specs.Places.{atomEndAt}
 use Rattle.text_places.proofs.atom_end.Statement.{statement}
 use Rattle.text_places.proofs.atom_end.Tie as tie
@@ -9,35 +9,35 @@ go-requires c κs = search needs
 
 returns : tie.Need-returns
 unfolding atomEndAt
-returns c = search (needs, eq-eqb, ne-eqb, lt-ltb, le-ltb, le-leb, lt-leb)
+returns c = search (needs, eq-eqb, ne-eqb)
 
 go-requires-2 : tie.Need-go-requires-2
 go-requires-2 c κs = search needs
 
 returns-2 : tie.Need-returns-2
 unfolding atomEndAt
-returns-2 c = search (needs, eq-eqb, ne-eqb, lt-ltb, le-ltb, le-leb, lt-leb)
+returns-2 c = search (needs, eq-eqb, ne-eqb)
 
 fail-requires : tie.Need-fail-requires
 fail-requires c κs = search needs
 
 returns-3 : tie.Need-returns-3
 unfolding atomEndAt
-returns-3 c = search (needs, eq-eqb, ne-eqb, lt-ltb, le-ltb, le-leb, lt-leb)
+returns-3 c = search (needs, eq-eqb, ne-eqb)
 
 go-requires-3 : tie.Need-go-requires-3
 go-requires-3 c κs = search needs
 
 returns-4 : tie.Need-returns-4
 unfolding atomEndAt
-returns-4 c = search (needs, eq-eqb, ne-eqb, lt-ltb, le-ltb, le-leb, lt-leb)
+returns-4 c = search (needs, eq-eqb, ne-eqb)
 
 fail-requires-2 : tie.Need-fail-requires-2
 fail-requires-2 c κs = search needs
 
 returns-5 : tie.Need-returns-5
 unfolding atomEndAt
-returns-5 c = search (needs, eq-eqb, ne-eqb, lt-ltb, le-ltb, le-leb, lt-leb)
+returns-5 c = search (needs, eq-eqb, ne-eqb)
 
 pub atom-end-spec : {M : Type 1} → statement M
 atom-end-spec =

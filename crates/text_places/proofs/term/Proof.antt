@@ -1,5 +1,5 @@
 use borrow.Author.Needs.{needs}
-use borrow.Author.Tests.{eq-eqb, ne-eqb, lt-ltb, le-ltb, le-leb, lt-leb}
+use borrow.Author.Tests.{eq-eqb, ne-eqb}
 use Rattle.text_meaning.specs.Places.{termAt}
 use Rattle.text_places.proofs.term.Statement.{statement}
 use Rattle.text_places.proofs.term.Tie as tie
@@ -9,21 +9,21 @@ put-term-requires c κs = search needs
 
 returns : tie.Need-returns
 unfolding termAt
-returns c = search (needs, eq-eqb, ne-eqb, lt-ltb, le-ltb, le-leb, lt-leb)
+returns c = search (needs, eq-eqb, ne-eqb)
 
 put-term-requires-2 : tie.Need-put-term-requires-2
 put-term-requires-2 c κs = search needs
 
 returns-2 : tie.Need-returns-2
 unfolding termAt
-returns-2 c = search (needs, eq-eqb, ne-eqb, lt-ltb, le-ltb, le-leb, lt-leb)
+returns-2 c = search (needs, eq-eqb, ne-eqb)
 
 fail-requires : tie.Need-fail-requires
 fail-requires c κs = search needs
 
 returns-3 : tie.Need-returns-3
 unfolding termAt
-returns-3 c = search (needs, eq-eqb, ne-eqb, lt-ltb, le-ltb, le-leb, lt-leb)
+returns-3 c = search (needs, eq-eqb, ne-eqb)
 
 pub term-spec : {M : Type 1} → statement M
 term-spec =

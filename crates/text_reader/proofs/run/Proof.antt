@@ -1,76 +1,103 @@
--- The measure is what is left of the text.
-use mathlib.Core.Path.{_≡_}
-use Prim.Native.Nat.{_≤_, _-_}
+use mathlib.Core.Path.{_≡_, refl, ap, _∙_}
+use Prim.Native.Nat.{ℕ, _-_}
+use native.Mathlib.Omega.{arith}
 use borrow.Author.Needs.{needs}
-use lib.ListN.{length}
+use lib.IntN.{pos}
+use lib.ListN.{length, length-replicate}
+use Rattle.text_reader.proofs.Going.{Going, going-start, going-some, going-begins, going-word, end-word, going-fails, going-next, going-ends}
 use Rattle.text_reader.proofs.run.Statement.{statement}
 use Rattle.text_reader.proofs.run.Tie as tie
 
 abbrev Inv-loop : tie.InvT-loop
-Inv-loop text words₀ most names₀ s₀ at₀ t8 words names s at = (at ≤ length text) × (length words ≡ length words₀) × (length names ≡ 12)
+Inv-loop text words₀ begun₀ names₀ c₀ n₀ at₀ words begun names c n at = Going text words begun names c n at
 
 abbrev μ-loop : tie.MeasureT-loop
-μ-loop text words₀ most names₀ s₀ at₀ t8 words names s at = length text - at
+μ-loop text words₀ begun₀ names₀ c₀ n₀ at₀ words begun names c n at = length text - at
 
 skip-requires : tie.Need-skip-requires Inv-loop μ-loop
 skip-requires c κs = search needs
 
 loop-holds : tie.Need-loop-holds Inv-loop μ-loop
-loop-holds c = search needs
+loop-holds c = going-start (c .before .before .before .pre .1) (c .before .before .before .pre .2) refl (c .skip .ensures)
 
 token-end-requires : tie.Need-token-end-requires Inv-loop μ-loop
-token-end-requires c κs = search needs
+token-end-requires c κs = going-begins (c .before .loop .inv) (omega arith)
 
-sub-step : tie.Need-sub-step Inv-loop μ-loop
-sub-step c = search needs
+slice-aggregate-take : tie.Need-slice-aggregate-take Inv-loop μ-loop
+slice-aggregate-take c = search needs
 
-part-step-start : tie.Need-part-step-start Inv-loop μ-loop
-part-step-start c = search needs
-
-part-step-end : tie.Need-part-step-end Inv-loop μ-loop
-part-step-end c = search needs
-
-slice-aggregate-step : tie.Need-slice-aggregate-step Inv-loop μ-loop
-slice-aggregate-step c = search needs
-
-step-requires : tie.Need-step-requires Inv-loop μ-loop
-step-requires c κs = search needs
+take-requires : tie.Need-take-requires Inv-loop μ-loop
+take-requires c κs = 
+    let s = c .before .before .before .before .before .before .before .before .before in
+    let g = c .before .before .before .before .before .loop .inv in
+    let l = g .line in
+    let i = g .inside in
+    let m = s .pre .0 in
+    ((going-word g (omega arith) (c .before .before .before .token-end .ensures), going-some g), (g .small, omega arith))
 
 same-length : tie.Need-same-length Inv-loop μ-loop
-same-length c = search needs
-
-returns : tie.Need-returns Inv-loop μ-loop
-returns c = search needs
+same-length c = 
+    let s = c .before .before .before .before .before .before .before .before .before .before .before .before .before .before .before .before .before .before in
+    let a : length (s .args .words .now) ≡ 749 = ap length (s .pre .1) ∙ length-replicate 749 (pos 0) in
+    let b = c .before .before .before .before .before .before .before .before .before .before .before .before .before .before .loop .inv .held .kept .room .words-size in
+    let k = c .before .before .before .before .before .before .before .before .take .kept .1 .1 .1 .1 .1 .0 in
+    omega arith
 
 same-length-2 : tie.Need-same-length-2 Inv-loop μ-loop
-same-length-2 c = search needs
+same-length-2 c = 
+    let s = c .before .before .before .before .before .before .before .before .before .before .before .before .before .before .before .before .before .before in
+    let a : length (s .args .begun .now) ≡ 107 = ap length (s .pre .2) ∙ length-replicate {A = ℕ} 107 0 in
+    let b = c .before .before .before .before .before .before .before .before .before .before .before .before .before .before .loop .inv .held .kept .room .begun-size in
+    let k = c .before .before .before .before .before .before .before .before .take .kept .1 .1 .1 .1 .1 .1 .0 in
+    omega arith
 
-returns-2 : tie.Need-returns-2 Inv-loop μ-loop
-returns-2 c = search needs
+returns : tie.Need-returns Inv-loop μ-loop
+returns c = going-fails (c .before .before .before .before .before .before .before .before .before .before .before .before .before .before .loop .inv) (c .before .before .before .before .before .before .before .before .take .ensures) (c .before .before .before .before .before .before .before .before .before .before .before .before .token-end .ensures) (c .if1 .taken)
 
 skip-requires-2 : tie.Need-skip-requires-2 Inv-loop μ-loop
 skip-requires-2 c κs = search needs
 
 loop-less : tie.Need-loop-less Inv-loop μ-loop
-loop-less c = search needs
+loop-less c = 
+    let e = c .before .before .before .before .before .before .before .before .before .before .before .before .before .token-end .ensures in
+    let a = e .after in
+    let b = e .inside in
+    let k = c .skip2 .ensures .after in
+    omega arith
 
 loop-again : tie.Need-loop-again Inv-loop μ-loop
-loop-again c = search needs
+loop-again c = going-next (c .before .before .before .before .before .before .before .before .before .before .before .before .before .before .before .loop .inv) (c .before .before .before .before .before .before .before .before .before .take .ensures) (c .before .before .before .before .before .before .before .before .before .before .before .before .before .token-end .ensures) (c .before .if1 .left) (c .skip2 .ensures)
 
-slice-aggregate-step-2 : tie.Need-slice-aggregate-step-2 Inv-loop μ-loop
-slice-aggregate-step-2 c = search needs
+slice-aggregate-take-2 : tie.Need-slice-aggregate-take-2 Inv-loop μ-loop
+slice-aggregate-take-2 c = search needs
 
-slice-aggregate-step-3 : tie.Need-slice-aggregate-step-3 Inv-loop μ-loop
-slice-aggregate-step-3 c = search needs
-
-step-requires-2 : tie.Need-step-requires-2 Inv-loop μ-loop
-step-requires-2 c κs = search needs
+take-requires-2 : tie.Need-take-requires-2 Inv-loop μ-loop
+take-requires-2 c κs = 
+    let s = c .before .before .before .before .before .before .before .before in
+    let g = c .before .before .before .before .loop .inv in
+    let l = g .line in
+    let i = g .inside in
+    let m = s .pre .0 in
+    ((end-word g, going-some g), (g .small, omega arith))
 
 same-length-3 : tie.Need-same-length-3 Inv-loop μ-loop
-same-length-3 c = search needs
+same-length-3 c = 
+    let s = c .before .before .before .before .before .before .before .before .before .before .before .before .before in
+    let a : length (s .args .words .now) ≡ 749 = ap length (s .pre .1) ∙ length-replicate 749 (pos 0) in
+    let b = c .before .before .before .before .before .before .before .before .before .loop .inv .held .kept .room .words-size in
+    let k = c .before .before .before .before .take2 .kept .1 .1 .1 .1 .1 .0 in
+    omega arith
 
-returns-3 : tie.Need-returns-3 Inv-loop μ-loop
-returns-3 c = search needs
+same-length-4 : tie.Need-same-length-4 Inv-loop μ-loop
+same-length-4 c = 
+    let s = c .before .before .before .before .before .before .before .before .before .before .before .before .before in
+    let a : length (s .args .begun .now) ≡ 107 = ap length (s .pre .2) ∙ length-replicate {A = ℕ} 107 0 in
+    let b = c .before .before .before .before .before .before .before .before .before .loop .inv .held .kept .room .begun-size in
+    let k = c .before .before .before .before .take2 .kept .1 .1 .1 .1 .1 .1 .0 in
+    omega arith
+
+returns-2 : tie.Need-returns-2 Inv-loop μ-loop
+returns-2 c = going-ends (c .before .before .before .before .before .before .before .before .before .loop .inv) (c .before .before .before .before .take2 .ensures) (omega arith)
 
 pub run-spec : {M : Type 1} → statement M
 run-spec =
@@ -81,20 +108,16 @@ run-spec =
     skip-requires
     loop-holds
     token-end-requires
-    sub-step
-    part-step-start
-    part-step-end
-    slice-aggregate-step
-    step-requires
+    slice-aggregate-take
+    take-requires
     same-length
-    returns
     same-length-2
-    returns-2
+    returns
     skip-requires-2
     loop-less
     loop-again
-    slice-aggregate-step-2
-    slice-aggregate-step-3
-    step-requires-2
+    slice-aggregate-take-2
+    take-requires-2
     same-length-3
-    returns-3)
+    same-length-4
+    returns-2)
