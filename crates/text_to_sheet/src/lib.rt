@@ -2,12 +2,14 @@
 use sheet_format::Ending;
 use sheet_format::LINE_WORDS;
 use sheet_format::MOST_LINES;
+use sheet_format::MOST_WORDS;
+use sheet_format::TOO_LONG;
 use text_begins::MOST_TEXT;
-use text_reader::EXPECT_SHORTER;
-use text_reader::WORDS;
+use text_meaning::EXPECT_SHORTER;
+use text_reader::run;
 ghost use mathlib.Core.Path.{_≡_};
-ghost use Prim.Native.Nat.{_≤_};
-ghost use Rattle.text_to_sheet.specs.Texts.{Written};
+ghost use lib.ListN.{length};
+ghost use Rattle.text_to_sheet.specs.Texts.{lineIn, MadeAs};
 
 // A text as a sheet: how many bytes it has; or the line, what was expected there and in which relation; or the library's refusal, its number
 // and line, and the line of the text.
@@ -17,42 +19,40 @@ pub enum Made {
     Refused(usize, usize, usize),
 }
 
-fn least(a: usize, b: usize) -> usize
-    ensures { λ r. ⌜ r ≤ b ⌝ }
-{
-    if a < b { a } else { b }
-}
-
 // The line of the text in which a line of its number form begins; 0 where none is named.
-fn text_line(text: &[u8], line: usize) -> usize {
+fn text_line(begun: &[usize], line: usize) -> usize
+    ensures { λ r. ⌜ r ≡ lineIn (now (begun .entry)) line ⌝ }
+{
     if line == 0 {
         return 0;
     }
-    let mut words = [0i32; WORDS];
-    let reached = text_reader::run(text, &mut words, line);
-    text_reader::line_at(text, reached.at)
+    if begun.len() < line {
+        return 0;
+    }
+    begun[line - 1]
 }
 
 // A text as a sheet in the lent bytes. What the library refuses of its number form is refused here.
 pub fn sheet_of(text: &[u8], out: &mut [u8]) -> Made
-    ensures { λ r. ⌜ Written (now (out .entry)) (now (out .exit)) r ⌝ }
+    ensures { λ r. ⌜ MadeAs (now (text .entry)) (now (out .entry)) (now (out .exit)) r ⌝ }
 {
     if MOST_TEXT < text.len() {
         return Made::Expected(1, EXPECT_SHORTER, 0);
     }
-    let mut words = [0i32; WORDS];
-    let reached = text_reader::run(text, &mut words, WORDS);
-    let s = reached.state;
-    if s.expected != 0 {
-        return Made::Expected(
-            text_reader::line_at(text, reached.at),
-            s.expected,
-            s.relation,
-        );
+    let mut words = [0i32; MOST_WORDS];
+    let mut begun = [0usize; MOST_LINES];
+    let reached = run(text, &mut words, &mut begun);
+    let c = reached.control;
+    let n = reached.counts;
+    if c.expected != 0 {
+        return Made::Expected(n.line, c.expected, c.relation);
     }
-    let lines = least(s.lines, MOST_LINES + 1);
+    let lines = n.lines;
+    if MOST_LINES < lines {
+        return Made::Refused(TOO_LONG, 0, 0);
+    }
     match sheet::write(&words[0..lines * LINE_WORDS], out) {
         Ending::Done(n) => Made::Sheet(n),
-        Ending::Refused(number, line) => Made::Refused(number, line, text_line(text, line)),
+        Ending::Refused(number, line) => Made::Refused(number, line, text_line(&begun, line)),
     }
 }

@@ -1,29 +1,33 @@
-use mathlib.Core.Path.{sym, _∙_}
 use borrow.Author.Needs.{needs}
-use Rattle.text_to_sheet.proofs.Calls.{sheet-made, none-made}
+use Rattle.text_to_sheet.proofs.Calls.{too-long, expected-made, many-made, sheet-made, refused-made}
 use Rattle.text_to_sheet.proofs.sheet_of.Statement.{statement}
 use Rattle.text_to_sheet.proofs.sheet_of.Tie as tie
 
 returns : tie.Need-returns
-returns c = search needs
+returns c = too-long (c .if1 .taken)
 
 slice-aggregate-run : tie.Need-slice-aggregate-run
 slice-aggregate-run c = search needs
 
+slice-aggregate-run-2 : tie.Need-slice-aggregate-run-2
+slice-aggregate-run-2 c = search needs
+
 run-requires : tie.Need-run-requires
 run-requires c κs = search needs
 
-line-at-requires : tie.Need-line-at-requires
-line-at-requires c κs = search needs
-
 returns-2 : tie.Need-returns-2
-returns-2 c = search needs
+returns-2 c = 
+    let s = c .before .before .before .before .before .before .before .before .before .before .before .before in
+    let a = s .args in
+    let r = c .before .before .before .before .before .before .run in
+    expected-made (a .text .now) (a .out .now) (c .before .before .before .before .before .before .before .before .before .if1 .left) (r .ensures) (c .if2 .taken)
 
-add-least : tie.Need-add-least
-add-least c = search needs
-
-least-requires : tie.Need-least-requires
-least-requires c κs = search needs
+returns-3 : tie.Need-returns-3
+returns-3 c = 
+    let s = c .before .before .before .before .before .before .before .before .before .before .before .before .before in
+    let a = s .args in
+    let r = c .before .before .before .before .before .before .before .run in
+    many-made (a .text .now) (a .out .now) (c .before .before .before .before .before .before .before .before .before .before .if1 .left) (r .ensures) (c .before .if2 .left) (c .if3 .taken)
 
 mul-write : tie.Need-mul-write
 mul-write c = search needs
@@ -46,32 +50,35 @@ enum-known-n c = search needs
 enum-known-number : tie.Need-enum-known-number
 enum-known-number c = search needs
 
+slice-aggregate-text-line : tie.Need-slice-aggregate-text-line
+slice-aggregate-text-line c = search needs
+
 text-line-requires : tie.Need-text-line-requires
 text-line-requires c κs = search needs
 
 same-length : tie.Need-same-length
 same-length c = search needs
 
-returns-3 : tie.Need-returns-3
-returns-3 c =
-    let way = c .before .before .before .before .before .before .before .before .before .before in
-    let start = way .before .before .before .before .before .before .before .before .before in
-    let a = start .args in
+returns-4 : tie.Need-returns-4
+returns-4 c = 
+    let s = c .before .before .before .before .before .before .before .before .before .before .before .before .before .before .before .before .before .before .before .before .before .before in
+    let a = s .args in
+    let r = c .before .before .before .before .before .before .before .before .before .before .before .before .before .before .before .before .run in
     let w = c .before .before .before .before .before .write in
-    let g = c .before .n .given in
-    sheet-made _ (a .out .now) (w .last .1 .0) (w .ensures .1) (g .0 .0) (sym (w .ensures .0) ∙ g .1) (w .kept .1 .0)
+    let g = c .before .n2 .given in
+    sheet-made (a .text .now) (a .out .now) (c .before .before .before .before .before .before .before .before .before .before .before .before .before .before .before .before .before .before .before .if1 .left) (r .ensures) (c .before .before .before .before .before .before .before .before .before .before .if2 .left) (c .before .before .before .before .before .before .before .before .before .if3 .left) (w .last .1 .0) (w .result) (w .ensures .0) (w .ensures .1) (g .0 .0) (g .1)
 
 same-length-2 : tie.Need-same-length-2
 same-length-2 c = search needs
 
-returns-4 : tie.Need-returns-4
-returns-4 c =
-    let way = c .before .before .before .before .before .before .before .before .before .before in
-    let start = way .before .before .before .before .before .before .before .before .before .before in
-    let a = start .args in
-    let w = c .before .before .before .before .before .before .write in
-    let g = c .before .before .number .given in
-    none-made _ (a .out .now) (w .last .1 .0) (w .ensures .1) (g .0 .0) (g .0 .1 .0) (sym (w .ensures .0) ∙ g .1)
+returns-5 : tie.Need-returns-5
+returns-5 c = 
+    let s = c .before .before .before .before .before .before .before .before .before .before .before .before .before .before .before .before .before .before .before .before .before .before .before .before in
+    let a = s .args in
+    let r = c .before .before .before .before .before .before .before .before .before .before .before .before .before .before .before .before .before .before .run in
+    let w = c .before .before .before .before .before .before .before .write in
+    let g = c .before .before .before .number .given in
+    refused-made (a .text .now) (a .out .now) (c .before .before .before .before .before .before .before .before .before .before .before .before .before .before .before .before .before .before .before .before .before .if1 .left) (r .ensures) (c .before .before .before .before .before .before .before .before .before .before .before .before .if2 .left) (c .before .before .before .before .before .before .before .before .before .before .before .if3 .left) (w .last .1 .0) (w .result) (w .ensures .0) (w .ensures .1) (g .0 .0) (g .0 .1 .0) (c .text-line .result) (g .1) (c .text-line .ensures)
 
 pub sheet-of-spec : {M : Type 1} → statement M
 sheet-of-spec =
@@ -79,11 +86,10 @@ sheet-of-spec =
     (tie.spec
     returns
     slice-aggregate-run
+    slice-aggregate-run-2
     run-requires
-    line-at-requires
     returns-2
-    add-least
-    least-requires
+    returns-3
     mul-write
     sub-write
     part-write-start
@@ -91,8 +97,9 @@ sheet-of-spec =
     write-requires
     enum-known-n
     enum-known-number
+    slice-aggregate-text-line
     text-line-requires
     same-length
-    returns-3
+    returns-4
     same-length-2
-    returns-4)
+    returns-5)
