@@ -4,11 +4,10 @@ use mathlib.Core.Bool.{true, false}
 use mathlib.Core.List.{List}
 use mathlib.Core.Logic.{_⊎_}
 use Prim.Native.Nat.{ℕ}
-use lib.ListN.{take, replicate}
 use Rattle.sheet_format.specs.Limits.{most-bytes}
 use Rattle.text_begins.specs.Begins.{isText}
 use Rattle.text_writer.specs.Says.{SaysWords}
-use Rattle.text_to_sheet.specs.Texts.{Written}
+use Rattle.text_to_sheet.specs.Texts.{madeOf, sheetBytes}
 use Rattle.text_to_sheet.specs.declared.Made.{Made}
 use Rattle.text_to_sheet.specs.declared.Made.the-variants.{Sheet, Expected, Refused}
 use Rattle.text_message.specs.Message.{messageBytes}
@@ -19,19 +18,16 @@ pub record OfSheet (given old new : List ℕ) (r : ℕ) : Type 0 where
   pub is : isText given ≡ false
   pub verdict : Verdict given old new r
 
--- the verdict of the sheet that was made, which `sheet` begins with; else why there is none
+-- what comes of a text: the verdict of its sheet, where it has one; else why there is none
 abbrev pub Replied : Made → List ℕ → List ℕ → List ℕ → ℕ → Type 0
-Replied (Sheet n) sheet old new r = Verdict (take n sheet) old new r
-Replied (Expected l w k) sheet old new r = SaysWords (messageBytes (Expected l w k)) old new r
-Replied (Refused c l t) sheet old new r = SaysWords (messageBytes (Refused c l t)) old new r
+Replied (Sheet n) given old new r = Verdict (sheetBytes given) old new r
+Replied (Expected l w k) given old new r = SaysWords (messageBytes (Expected l w k)) old new r
+Replied (Refused c l t) given old new r = SaysWords (messageBytes (Refused c l t)) old new r
 
--- a text that was given. Which sheet it has is free; it is one that reading accepts, made in so many bytes that are 0.
+-- a text that was given
 pub record OfText (given old new : List ℕ) (r : ℕ) : Type 0 where
   pub is : isText given ≡ true
-  pub made : Made
-  pub sheet : List ℕ
-  pub written : Written (replicate most-bytes 0) sheet made
-  pub reply : Replied made sheet old new r
+  pub reply : Replied (madeOf given most-bytes) given old new r
 
 abbrev pub Answered : List ℕ → List ℕ → List ℕ → ℕ → Type 0
 Answered given old new r = OfSheet given old new r ⊎ OfText given old new r

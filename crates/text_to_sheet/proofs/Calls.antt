@@ -1,20 +1,22 @@
 -- What reading a text and writing its number form give, as what this crate's contract says; and that a sheet that is made is accepted.
 use mathlib.Core.Path.{_≡_, refl, sym, ap, _∙_, subst}
-use mathlib.Core.Bool.{cond}
+use mathlib.Core.Bool.{Bool, true, false, cond}
 use mathlib.Core.List.{List, [], _++_, reverse}
-use Prim.Native.Nat.{ℕ, zero, suc, _+_, _-_, _*_, _/_, _≤_, _<_, min}
+use Prim.Native.Nat.{ℕ, zero, suc, _+_, _-_, _*_, _/_, _%_, _≤_, _<_, min}
 use native.Mathlib.Omega.{arith}
-use lib.Dec.{eqb}
+use lib.Dec.{eqb, ltb}
 use lib.IntN.{ℤ, pos}
-use lib.ListN.{length, getD, take, drop, replicate, length-append, length-replicate, List·getD-eq-default}
+use lib.ListN.{length, getD, take, drop, replicate, length-append, length-drop, length-replicate, List·getD-eq-default}
 use lib.Seq.{take-at, drop-at}
-use borrow.Author.Tests.{eq-eqb, ne-eqb, lt-ltb, le-ltb}
+use borrow.Author.Tests.{eq-eqb, ne-eqb, lt-ltb, le-ltb, ltb-false}
 use Rattle.list_laws.proofs.Lists.{padded-get}
 use Rattle.sheet_format.specs.Limits.{most-words, most-bytes, line-words}
 use Rattle.sheet_format.specs.Line.{bytesOf, wordLines}
+use Rattle.sheet_format.specs.Cause.{refusal, refusalOf}
 use Rattle.sheet_format.specs.Sheet.{over, lentBy, readEnding, wordsRefusal, writeEnding, writeBytes}
 use Rattle.sheet_format.specs.declared.Ending.{Ending}
 use Rattle.sheet_format.specs.declared.Ending.the-variants.{Done, Refused}
+use Rattle.sheet_format.proofs.LineLaws.{sevens-good, sevens-length, bytes-size}
 use Rattle.sheet_format.proofs.RoundTrip.{ending-done, write-read}
 use Rattle.sheet.proofs.Calls.{clean-sheet}
 use Rattle.text_meaning.specs.Reading.{Reading, readingOf, formOf, textLine}
@@ -110,3 +112,66 @@ module _ (t out : List ℕ) (few : length t ≤ 65536) {w : List ℤ} {b : List 
             result = fitted (made.Refused c l v) (ap (λ z. made.Refused c l z) (i ∙ line-is l) ∙ ap (madeBy (readingOf t)) (sym d ∙ ends));
             lent = bytes ∙ ap (λ z. lentBy z (sheetBytes t) out) d;
           }
+
+-- ---- a sheet that is made
+
+done-of : (t : List ℕ) (room n : ℕ) → made.Sheet n ≡ madeOf t room → writeEnding (formOf (readingOf t)) room ≡ Done n
+unfolding madeOf
+done-of t room n e = by (ltb 65536 (length t)) (eqb (readingOf t .control .expected) 0) (writeEnding (formOf (readingOf t)) room) e
+  where
+    by : (a b : Bool) (x : Ending) → made.Sheet n ≡ cond a (made.Expected 1 18 0) (cond b (madeBy (readingOf t) x) (made.Expected (readingOf t .line) (readingOf t .control .expected) (readingOf t .control .relation))) → x ≡ Done n
+    by true b x e = let z : _≡_ {A = ℕ} 0 1 = cc in absurd (omega arith)
+    by false true (Done m) e = cc
+    by false true (Refused c l) e = let z : _≡_ {A = ℕ} 0 1 = cc in absurd (omega arith)
+    by false false x e = let z : _≡_ {A = ℕ} 0 1 = cc in absurd (omega arith)
+
+few-words : (ws : List ℤ) → wordsRefusal ws .number ≡ 0 → length ws ≤ most-words
+unfolding wordsRefusal
+few-words ws e = by (ltb most-words (length ws)) refl e
+  where
+    by : (a : Bool) → ltb most-words (length ws) ≡ a → cond a (refusal 1 0) (cond (eqb (length ws % line-words) 0) (refusalOf (wordLines ws)) (refusal 2 0)) .number ≡ 0 → length ws ≤ most-words
+    by true i f = absurd (omega arith)
+    by false i f = ltb-false most-words (length ws) i
+
+module _ {t old new : List ℕ} {n : ℕ} (m : MadeAs t old new (made.Sheet n)) where
+  -- its bytes are the definition's, and they fit
+  sized : (n ≡ length (sheetBytes t)) × (n ≤ length old)
+  unfolding writeEnding sheetBytes
+  sized =
+      let ws = formOf (readingOf t) in
+      let bs = bytesOf (wordLines ws) in
+      let a = ending-done (wordsRefusal ws) (length old) most-bytes (length bs) n (done-of t (length old) n (m .result)) in
+      let w = few-words ws (a .clean) in
+      let f = bytes-size (wordLines ws) (sevens-good (length ws / line-words) ws) in
+      let l = sevens-length (length ws / line-words) ws in
+      let k = a .count in
+      let r = a .enough in
+      (omega arith, omega arith)
+
+  pub made-bytes : take n new ≡ sheetBytes t
+  made-bytes = ap (take n) (m .lent) ∙ take-at (sheetBytes t) (drop (length (sheetBytes t)) old) n (sym (sized .0))
+
+  -- it is accepted, and the bytes after it are as they were
+  pub made-sheet : Sheets old new n
+  unfolding sheetBytes writeBytes
+  made-sheet =
+      let ws = formOf (readingOf t) in
+      let bs = sheetBytes t in
+      let d = done-of t (length old) n (m .result) in
+      let z = replicate most-words (pos 0) in
+      let r = write-read ws old n d z (omega (arith, length-replicate most-words (pos 0))) in
+      let e = sized .0 in
+      let f = sized .1 in
+      let i : new ≡ writeBytes ws old = m .lent ∙ sym (ap (λ r. lentBy r bs old) d) in
+      let l : length new ≡ length old = ap length (m .lent) ∙ length-append bs (drop (length bs) old) ∙ (let k = length-drop (length bs) old in omega arith) in
+      record {
+        accepted = rw i (clean-sheet (take n (writeBytes ws old)) _ (subst (λ k. readEnding (take n (writeBytes ws old)) k ≡ Done (length ws / line-words)) (length-replicate most-words (pos 0)) (r .0)));
+        fits = omega arith;
+        same = l;
+        rest = ap (drop n) (m .lent) ∙ drop-at bs (drop (length bs) old) n (sym e) ∙ ap (λ k. drop k old) (sym e);
+      }
+
+pub written : {t old new : List ℕ} {r : Made} → MadeAs t old new r → Written old new r
+written {r = made.Sheet n} m = made-sheet m
+written {r = made.Expected l w k} m = m .lent
+written {r = made.Refused c l v} m = m .lent

@@ -37,7 +37,7 @@ fn put_length(out: &mut [u8], at: usize) -> usize
     put(out, b, b" bytes")
 }
 
-// What was expected, by text_reader's numbers for it.
+// What was expected, by text_meaning's numbers for it.
 pub fn put_what(out: &mut [u8], at: usize, what: usize, relation: usize) -> usize
     ensures { λ r. ⌜ Put (now (out .entry)) (now (out .exit)) at (whatBytes what relation) r ⌝ }
 {

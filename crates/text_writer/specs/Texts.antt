@@ -211,7 +211,7 @@ countBytes columns = nthText counts (bytes "four columns in ") columns
 unfoldable pub columnsBytes : ℕ → List ℕ
 columnsBytes relation = cond (ltb 10 relation) [] (countBytes (columnsAt relation) ++ relationBytes relation)
 
--- what is expected, by text_reader's numbers for it, from 1 on
+-- what is expected, by text_meaning's numbers for it, from 1 on
 abbrev pub expectations : ℕ → List (List ℕ)
 expectations relation =
     bytes "q, the question"

@@ -1,5 +1,5 @@
 -- What is said of the sheet that was given, of the sheet that a text has, and of a text without one.
-use mathlib.Core.Path.{sym, _∙_}
+use mathlib.Core.Path.{refl, sym, _∙_}
 use mathlib.Core.Logic.{inl}
 use native.Mathlib.Omega.{arith}
 use borrow.Author.Needs.{needs}
@@ -41,7 +41,7 @@ part-verdict-end : tie.Need-part-verdict-end
 part-verdict-end c =
     let m = c .before .before .before .before .before .sheet-of in
     let g = c .before .before .made .given in
-    let f = sheet-fits (m .result) (g .0 .0) _ (m .last .1 .0) (m .ensures) (g .1) in
+    let f = sheet-fits (g .0 .0) (m .ensures) (g .1) in
     omega arith
 
 verdict-requires-2 : tie.Need-verdict-requires-2
@@ -71,7 +71,7 @@ returns-2 c =
     let m = made .sheet-of in
     let g = c .before .before .before .before .before .before .before .made .given in
     let v = c .before .before .verdict2 in
-    judged (a .given .now) is (m .result) (m .last .1 .0) (m .ensures) (a .out .now) (v .last .1 .0) (v .result) (g .0 .0) (g .1) (v .ensures)
+    judged (a .given .now) is (m .ensures) refl (a .out .now) (v .last .1 .0) (v .result) (g .0 .0) (g .1) (v .ensures)
 
 same-length-3 : tie.Need-same-length-3
 same-length-3 c = search needs
@@ -85,7 +85,7 @@ returns-3 c =
     let m = made .sheet-of in
     let g = c .before .before .before .before .enum-told .given in
     let t = c .before .before .message in
-    expected (a .given .now) is (m .result) (m .last .1 .0) (m .ensures) (a .out .now) (t .last .1 .0) (t .result) (g .0 .0) (g .0 .1 .0) (g .0 .1 .1 .0) (g .1) (t .ensures)
+    expected (a .given .now) is (m .ensures) refl (a .out .now) (t .last .1 .0) (t .result) (g .0 .0) (g .0 .1 .0) (g .0 .1 .1 .0) (g .1) (t .ensures)
 
 same-length-4 : tie.Need-same-length-4
 same-length-4 c = search needs
@@ -99,7 +99,7 @@ returns-4 c =
     let m = made .sheet-of in
     let g = c .before .before .before .before .enum-told2 .given in
     let t = c .before .before .message2 in
-    refused (a .given .now) is (m .result) (m .last .1 .0) (m .ensures) (a .out .now) (t .last .1 .0) (t .result) (g .0 .0) (g .0 .1 .0) (g .0 .1 .1 .0) (g .1) (t .ensures)
+    refused (a .given .now) is (m .ensures) refl (a .out .now) (t .last .1 .0) (t .result) (g .0 .0) (g .0 .1 .0) (g .0 .1 .1 .0) (g .1) (t .ensures)
 
 pub answer-spec : {M : Type 1} → statement M
 answer-spec =
