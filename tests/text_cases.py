@@ -6,8 +6,8 @@ usage: text_cases.py            writes crates/test_text/stdin and stdout
        text_cases.py --run      runs the built programs (rt check) on made-up sheets, and compares them with a writer and a reader of
                                 its own
 
-What is expected was worked out by hand from the description in words, and not taken from the program. Each log that stands in it is the
-only one that may be handed over for its sheet. Which values beyond the sheet's a log has is free: --run looks at a few that need some, and
+What is expected was worked out by hand from the description in words, and not taken from the program; a reader of texts of its own, written from
+the same description, has to agree with it. Each log that stands in it is the only one that may be handed over for its sheet. Which values beyond the sheet's a log has is free: --run looks at a few that need some, and
 asks of them only what has to hold (FREE_VALUES).
 """
 import pathlib
@@ -160,6 +160,13 @@ CASES = [
     ("relation", "q(s): Strop(s)/", expected(1, RELATIONS)),
     ("longer name", "q(s): Straps(s)/", expected(1, RELATIONS)),
     ("shorter name", "q(s): Si(s)/", expected(1, RELATIONS)),
+    ("a relation of the ten by its number", "q(s): R4(s,t)/", expected(1, RELATIONS)),
+    ("R and no number", "q(s): R(s)/", expected(1, RELATIONS)),
+    ("R and more than a number", "q(s): R11a(s)/", expected(1, RELATIONS)),
+    ("a relation beyond every field", "q(s): R100000000(s)/", expected(1, RELATIONS)),
+    ("five columns beyond the ten", "q(a): R11(a,b,c,d,e)/", expected(1, "at most four columns")),
+    ("no column beyond the ten", "q(): R11()/", expected(1, "a variable or a number")),
+    ("a list's letter and more", QL + "lx(s): Strap(s)/", expected(3, VIEW)),
     ("no atoms", "q(s):/", expected(1, RELATIONS)),
     ("no atom after a comma", "q(s): Strap(s),/", expected(1, RELATIONS)),
     ("one column", "q(s): Strap(s,t)/", expected(1, "one column in Strap")),
@@ -177,6 +184,8 @@ CASES = [
     ("bare row", QL + "v(s): Strap(s) = 7 8/", expected(3, ", or ; or the end of the line")),
     ("end of a row", QL + "v(s): Strap(s) = (7) (8)/", expected(3, "; or the end of the line")),
     "# what the library refuses of a text",
+    ("a relation beyond the ten", "q(s,t): R11(s,t)/l(s,t): Sig(s,t)/", refused(4, 2, 1)),
+    ("a relation far beyond the ten", QL + "v(s): Strap(s), R99999999(s,1,2,3) =/", refused(4, 7, 3)),
     ("no list", "q(s): Strap(s)/", refused(3)),
     ("only a comment", "# nothing", refused(3)),
     ("constant", "# too large/q(10000000): Strap(s)/l(0): Strap(s)/", refused(5, 1, 2)),
@@ -229,6 +238,160 @@ def stored():
             said.append(case[3].rstrip("/").replace("/", "\n"))
             said.append("=")
     return "".join(l + "\n" for l in given), "".join(l + "\n" for l in said)
+
+
+# ---- a reader of texts, line by line from the description: the blocks of a text, or the line and what was expected there
+
+COUNTED = {1: "one column", 2: "two columns", 3: "three columns", 4: "four columns"}
+MOST_TEXT, MOST_COLUMNS, MOST_NAMES = 65536, 4, 12
+LARGEST = 99_999_999
+
+
+class NotUnderstood(Exception):
+    """The line, and what was expected there."""
+
+
+class LineReader:
+    """The tokens of one line. None stands for its end."""
+
+    def __init__(self, number, tokens):
+        self.number, self.tokens, self.names = number, tokens, []
+
+    def fail(self, what):
+        raise NotUnderstood(expected(self.number, what))
+
+    def next(self):
+        return self.tokens.pop(0) if self.tokens else None
+
+    def has(self, *wanted):
+        return (self.tokens[0] if self.tokens else None) in wanted
+
+    def term(self, what):
+        token = self.next()
+        if token and token.isdigit():
+            return min(int(token), LARGEST)
+        if token and "a" <= token[0] <= "z":
+            if token not in self.names and len(self.names) < MOST_NAMES:
+                self.names.append(token)
+            return -1 - (self.names.index(token) if token in self.names else MOST_NAMES)
+        self.fail(what)
+
+    def more(self, terms, most, too_many):
+        """The terms behind the first, each after a comma."""
+        while self.has(","):
+            self.next()
+            if len(terms) == most:
+                self.fail(too_many)
+            terms.append(self.term("a variable or a number"))
+        return terms
+
+    def closed(self, terms):
+        if self.next() != ")":
+            self.fail(", or )")
+        return terms
+
+    def free(self):
+        """What stands in a head's or a row's brackets, behind the first."""
+        if self.has(")"):
+            self.next()
+            return []
+        return self.closed(self.more([self.term("a variable, a number or )")], MOST_COLUMNS, "at most four columns"))
+
+    def atom(self):
+        token = self.next() or ""
+        far = re.fullmatch("R([0-9]+)", token)
+        if token in NAMES:
+            relation = NAMES.index(token) + 1
+            most = COLUMNS[relation - 1]
+            wrong = f"{COUNTED[most]} in {token}"
+        elif far and len(NAMES) < int(far[1]) <= LARGEST:
+            relation, most, wrong = int(far[1]), MOST_COLUMNS, "at most four columns"
+        else:
+            self.fail(RELATIONS)
+        if self.next() != "(":
+            self.fail("(")
+        terms = self.closed(self.more([self.term("a variable or a number")], most, wrong))
+        if token in NAMES and len(terms) < most:
+            self.fail(wrong)
+        return relation, terms
+
+    def row(self, what):
+        if self.has("("):
+            self.next()
+            row, after = self.free(), "; or the end of the line"
+        elif self.tokens and self.tokens[0].isdigit():
+            row, after = self.more([self.term(what)], MOST_COLUMNS, "at most four columns"), ", or ; or the end of the line"
+        else:
+            self.fail(what)
+        if not self.has(";", None):
+            self.fail(after)
+        return row
+
+    def block(self, kind):
+        if self.next() != "(":
+            self.fail("(")
+        head = self.free()
+        if self.next() != ":":
+            self.fail(":")
+        atoms, rows = [self.atom()], []
+        while self.has(","):
+            self.next()
+            atoms.append(self.atom())
+        if kind < 3:
+            if self.next():
+                self.fail(", or the end of the line")
+        elif self.next() != "=":
+            self.fail(", or = and the rows")
+        elif not self.has(None):
+            rows.append(self.row("a row or the end of the line"))
+            while self.next():
+                rows.append(self.row("a row"))
+        return kind, head, atoms, rows
+
+
+def read_text(data):
+    """The blocks of a text, each with its line."""
+    if len(data) > MOST_TEXT:
+        raise NotUnderstood(expected(1, f"at most {MOST_TEXT} bytes"))
+    blocks = []
+    for number, line in enumerate(data.decode("latin-1").split("\n"), 1):
+        tokens = re.findall("[A-Za-z][A-Za-z0-9]*|[0-9]+|[^ \t\r]", line)
+        if not tokens or tokens[0] == "#":
+            continue
+        reader = LineReader(number, tokens)
+        letter, last = reader.next(), blocks[-1][1][0] if blocks else 0
+        kind = [1, 2, 2 if letter == "l" else 3, 3][last]
+        if letter != "qlv"[kind - 1]:
+            reader.fail(["q, the question", LIST, VIEW][kind - 1])
+        blocks.append((number, reader.block(kind)))
+    return blocks
+
+
+def line_of_text(blocks, line):
+    """The line of the text in which a line of the number form begins; 0 for none."""
+    begun = [number for number, (_, _, atoms, rows) in blocks for _ in range(1 + len(atoms) + len(rows))]
+    return begun[line - 1] if line else 0
+
+
+def agrees(name, text, words, back):
+    """Whether the reader finds in a text what the stored case says of it."""
+    try:
+        blocks = read_text(text.replace("/", "\n").encode("latin-1"))
+    except NotUnderstood as why:
+        assert str(why) == words, (name, why, words)
+        return
+    assert not words.startswith("line "), (name, words)
+    cause = re.match(r"refused: cause (\d+)(?: at line (\d+) of the sheet, line (\d+) of the text)?:", words)
+    if cause and cause[2]:
+        assert line_of_text(blocks, int(cause[2])) == int(cause[3]), (name, words)
+    if back:
+        assert text_of([b for _, b in blocks], "abcdefghijkl").decode() == back.replace("/", "\n"), (name, back)
+
+
+def agree():
+    for case in CASES:
+        if not isinstance(case, str) and re.match(r"[ \t\r]*[A-Za-z#/]", case[1]):
+            agrees(case[0], case[1], case[2], case[3] if len(case) == 4 else None)
 
 
 # Texts whose logs need values that are made up, and what is said of them, whichever values those are: the groups are values, and the same
@@ -363,6 +526,11 @@ def run():
         assert said.startswith(VERDICTS) and said.endswith("\n"), (bad, said)
         made, why = ran("sheet_of_text", bad)
         assert (why == b"") == (ran("cover", made)[0][:8] != b"       9"), (bad, made, why)
+        try:
+            blocks = [b for _, b in read_text(bad)]
+            assert made == bytes_of(blocks) if made else why.startswith(b"refused: "), (bad, made, why)
+        except NotUnderstood as what:
+            assert (made, why.decode()) == (b"", f"{what}\n"), (bad, made, why, what)
         for s in (words, said):
             seen[next(v for v in VERDICTS if s.startswith(v))] = seen.get(next(v for v in VERDICTS if s.startswith(v)), 0) + 1
     # the longest sheet: every limit met, and every term seven digits long
@@ -380,6 +548,7 @@ def run():
 
 
 def main():
+    agree()
     given, said = stored()
     files = {CRATE / "stdin": given, CRATE / "stdout": said}
     if sys.argv[1:] == ["--check"]:
