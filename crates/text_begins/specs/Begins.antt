@@ -16,9 +16,16 @@ letterOf kind = cond (eqb kind 1) 113 (cond (eqb kind 2) 108 118)
 abbrev pub isBlank : ℕ → Bool
 isBlank b = eqb b 32 || eqb b 9 || eqb b 13
 
+-- a small letter, and a capital one
+abbrev pub isSmall : ℕ → Bool
+isSmall b = leb 97 b && leb b 122
+
+abbrev pub isCapital : ℕ → Bool
+isCapital b = leb 65 b && leb b 90
+
 -- a small letter, a capital letter, "#" or the end of a line
 abbrev pub beginsText : ℕ → Bool
-beginsText b = (leb 97 b && leb b 122) || (leb 65 b && leb b 90) || eqb b 35 || eqb b 10
+beginsText b = isSmall b || isCapital b || eqb b 35 || eqb b 10
 
 -- the first byte that is no blank begins a text
 unfoldable pub isText : List ℕ → Bool

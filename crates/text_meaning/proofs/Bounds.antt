@@ -68,8 +68,7 @@ module _ (c : Control) (h : Small c) (m : Mark) where
   next-few : (b l : ℕ) → nextBlock b l ≤ 5
   unfolding nextBlock
   next-few b l =
-      let P : ℕ → Type 0 = λ n. n ≤ 5 in
-      either (λ n. n ≤ 5) (eqb b 0) (omega arith) (either (λ n. n ≤ 5) (eqb b 1) (omega arith) (either (λ n. n ≤ 5) (eqb b 2) (either (λ n. n ≤ 5) (eqb l 108) (omega arith) (omega arith)) (omega arith)))
+      either (λ n. n ≤ 5) (eqb b 0) (omega arith) (either (λ n. n ≤ 5) (eqb b 1) (omega arith) (either (λ n. n ≤ 5) (eqb b 2) (either (λ n. n ≤ 5) (eqb l (letterOf 2)) (omega arith) (omega arith)) (omega arith)))
 
   start-small : Small (startAt c m)
   unfolding startAt

@@ -1,7 +1,7 @@
 -- Names and numbers: what a token stands for.
 use mathlib.Core.Bool.{Bool, true, false, cond, _&&_}
 use mathlib.Core.List.{List, [], _∷_, _++_}
-use Prim.Native.Nat.{ℕ, zero, suc, _+_, _-_, _*_, min}
+use Prim.Native.Nat.{ℕ, zero, suc, _+_, _-_, _*_, _/_, min}
 use lib.Dec.{eqb, ltb, leb}
 use lib.ListN.{length}
 use Rattle.sheet_format.specs.Limits.{field-end, most-variables}
@@ -19,7 +19,7 @@ sameBytes (a ∷ w) (b ∷ s) = eqb a b && sameBytes w s
 
 -- a number with one digit more; what is no digit, or is one too many for a field, leads out of every field
 unfoldable pub longer : ℕ → ℕ → ℕ
-longer n b = cond (between 48 57 b && ltb n 10000000) (n * 10 + (b - 48)) field-end
+longer n b = cond (between 48 57 b && ltb n (field-end / 10)) (n * 10 + (b - 48)) field-end
 
 unfoldable pub numberFrom : ℕ → List ℕ → ℕ
 numberFrom n [] = n

@@ -43,9 +43,9 @@ termed c = record { place = 5; block = c .block; kind = c .kind; relation = c .r
 
 -- ---- lines of the text: a block each, or a comment, or nothing
 
--- behind a list (2) another list, where its letter (108) says so, or a view (3)
+-- behind a list (2) another list, where its letter says so, or a view (3)
 abbrev pub afterList : ℕ → ℕ
-afterList letter = cond (eqb letter 108) 2 3
+afterList letter = cond (eqb letter (letterOf 2)) 2 3
 
 -- the kind of the next block: the question (1), then lists, then views
 unfoldable pub nextBlock : ℕ → ℕ → ℕ

@@ -3,14 +3,14 @@ use mathlib.Core.Bool.{Bool, false, cond, _&&_, _||_}
 use mathlib.Core.List.{List, [], _∷_, _++_}
 use Prim.Native.Nat.{ℕ}
 use lib.Dec.{eqb, leb}
-use Rattle.text_begins.specs.Begins.{isBlank}
+use Rattle.text_begins.specs.Begins.{isBlank, isSmall, isCapital}
 
 abbrev pub between : ℕ → ℕ → ℕ → Bool
 between a e b = leb a b && leb b e
 
 -- the kind of a byte: "a" (97) of a small letter, "A" (65) of a capital one, "0" (48) of a digit; any other byte is its own
 unfoldable pub kindOf : ℕ → ℕ
-kindOf b = cond (between 97 122 b) 97 (cond (between 65 90 b) 65 (cond (between 48 57 b) 48 b))
+kindOf b = cond (isSmall b) 97 (cond (isCapital b) 65 (cond (between 48 57 b) 48 b))
 
 abbrev pub isLetter : ℕ → Bool
 isLetter k = eqb k 97 || eqb k 65

@@ -8,6 +8,7 @@ use lib.Dec.{eqb}
 use lib.IntN.{ℤ, pos}
 use lib.ListN.{length, getD, take, drop, replicate, length-replicate, drop-of-length-le}
 use borrow.Author.Tests.{eq-eqb, ne-eqb}
+use Rattle.sheet_format.specs.Limits.{most-lines, most-words}
 use Rattle.sheet_format.specs.Line.{wordsOf}
 use Rattle.text_begins.specs.Begins.{isBlank}
 use Rattle.text_meaning.specs.Tokens.{tokens, behind}
@@ -30,14 +31,14 @@ pub record Going (text : List ℕ) (words : List ℤ) (begun names : List ℕ) (
 
 -- ---- the start
 
-held-none : (text : List ℕ) (words : List ℤ) (begun names : List ℕ) → words ≡ replicate 749 (pos 0) → begun ≡ replicate 107 0 → length names ≡ 12
+held-none : (text : List ℕ) (words : List ℤ) (begun names : List ℕ) → words ≡ replicate most-words (pos 0) → begun ≡ replicate most-lines 0 → length names ≡ 12
     → Held text words begun names (record { line = 1; names = 0; lines = 0; fields = 0 }) unread
 unfolding wordsOf
 held-none text words begun names w b l = record {
     line = refl;
     noted = record { size = l; few = omega arith; begin = record { each = λ i h. absurd (omega arith) }; are = refl };
     kept = record {
-      room = record { words-size = ap length w ∙ length-replicate 749 (pos 0); begun-size = ap length b ∙ length-replicate {A = ℕ} 107 0 };
+      room = record { words-size = ap length w ∙ length-replicate most-words (pos 0); begun-size = ap length b ∙ length-replicate {A = ℕ} most-lines 0 };
       count = omega arith;
       same = refl;
       fit = tt;
@@ -46,7 +47,7 @@ held-none text words begun names w b l = record {
     };
   }
 
-pub going-start : {text : List ℕ} {words : List ℤ} {begun names : List ℕ} {at : ℕ} → words ≡ replicate 749 (pos 0) → begun ≡ replicate 107 0 → length names ≡ 12 → Skipped text 0 at
+pub going-start : {text : List ℕ} {words : List ℤ} {begun names : List ℕ} {at : ℕ} → words ≡ replicate most-words (pos 0) → begun ≡ replicate most-lines 0 → length names ≡ 12 → Skipped text 0 at
     → Going text words begun names (unread .control) (record { line = 1; names = 0; lines = 0; fields = 0 }) at
 unfolding readingOf
 going-start {text} {words} {begun} {names} {at} w b l s = record {

@@ -10,6 +10,7 @@ use lib.IntN.{ℤ, pos}
 use lib.ListN.{length, take, set, replicate, length-append, length-set, length-replicate, replicate-append-replicate}
 use lib.Seq.{set-append-left, set-at, take-all, take-at}
 use borrow.Author.Tests.{eq-eqb, ne-eqb, lt-ltb, le-ltb, le-leb, lt-leb}
+use Rattle.sheet_format.specs.Limits.{most-lines, most-words}
 use Rattle.list_laws.proofs.Order.{less?}
 use Rattle.sheet_format.specs.Line.{Line, gather, lineWords, wordsOf}
 use Rattle.sheet_format.proofs.Lists.{append-nil, gather-append}
@@ -56,15 +57,15 @@ line-grows l z f e h =
 
 -- ---- a line begins
 
-module _ (ws : List ℤ) (bs : List ℕ) (ls : List Line) (ss : List ℕ) (fit : Fit ls) (n : ℕ) (is : n ≡ length ls) (room : n < 107) (same : length ss ≡ length ls) (k line : ℕ) where
-  begin-form : Stored ws bs ls ss → set (set ws (n * 7) (pos 1)) (n * 7 + 1) (pos k) ≡ wordsOf (reverse ((pos k ∷ []) ∷ ls)) ++ replicate (749 - suc (length ls) * 7) (pos 0)
+module _ (ws : List ℤ) (bs : List ℕ) (ls : List Line) (ss : List ℕ) (fit : Fit ls) (n : ℕ) (is : n ≡ length ls) (room : n < most-lines) (same : length ss ≡ length ls) (k line : ℕ) where
+  begin-form : Stored ws bs ls ss → set (set ws (n * 7) (pos 1)) (n * 7 + 1) (pos k) ≡ wordsOf (reverse ((pos k ∷ []) ∷ ls)) ++ replicate (most-words - suc (length ls) * 7) (pos 0)
   unfolding lineWords
   begin-form s =
       let F = wordsOf (reverse ls) in
-      let R = replicate (749 - suc (length ls) * 7) (pos 0) in
+      let R = replicate (most-words - suc (length ls) * 7) (pos 0) in
       let a = form-length ls fit in
-      let c : 749 - length ls * 7 ≡ 7 + (749 - suc (length ls) * 7) = omega arith in
-      let z : replicate (749 - length ls * 7) (pos 0) ≡ replicate 7 (pos 0) ++ R = ap (λ m. replicate m (pos 0)) c ∙ sym (replicate-append-replicate 7 (749 - suc (length ls) * 7) (pos 0)) in
+      let c : most-words - length ls * 7 ≡ 7 + (most-words - suc (length ls) * 7) = omega arith in
+      let z : replicate (most-words - length ls * 7) (pos 0) ≡ replicate 7 (pos 0) ++ R = ap (λ m. replicate m (pos 0)) c ∙ sym (replicate-append-replicate 7 (most-words - suc (length ls) * 7) (pos 0)) in
       let b : ws ≡ F ++ (replicate 7 (pos 0) ++ R) = s .form ∙ ap (λ t. F ++ t) z in
       ap (λ t. set (set t (n * 7) (pos 1)) (n * 7 + 1) (pos k)) b
       ∙ ap (λ t. set t (n * 7 + 1) (pos k)) (set-behind F (replicate 7 (pos 0) ++ R) 0 (n * 7) (pos 1) (omega arith))
@@ -72,11 +73,11 @@ module _ (ws : List ℤ) (bs : List ℕ) (ls : List Line) (ss : List ℕ) (fit :
       ∙ sym (append-assoc F (lineWords (pos k ∷ [])) R)
       ∙ ap (λ t. t ++ R) (sym (form-more (pos k ∷ []) ls))
 
-  begin-places : Stored ws bs ls ss → set bs n line ≡ reverse (line ∷ ss) ++ replicate (107 - suc (length ls)) 0
+  begin-places : Stored ws bs ls ss → set bs n line ≡ reverse (line ∷ ss) ++ replicate (most-lines - suc (length ls)) 0
   begin-places s =
       let B = reverse ss in
-      let R = replicate {A = ℕ} (107 - suc (length ls)) 0 in
-      let c : 107 - length ls ≡ suc (107 - suc (length ls)) = omega arith in
+      let R = replicate {A = ℕ} (most-lines - suc (length ls)) 0 in
+      let c : most-lines - length ls ≡ suc (most-lines - suc (length ls)) = omega arith in
       let b : bs ≡ B ++ (0 ∷ R) = s .places ∙ ap (λ m. B ++ replicate {A = ℕ} m 0) c in
       let l : length B ≡ n = back-length ss ∙ omega arith in
       ap (λ t. set t n line) b ∙ set-at B 0 R line n l ∙ sym (append-assoc B (line ∷ []) R) ∙ ap (λ t. t ++ R) (sym (reverse-cons line ss))
@@ -90,18 +91,18 @@ module _ (ws : List ℤ) (bs : List ℕ) (ls : List Line) (ss : List ℕ) (fit :
 
 pub begin-kept : {ws new : List ℤ} {bs to : List ℕ} {n f r : ℕ} {ls : List Line} {ss : List ℕ} {k line : ℕ}
     → Kept ws bs n f ls ss → BegunLine ws new bs to n k line r → Kept new to r 1 ((pos k ∷ []) ∷ ls) (line ∷ ss)
-begin-kept {ws} {new} {bs} {to} {n} {f} {r} {ls} {ss} {k} {line} h b = ⊎-elim fits full (less? n 107)
+begin-kept {ws} {new} {bs} {to} {n} {f} {r} {ls} {ss} {k} {line} h b = ⊎-elim fits full (less? n most-lines)
   where
-    fits : n < 107 → Kept new to r 1 ((pos k ∷ []) ∷ ls) (line ∷ ss)
+    fits : n < most-lines → Kept new to r 1 ((pos k ∷ []) ∷ ls) (line ∷ ss)
     fits l =
-        let t = lt-leb 107 n l in
+        let t = lt-leb most-lines n l in
         let w : new ≡ set (set ws (n * 7) (pos 1)) (n * 7 + 1) (pos k) = rw t at (b .words) in
         let g : to ≡ set bs n line = rw t at (b .begun) in
         let e : r ≡ n + 1 = rw t at (b .count) in
         let c = h .count in
         let i : n ≡ length ls = omega arith in
-        let wl : length new ≡ 749 = ap length w ∙ simp length-set (h .room .words-size) in
-        let gl : length to ≡ 107 = ap length g ∙ simp length-set (h .room .begun-size) in
+        let wl : length new ≡ most-words = ap length w ∙ simp length-set (h .room .words-size) in
+        let gl : length to ≡ most-lines = ap length g ∙ simp length-set (h .room .begun-size) in
         record {
           room = record { words-size = wl; begun-size = gl };
           count = omega arith;
@@ -110,12 +111,12 @@ begin-kept {ws} {new} {bs} {to} {n} {f} {r} {ls} {ss} {k} {line} h b = ⊎-elim 
           last = refl;
           stored = λ m. rw (w, g) (begin-stored ws bs ls ss (h .fit) n i l (h .same) k line (h .stored (omega arith)));
         }
-    full : 107 ≤ n → Kept new to r 1 ((pos k ∷ []) ∷ ls) (line ∷ ss)
+    full : most-lines ≤ n → Kept new to r 1 ((pos k ∷ []) ∷ ls) (line ∷ ss)
     full l =
-        let t = le-leb 107 n l in
+        let t = le-leb most-lines n l in
         let w : new ≡ ws = rw t at (b .words) in
         let g : to ≡ bs = rw t at (b .begun) in
-        let e : r ≡ 108 = rw t at (b .count) in
+        let e : r ≡ most-lines + 1 = rw t at (b .count) in
         let c = h .count in
         record {
           room = record { words-size = ap length w ∙ h .room .words-size; begun-size = ap length g ∙ h .room .begun-size };
@@ -129,11 +130,11 @@ begin-kept {ws} {new} {bs} {to} {n} {f} {r} {ls} {ss} {k} {line} h b = ⊎-elim 
 -- ---- a field is put
 
 module _ (ws : List ℤ) (bs : List ℕ) (l : Line) (ls : List Line) (ss : List ℕ) (fit : Fit (l ∷ ls)) (f : ℕ) (is : f ≡ length l) (few : f < 6) (z : ℤ) where
-  put-form : Stored ws bs (l ∷ ls) ss → set (set ws (length ls * 7) (pos (f + 1))) (length ls * 7 + 1 + f) z ≡ wordsOf (reverse ((l ++ (z ∷ [])) ∷ ls)) ++ replicate (749 - suc (length ls) * 7) (pos 0)
+  put-form : Stored ws bs (l ∷ ls) ss → set (set ws (length ls * 7) (pos (f + 1))) (length ls * 7 + 1 + f) z ≡ wordsOf (reverse ((l ++ (z ∷ [])) ∷ ls)) ++ replicate (most-words - suc (length ls) * 7) (pos 0)
   put-form s =
       let m = length ls in
       let F = wordsOf (reverse ls) in
-      let R = replicate (749 - suc m * 7) (pos 0) in
+      let R = replicate (most-words - suc m * 7) (pos 0) in
       let L = lineWords l in
       let a = form-length ls (fit .2) in
       let c = line-length l (fit .1) in
@@ -153,7 +154,7 @@ module _ {ws new : List ℤ} {bs : List ℕ} {n f r : ℕ} {ss : List ℕ} {z : 
   put-into : (l : Line) (ls : List Line) → Kept ws bs n f (l ∷ ls) ss → Kept new bs n r (take 6 (l ++ (z ∷ [])) ∷ ls) ss
   put-into l ls h = ⊎-elim more full (less? f 6)
     where
-      c : n ≡ min 108 (suc (length ls))
+      c : n ≡ min (most-lines + 1) (suc (length ls))
       c = h .count
       some : eqb n 0 ≡ false
       some = ne-eqb n 0 (λ e. let d = c in absurd (omega arith))
@@ -166,7 +167,7 @@ module _ {ws new : List ℤ} {bs : List ℕ} {n f r : ℕ} {ss : List ℕ} {z : 
           let e : r ≡ f = rw (some, le-leb 6 f g) at (p .count) in
           rw (t, w, e) h
       more : f < 6 → Kept new bs n r (take 6 (l ++ (z ∷ [])) ∷ ls) ss
-      more g = ⊎-elim far near (less? 107 n)
+      more g = ⊎-elim far near (less? most-lines n)
         where
           i : f ≡ length l
           i = h .last
@@ -176,7 +177,7 @@ module _ {ws new : List ℤ} {bs : List ℕ} {n f r : ℕ} {ss : List ℕ} {z : 
           e = rw (some, lt-leb 6 f g) at (p .count)
           k : length (l ++ (z ∷ [])) ≡ f + 1
           k = let i′ = i in length-append l (z ∷ []) ∙ omega arith
-          kept : length new ≡ 749 → (length (l ∷ ls) ≤ 107 → Stored new bs ((l ++ (z ∷ [])) ∷ ls) ss) → Kept new bs n r (take 6 (l ++ (z ∷ [])) ∷ ls) ss
+          kept : length new ≡ most-words → (length (l ∷ ls) ≤ most-lines → Stored new bs ((l ++ (z ∷ [])) ∷ ls) ss) → Kept new bs n r (take 6 (l ++ (z ∷ [])) ∷ ls) ss
           kept w s = rw t (record {
               room = record { words-size = w; begun-size = h .room .begun-size };
               count = c;
@@ -185,15 +186,15 @@ module _ {ws new : List ℤ} {bs : List ℕ} {n f r : ℕ} {ss : List ℕ} {z : 
               last = e ∙ sym k;
               stored = s;
             })
-          far : 107 < n → Kept new bs n r (take 6 (l ++ (z ∷ [])) ∷ ls) ss
+          far : most-lines < n → Kept new bs n r (take 6 (l ++ (z ∷ [])) ∷ ls) ss
           far x =
-              let w : new ≡ ws = rw (some, lt-leb 6 f g, lt-ltb 107 n x) at (p .words) in
+              let w : new ≡ ws = rw (some, lt-leb 6 f g, lt-ltb most-lines n x) at (p .words) in
               kept (ap length w ∙ h .room .words-size) (λ m. let d = c in absurd (omega arith))
-          near : n ≤ 107 → Kept new bs n r (take 6 (l ++ (z ∷ [])) ∷ ls) ss
+          near : n ≤ most-lines → Kept new bs n r (take 6 (l ++ (z ∷ [])) ∷ ls) ss
           near x =
               let d = c in
               let q : n - 1 ≡ length ls = omega arith in
-              let w : new ≡ set (set ws (length ls * 7) (pos (f + 1))) (length ls * 7 + 1 + f) z = rw (some, lt-leb 6 f g, le-ltb 107 n x, q) at (p .words) in
+              let w : new ≡ set (set ws (length ls * 7) (pos (f + 1))) (length ls * 7 + 1 + f) z = rw (some, lt-leb 6 f g, le-ltb most-lines n x, q) at (p .words) in
               kept (ap length w ∙ simp length-set (h .room .words-size)) (λ m. rw w (put-stored ws bs l ls ss (h .fit) f i g z (h .stored m)))
 
   pub put-kept : {ls : List Line} → Kept ws bs n f ls ss → Kept new bs n r (grown z ls) ss

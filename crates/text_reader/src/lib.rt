@@ -3,7 +3,7 @@ use sheet_format::ATOM_KIND;
 use sheet_format::LINE_WORDS;
 use sheet_format::MOST_FIELDS;
 use sheet_format::MOST_LINES;
-use sheet_format::MOST_WORDS;
+use sheet_format::VARIABLES;
 use text_meaning::Control;
 use text_meaning::Mark;
 use text_meaning::START;
@@ -13,17 +13,17 @@ use text_tokens::mark;
 use text_tokens::skip;
 use text_tokens::token_end;
 ghost use mathlib.Core.Path.{_≡_};
-ghost use Prim.Native.Nat.{_≤_, _<_};
+ghost use Prim.Native.Nat.{_+_, _≤_, _<_};
 ghost use lib.ListN.{length, replicate};
 ghost use Rattle.text_begins.specs.Begins.{most-text};
 ghost use Rattle.text_meaning.specs.Names.{sameBytes, placeIn};
 ghost use lib.IntN.{pos, negsuc};
-ghost use Rattle.sheet_format.specs.Limits.{most-words, most-lines};
+ghost use Rattle.sheet_format.specs.Limits.{most-words, most-lines, most-variables};
 ghost use Rattle.text_tokens.specs.Ends.{Begins};
 ghost use Rattle.text_reader.specs.Held.{nameAt, namesAt, NamesBegin, Room, BegunLine, PutField, WordAt, BegunBy, PutBy, NotedBy, VariablePut, Marked, HeldSome, EndedBy, TakenBy, ReadAs};
 
 // The variables of a block that have names: one more is a variable too many, whatever its name.
-const NAMED: usize = 12;
+const NAMED: usize = VARIABLES as usize;
 
 // How much was read: the line of the text; the block's variables; the lines of the number form, one more than a sheet can have standing for any
 // more, and the fields of the last.
@@ -63,7 +63,7 @@ fn begin_line(
 
 // One field more in the last line.
 fn put_field(words: &mut [i32], lines: usize, fields: usize, w: i32) -> usize
-    requires { ⌜ length (now words) ≡ 749 ⌝ }
+    requires { ⌜ length (now words) ≡ most-words ⌝ }
     ensures { λ r. ⌜ PutField (now (words .entry)) (now (words .exit)) lines fields w r ⌝ }
 {
     if lines == 0 {
@@ -132,7 +132,7 @@ fn begin(c: Control, n: Counts, words: &mut [i32], begun: &mut [usize]) -> Count
 
 // The term of the variable that has a place among the block's.
 fn term_at(place: usize) -> i32
-    requires { ⌜ place ≤ 12 ⌝ }
+    requires { ⌜ place ≤ most-variables ⌝ }
     ensures { λ r. ⌜ r ≡ negsuc place ⌝ }
 {
     -((place + 1) as i32)
@@ -140,7 +140,7 @@ fn term_at(place: usize) -> i32
 
 // Notes the name that begins at a place of the text, where its place among the block's is new and there is room.
 fn note(names: &mut [usize], count: usize, place: usize, at: usize) -> usize
-    requires { ⌜ length (now names) ≡ 12 ⌝ }
+    requires { ⌜ length (now names) ≡ most-variables ⌝ }
     ensures { λ r. ⌜ NotedBy (now (names .entry)) (now (names .exit)) count place at r ⌝ }
 {
     if place < count {
@@ -163,7 +163,7 @@ fn put_variable(
     names: &mut [usize],
 ) -> Counts
     requires { ⌜ WordAt (now text) at e × (at < e) ⌝ }
-    requires { ⌜ (length (now words) ≡ 749) × (length (now names) ≡ 12) × (n .names ≤ 12) × NamesBegin (now text) (now names) (n .names) ⌝ }
+    requires { ⌜ (length (now words) ≡ most-words) × (length (now names) ≡ most-variables) × (n .names ≤ most-variables) × NamesBegin (now text) (now names) (n .names) ⌝ }
     ensures { λ r. ⌜ VariablePut (now (text .entry)) at e (now (words .entry)) (now (words .exit)) (now (names .entry)) (now (names .exit)) n r ⌝ }
 {
     let count = n.names;
@@ -189,7 +189,7 @@ fn put(
     names: &mut [usize],
 ) -> Counts
     requires { ⌜ WordAt (now text) at e × Marked (now text) at e m ⌝ }
-    requires { ⌜ (length (now words) ≡ 749) × (length (now names) ≡ 12) × (n .names ≤ 12) × NamesBegin (now text) (now names) (n .names) ⌝ }
+    requires { ⌜ (length (now words) ≡ most-words) × (length (now names) ≡ most-variables) × (n .names ≤ most-variables) × NamesBegin (now text) (now names) (n .names) ⌝ }
     ensures { λ r. ⌜ PutBy (now (text .entry)) at e c m (now (words .entry)) (now (words .exit)) (now (names .entry)) (now (names .exit)) n r ⌝ }
 {
     if !c.puts {
@@ -209,7 +209,7 @@ fn put(
 
 // Counts the line of the text that a token ends.
 fn end_line(c: Control, m: Mark, n: Counts) -> Counts
-    requires { ⌜ n .line ≤ 65537 ⌝ }
+    requires { ⌜ n .line ≤ most-text + 1 ⌝ }
     ensures { λ r. ⌜ EndedBy c m n r ⌝ }
 {
     if m.kind != b'\n' {
@@ -238,7 +238,7 @@ fn take(
     names: &mut [usize],
 ) -> ReadTo
     requires { ⌜ WordAt (now text) at e × HeldSome (now text) (now words) (now begun) (now names) n ⌝ }
-    requires { ⌜ (c .kind ≤ 5) × (n .line ≤ 65537) ⌝ }
+    requires { ⌜ (c .kind ≤ 5) × (n .line ≤ most-text + 1) ⌝ }
     ensures { λ r. ⌜ TakenBy (now (text .entry)) at e c (now (words .entry)) (now (words .exit)) (now (begun .entry)) (now (begun .exit)) (now (names .entry)) (now (names .exit)) n r ⌝ }
 {
     let m = mark(&text[at..e]);

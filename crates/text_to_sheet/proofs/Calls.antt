@@ -9,8 +9,9 @@ use lib.IntN.{ℤ, pos}
 use lib.ListN.{length, getD, take, drop, replicate, length-append, length-drop, length-replicate, List·getD-eq-default}
 use lib.Seq.{take-at, drop-at}
 use borrow.Author.Tests.{eq-eqb, ne-eqb, lt-ltb, le-ltb, ltb-false}
+use Rattle.text_begins.specs.Begins.{most-text}
 use Rattle.list_laws.proofs.Lists.{padded-get}
-use Rattle.sheet_format.specs.Limits.{most-words, most-bytes, line-words}
+use Rattle.sheet_format.specs.Limits.{most-words, most-bytes, line-words, most-lines}
 use Rattle.sheet_format.specs.Line.{bytesOf, wordLines}
 use Rattle.sheet_format.specs.Cause.{refusal, refusalOf}
 use Rattle.sheet_format.specs.Sheet.{over, lentBy, readEnding, wordsRefusal, writeEnding, writeBytes}
@@ -42,14 +43,14 @@ line-at b (suc n) h = let e : suc n - 1 ≡ n = omega arith in rw e
 
 -- ---- what comes of a text
 
-pub too-long : {t out : List ℕ} → 65536 < length t → MadeAs t out out (made.Expected 1 18 0)
+pub too-long : {t out : List ℕ} → most-text < length t → MadeAs t out out (made.Expected 1 18 0)
 unfolding madeOf
-too-long {t} h = record { result = rw (lt-ltb 65536 (length t) h); lent = refl }
+too-long {t} h = record { result = rw (lt-ltb most-text (length t) h); lent = refl }
 
-module _ (t out : List ℕ) (few : length t ≤ 65536) {w : List ℤ} {b : List ℕ} {r : ReadTo} (k : ReadAs t w b r) where
+module _ (t out : List ℕ) (few : length t ≤ most-text) {w : List ℤ} {b : List ℕ} {r : ReadTo} (k : ReadAs t w b r) where
   read-made : (m : Made) → m ≡ madeFrom (readingOf t) (length out) → m ≡ madeOf t (length out)
   unfolding madeOf
-  read-made m e = rw (le-ltb 65536 (length t) few) e
+  read-made m e = rw (le-ltb most-text (length t) few) e
 
   pub expected-made : (r .control .expected ≡ 0 → ⊥) → MadeAs t out out (made.Expected (r .counts .line) (r .control .expected) (r .control .relation))
   expected-made f =
@@ -65,18 +66,18 @@ module _ (t out : List ℕ) (few : length t ≤ 65536) {w : List ℤ} {b : List 
         let x : eqb (readingOf t .control .expected) 0 ≡ eqb (r .control .expected) 0 = ap (λ c. eqb (c .expected) 0) (k .control) in
         read-made m (rw (x, eq-eqb (r .control .expected) 0 f) e)
 
-    pub many-made : 107 < r .counts .lines → MadeAs t out out (made.Refused 1 0 0)
+    pub many-made : most-lines < r .counts .lines → MadeAs t out out (made.Refused 1 0 0)
     unfolding writeEnding wordsRefusal formOf
     many-made h =
         let ls = readingOf t .lines in
         let c = k .kept .count in
         let l = form-length ls (k .kept .fit) in
         record {
-          result = fitted (made.Refused 1 0 0) (rw (lt-ltb 749 (length (formOf (readingOf t))) (omega arith)));
+          result = fitted (made.Refused 1 0 0) (rw (lt-ltb most-words (length (formOf (readingOf t))) (omega arith)));
           lent = refl;
         }
 
-    module _ (h : r .counts .lines ≤ 107) where
+    module _ (h : r .counts .lines ≤ most-lines) where
       stored : Stored w b (readingOf t .lines) (readingOf t .starts)
       stored = let c = k .kept .count in k .kept .stored (omega arith)
 
@@ -87,11 +88,11 @@ module _ (t out : List ℕ) (few : length t ≤ 65536) {w : List ℤ} {b : List 
           let c = k .kept .count in
           let s = stored in
           let l = form-length ls (k .kept .fit) in
-          ap (take (r .counts .lines * 7 - 0)) (s .form) ∙ take-at (formOf (readingOf t)) (replicate (749 - length ls * 7) (pos 0)) (r .counts .lines * 7 - 0) (omega arith)
+          ap (take (r .counts .lines * 7 - 0)) (s .form) ∙ take-at (formOf (readingOf t)) (replicate (most-words - length ls * 7) (pos 0)) (r .counts .lines * 7 - 0) (omega arith)
 
       line-is : (l : ℕ) → lineIn b l ≡ textLine (readingOf t) l
       line-is zero = refl
-      line-is (suc n) = let s = stored in ap (λ x. getD x n 0) (s .places) ∙ padded-get 0 (reverse (readingOf t .starts)) (107 - length (readingOf t .lines)) n
+      line-is (suc n) = let s = stored in ap (λ x. getD x n 0) (s .places) ∙ padded-get 0 (reverse (readingOf t .starts)) (most-lines - length (readingOf t .lines)) n
 
       module _ (new : List ℕ) (x : Ending) (e : x ≡ writeEnding (take (r .counts .lines * 7 - 0) w) (length out)) (y : new ≡ writeBytes (take (r .counts .lines * 7 - 0) w) out) where
         ends : x ≡ writeEnding (formOf (readingOf t)) (length out)
@@ -117,7 +118,7 @@ module _ (t out : List ℕ) (few : length t ≤ 65536) {w : List ℤ} {b : List 
 
 done-of : (t : List ℕ) (room n : ℕ) → made.Sheet n ≡ madeOf t room → writeEnding (formOf (readingOf t)) room ≡ Done n
 unfolding madeOf
-done-of t room n e = by (ltb 65536 (length t)) (eqb (readingOf t .control .expected) 0) (writeEnding (formOf (readingOf t)) room) e
+done-of t room n e = by (ltb most-text (length t)) (eqb (readingOf t .control .expected) 0) (writeEnding (formOf (readingOf t)) room) e
   where
     by : (a b : Bool) (x : Ending) → made.Sheet n ≡ cond a (made.Expected 1 18 0) (cond b (madeBy (readingOf t) x) (made.Expected (readingOf t .line) (readingOf t .control .expected) (readingOf t .control .relation))) → x ≡ Done n
     by true b x e = let z : _≡_ {A = ℕ} 0 1 = cc in absurd (omega arith)

@@ -9,9 +9,13 @@ ghost use mathlib.Core.Path.{_≡_};
 ghost use Prim.Native.Nat.{_≤_};
 ghost use lib.ListN.{length, drop};
 ghost use Rattle.text_writer.specs.Texts.{relationBytes, relationNames};
+ghost use Rattle.sheet_format.specs.Limits.{field-end};
 ghost use Rattle.text_tokens.specs.Ends.{Begins, TokenEnds, Skipped};
 ghost use Rattle.text_meaning.specs.Tokens.{between, kindOf, isLetter, isInWord, joins};
 ghost use Rattle.text_meaning.specs.Names.{sameBytes, longer, numberFrom, numberOf, among, beyond, relationOf, valueOf, letterIn, markOf};
+
+// What may have one digit more lies below this.
+const SHORTER: usize = FIELD_END as usize / 10;
 
 // Whether a byte lies between two others, which count too.
 fn is_between(from: u8, to: u8, b: u8) -> bool
@@ -115,12 +119,12 @@ pub fn are_equal(a: &[u8], b: &[u8]) -> bool
 
 // A number and one digit more.
 fn longer(n: usize, b: u8) -> usize
-    ensures { λ r. ⌜ (r ≡ longer n b) × (r ≤ 100000000) ⌝ }
+    ensures { λ r. ⌜ (r ≡ longer n b) × (r ≤ field-end) ⌝ }
 {
     if !is_between(b'0', b'9', b) {
         return FIELD_END as usize;
     }
-    if n < 10_000_000 {
+    if n < SHORTER {
         return n * 10 + (b - b'0') as usize;
     }
     FIELD_END as usize
@@ -129,7 +133,7 @@ fn longer(n: usize, b: u8) -> usize
 // The number of the digits from a place on; one that no field holds where they are none, or too many.
 fn number_from(digits: &[u8], from: usize) -> usize
     requires { ⌜ from ≤ length (now digits) ⌝ }
-    ensures { λ r. ⌜ (r ≡ numberFrom 0 (drop from (now (digits .entry)))) × (r ≤ 100000000) ⌝ }
+    ensures { λ r. ⌜ (r ≡ numberFrom 0 (drop from (now (digits .entry)))) × (r ≤ field-end) ⌝ }
 {
     let mut n = 0;
     let mut i = from;

@@ -4,6 +4,7 @@ use native.Mathlib.Omega.{arith}
 use borrow.Author.Needs.{needs}
 use lib.IntN.{pos}
 use lib.ListN.{length, length-replicate}
+use Rattle.sheet_format.specs.Limits.{most-lines, most-words}
 use Rattle.text_reader.proofs.Going.{Going, going-start, going-some, going-begins, going-word, end-word, going-fails, going-next, going-ends}
 use Rattle.text_reader.proofs.run.Statement.{statement}
 use Rattle.text_reader.proofs.run.Tie as tie
@@ -38,7 +39,7 @@ take-requires c κs =
 same-length : tie.Need-same-length Inv-loop μ-loop
 same-length c = 
     let s = c .before .before .before .before .before .before .before .before .before .before .before .before .before .before .before .before .before .before in
-    let a : length (s .args .words .now) ≡ 749 = ap length (s .pre .1) ∙ length-replicate 749 (pos 0) in
+    let a : length (s .args .words .now) ≡ most-words = ap length (s .pre .1) ∙ length-replicate most-words (pos 0) in
     let b = c .before .before .before .before .before .before .before .before .before .before .before .before .before .before .loop .inv .held .kept .room .words-size in
     let k = c .before .before .before .before .before .before .before .before .take .kept .1 .1 .1 .1 .1 .0 in
     omega arith
@@ -46,7 +47,7 @@ same-length c =
 same-length-2 : tie.Need-same-length-2 Inv-loop μ-loop
 same-length-2 c = 
     let s = c .before .before .before .before .before .before .before .before .before .before .before .before .before .before .before .before .before .before in
-    let a : length (s .args .begun .now) ≡ 107 = ap length (s .pre .2) ∙ length-replicate {A = ℕ} 107 0 in
+    let a : length (s .args .begun .now) ≡ most-lines = ap length (s .pre .2) ∙ length-replicate {A = ℕ} most-lines 0 in
     let b = c .before .before .before .before .before .before .before .before .before .before .before .before .before .before .loop .inv .held .kept .room .begun-size in
     let k = c .before .before .before .before .before .before .before .before .take .kept .1 .1 .1 .1 .1 .1 .0 in
     omega arith
@@ -83,7 +84,7 @@ take-requires-2 c κs =
 same-length-3 : tie.Need-same-length-3 Inv-loop μ-loop
 same-length-3 c = 
     let s = c .before .before .before .before .before .before .before .before .before .before .before .before .before in
-    let a : length (s .args .words .now) ≡ 749 = ap length (s .pre .1) ∙ length-replicate 749 (pos 0) in
+    let a : length (s .args .words .now) ≡ most-words = ap length (s .pre .1) ∙ length-replicate most-words (pos 0) in
     let b = c .before .before .before .before .before .before .before .before .before .loop .inv .held .kept .room .words-size in
     let k = c .before .before .before .before .take2 .kept .1 .1 .1 .1 .1 .0 in
     omega arith
@@ -91,7 +92,7 @@ same-length-3 c =
 same-length-4 : tie.Need-same-length-4 Inv-loop μ-loop
 same-length-4 c = 
     let s = c .before .before .before .before .before .before .before .before .before .before .before .before .before in
-    let a : length (s .args .begun .now) ≡ 107 = ap length (s .pre .2) ∙ length-replicate {A = ℕ} 107 0 in
+    let a : length (s .args .begun .now) ≡ most-lines = ap length (s .pre .2) ∙ length-replicate {A = ℕ} most-lines 0 in
     let b = c .before .before .before .before .before .before .before .before .before .loop .inv .held .kept .room .begun-size in
     let k = c .before .before .before .before .take2 .kept .1 .1 .1 .1 .1 .1 .0 in
     omega arith

@@ -3,13 +3,14 @@ use Prim.Native.Nat.{_+_, _-_, _≤_}
 use native.Mathlib.Omega.{arith}
 use borrow.Author.Needs.{needs}
 use lib.ListN.{length, drop}
+use Rattle.sheet_format.specs.Limits.{field-end}
 use Rattle.text_meaning.specs.Names.{numberFrom}
 use Rattle.text_tokens.proofs.Names.{number-next, number-end}
 use Rattle.text_tokens.proofs.number_from.Statement.{statement}
 use Rattle.text_tokens.proofs.number_from.Tie as tie
 
 abbrev Inv-loop : tie.InvT-loop
-Inv-loop digits from n₀ i₀ n i = (i ≤ length digits) × (numberFrom 0 (drop from digits) ≡ numberFrom n (drop i digits)) × (n ≤ 100000000)
+Inv-loop digits from n₀ i₀ n i = (i ≤ length digits) × (numberFrom 0 (drop from digits) ≡ numberFrom n (drop i digits)) × (n ≤ field-end)
 
 abbrev μ-loop : tie.MeasureT-loop
 μ-loop digits from n₀ i₀ n i = length digits - i
