@@ -9,7 +9,7 @@ use lib.ListN.{getD, length}
 use Rattle.sheet_format.specs.Relations.{relations, keyNumbers, parentNumbers, columnsOf, keyOf, parentOf}
 use Rattle.query_meaning.specs.Meaning.{In}
 use Rattle.case_verdicts.specs.Table.{Relation, Table, unknown, relation, Sound}
-use Rattle.case_verdicts.specs.Sheets.{tableOf, ten}
+use Rattle.case_verdicts.specs.Sheets.{tableBy, ten}
 use Rattle.case_verdicts.proofs.Decide.{first-all}
 
 line-in : (table : Table) (n : ℕ) → 0 < getD table n unknown .parent → In (getD table n unknown) table
@@ -36,7 +36,7 @@ sound table each = record {
 -- ---- the ten
 
 line-of : (ns ks ps : List ℕ) (n : ℕ) → length ns ≡ length ks → length ns ≡ length ps
-    → (getD (tableOf ns ks ps) n unknown .columns ≡ getD ns n 0) × (getD (tableOf ns ks ps) n unknown .key ≡ getD ks n 0) × (getD (tableOf ns ks ps) n unknown .parent ≡ getD ps n 0)
+    → (getD (tableBy ns ks ps) n unknown .columns ≡ getD ns n 0) × (getD (tableBy ns ks ps) n unknown .key ≡ getD ks n 0) × (getD (tableBy ns ks ps) n unknown .parent ≡ getD ps n 0)
 line-of [] [] [] n e f = (refl, refl, refl)
 line-of [] [] (p ∷ ps) n e f = absurd (omega arith)
 line-of [] (k ∷ ks) ps n e f = absurd (omega arith)

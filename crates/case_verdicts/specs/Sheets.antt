@@ -1,25 +1,13 @@
 -- The sheet that accepted lines mean.
 use mathlib.Core.Bool.{Bool, true, false}
-use mathlib.Core.List.{List, [], _∷_, map}
+use mathlib.Core.List.{List, map}
 use Prim.Native.Nat.{ℕ}
 use Rattle.sheet_format.specs.Limits.{constant-end}
-use Rattle.sheet_format.specs.Relations.{relations, keyNumbers, parentNumbers}
+pub use Rattle.sheet_format.specs.Table.{tableBy, ten}
 use Rattle.sheet_format.specs.Line.{Line}
 use Rattle.sheet_format.specs.Cause.{Kind, question, saved, view, atom, row, other}
 use Rattle.query_meaning.specs.Blocks.{View, blocks, nth}
-use Rattle.case_verdicts.specs.Table.{Table}
 use Rattle.case_verdicts.specs.Verdict.{Sheet}
-
--- relations with these columns, keys and parents, one after the other
-abbrev pub tableOf : List ℕ → List ℕ → List ℕ → Table
-tableOf [] ks ps = []
-tableOf (n ∷ ns) [] ps = []
-tableOf (n ∷ ns) (k ∷ ks) [] = []
-tableOf (n ∷ ns) (k ∷ ks) (p ∷ ps) = record { columns = n; key = k; parent = p } ∷ tableOf ns ks ps
-
--- the ten relations (The log's relations): a beat and noise are signals; a strap has one rower in a session and one rate at a tick
-abbrev pub ten : Table
-ten = tableOf relations keyNumbers parentNumbers
 
 -- constants lie below it, and made-up values from it on (Meaning, of the case handed over)
 abbrev pub top : ℕ

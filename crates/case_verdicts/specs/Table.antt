@@ -1,29 +1,11 @@
--- Tables of relations, and the logs that a table allows. A table may ask for keys and parents; the library's own (Sheets) has parents.
+-- The logs that a table of relations allows. A table may ask for keys and parents, as the library's own does.
 use mathlib.Core.Path.{_≡_}
 use mathlib.Core.List.{List, [], _∷_}
 use Prim.Native.Nat.{ℕ, zero, suc, _<_}
-use lib.ListN.{length, take, getD}
+use lib.ListN.{length, take}
+pub use Rattle.sheet_format.specs.Table.{Relation, Table, unknown, Sound}
+unfoldable pub use Rattle.sheet_format.specs.Table.{relation}
 use Rattle.query_meaning.specs.Meaning.{Fact, Log, In, fact}
-
--- A relation's number of columns. Where `key` is not 0, rows that are alike in the first `key` columns are alike in all; where `parent`
--- is not 0, the relation of that number has every row that this one has.
-pub record Relation : Type 0 where
-  pub columns : ℕ
-  pub key : ℕ
-  pub parent : ℕ
-
--- relation 1, relation 2 and so on (The log's relations)
-abbrev pub Table : Type 0
-Table = List Relation
-
--- stands for a relation that the table lacks: it has no columns
-abbrev pub unknown : Relation
-unknown = record { columns = 0; key = 0; parent = 0 }
-
--- the relation of a number
-unfoldable pub relation : Table → ℕ → Relation
-relation t zero = unknown
-relation t (suc n) = getD t n unknown
 
 -- the row r as a fact of relation p, for p not 0
 abbrev pub owed : ℕ → List ℕ → Log
@@ -51,8 +33,3 @@ pub record Lawful (table : Table) (log : Log) : Type 0 where
   pub formed : (f : Fact) → In f log → Formed table f
   pub parented : (f : Fact) → In f log → (g : Fact) → In g (parents table f) → In g log
   pub keyed : (f g : Fact) → In f log → In g log → SameKey table f g → f .row ≡ g .row
-
--- the tables of which the theorems speak: a parent has as many columns as its relation, and has no parent
-pub record Sound (table : Table) : Type 0 where
-  pub columns : (n : ℕ) → 0 < relation table n .parent → relation table (relation table n .parent) .columns ≡ relation table n .columns
-  pub parentless : (n : ℕ) → 0 < relation table n .parent → relation table (relation table n .parent) .parent ≡ 0

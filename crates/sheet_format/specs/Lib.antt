@@ -1,5 +1,6 @@
 pub mod Limits
 pub mod Relations
+pub mod Table
 pub mod Field
 pub mod Line
 pub mod Cause

@@ -62,6 +62,18 @@ most-views = 8
 abbrev pub most-rows : ℕ
 most-rows = 40
 
+-- ---- tables of relations
+
+-- a table has at most so many lines, each of so many fields; a relation has at most so many columns
+abbrev pub most-relations : ℕ
+most-relations = 32
+
+abbrev pub table-fields : ℕ
+table-fields = 4
+
+abbrev pub most-columns : ℕ
+most-columns = 4
+
 -- ---- what follows from these
 
 -- an accepted sheet has at most so many lines: a head and its atoms for question, lists and views, and the rows (a law shows it)

@@ -52,6 +52,13 @@ pub const MOST_VIEWS: usize = 8;
 
 pub const MOST_ROWS: usize = 40;
 
+// The most lines of a table of relations, the fields of each, and the most columns of a relation.
+pub const MOST_RELATIONS: usize = 32;
+
+pub const TABLE_FIELDS: usize = 4;
+
+pub const MOST_COLUMNS: usize = 4;
+
 // The lines of an accepted sheet, at most: this follows from the limits above.
 pub const MOST_LINES: usize = 107;
 
@@ -86,6 +93,8 @@ pub const UNSAFE_HEAD: usize = 8;
 pub const NOT_ABOVE: usize = 9;
 
 pub const NO_ROOM: usize = 13;
+
+pub const WRONG_TABLE: usize = 15;
 
 // Why a sheet is sent back: the cause's number and the line, counted from 1, or 0 where none is named. Nothing is refused where both are 0.
 pub struct Refusal {
