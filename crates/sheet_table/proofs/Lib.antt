@@ -1,0 +1,5 @@
+pub mod Rules
+pub mod Numbers
+pub mod Lines
+pub mod Reading
+pub mod Returned
