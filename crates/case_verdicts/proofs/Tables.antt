@@ -1,15 +1,16 @@
 -- A table is sound if each of its relations is; so are the ten.
 use mathlib.Core.Path.{_≡_, refl}
-use mathlib.Core.List.{List, [], _∷_}
+use mathlib.Core.List.{[], _∷_}
 use mathlib.Core.Logic.{_⊎_, inl, inr, ⊎-elim}
 use Prim.Native.Nat.{ℕ, zero, suc, _<_}
 use native.Mathlib.Omega.{arith}
 use lib.IntN.{pos}
-use lib.ListN.{getD, length}
+use lib.ListN.{getD}
 use Rattle.sheet_format.specs.Relations.{relations, keyNumbers, parentNumbers, columnsOf, keyOf, parentOf}
+use Rattle.sheet_format.proofs.TableLaws.{line-of}
 use Rattle.query_meaning.specs.Meaning.{In}
 use Rattle.case_verdicts.specs.Table.{Relation, Table, unknown, relation, Sound}
-use Rattle.case_verdicts.specs.Sheets.{tableBy, ten}
+use Rattle.case_verdicts.specs.Sheets.{ten}
 use Rattle.case_verdicts.proofs.Decide.{first-all}
 
 line-in : (table : Table) (n : ℕ) → 0 < getD table n unknown .parent → In (getD table n unknown) table
@@ -34,16 +35,6 @@ sound table each = record {
 }
 
 -- ---- the ten
-
-line-of : (ns ks ps : List ℕ) (n : ℕ) → length ns ≡ length ks → length ns ≡ length ps
-    → (getD (tableBy ns ks ps) n unknown .columns ≡ getD ns n 0) × (getD (tableBy ns ks ps) n unknown .key ≡ getD ks n 0) × (getD (tableBy ns ks ps) n unknown .parent ≡ getD ps n 0)
-line-of [] [] [] n e f = (refl, refl, refl)
-line-of [] [] (p ∷ ps) n e f = absurd (omega arith)
-line-of [] (k ∷ ks) ps n e f = absurd (omega arith)
-line-of (c ∷ ns) [] ps n e f = absurd (omega arith)
-line-of (c ∷ ns) (k ∷ ks) [] n e f = absurd (omega arith)
-line-of (c ∷ ns) (k ∷ ks) (p ∷ ps) zero e f = (refl, refl, refl)
-line-of (c ∷ ns) (k ∷ ks) (p ∷ ps) (suc n) e f = line-of ns ks ps n (omega arith) (omega arith)
 
 pub ten-columns : (n : ℕ) → relation ten n .columns ≡ columnsOf (pos n)
 unfolding relation columnsOf

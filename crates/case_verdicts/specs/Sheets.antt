@@ -3,7 +3,7 @@ use mathlib.Core.Bool.{Bool, true, false}
 use mathlib.Core.List.{List, map}
 use Prim.Native.Nat.{ℕ}
 use Rattle.sheet_format.specs.Limits.{constant-end}
-pub use Rattle.sheet_format.specs.Table.{tableBy, ten}
+pub use Rattle.sheet_format.specs.Table.{ten}
 use Rattle.sheet_format.specs.Line.{Line}
 use Rattle.sheet_format.specs.Cause.{Kind, question, saved, view, atom, row, other}
 use Rattle.query_meaning.specs.Blocks.{View, blocks, nth}

@@ -9,3 +9,4 @@ pub mod KindLaws
 pub mod WordLines
 pub mod Slices
 pub mod Returned
+pub mod TableLaws
