@@ -31,15 +31,18 @@ pub const CONSTANT_END: i32 = 10_000_000;
 
 pub const VARIABLES: i32 = 12;
 
+// The library's own relations.
+pub const OWN_RELATIONS: usize = 10;
+
 // The relations' columns, from relation 1 on: Rower, Strap, Worn, Sig, Beat, Noise, Pulse, Coach, Seat, Pause.
-pub const COLUMNS: [usize; 10] = [2, 1, 3, 2, 2, 2, 3, 2, 4, 1];
+pub const COLUMNS: [usize; OWN_RELATIONS] = [2, 1, 3, 2, 2, 2, 3, 2, 4, 1];
 
 // The relations' parents: in a log that counts, a relation's parent has each of its rows. Beats and noise are signals; 0 is no parent.
-pub const PARENTS: [usize; 10] = [0, 0, 0, 0, 4, 4, 0, 0, 0, 0];
+pub const PARENTS: [usize; OWN_RELATIONS] = [0, 0, 0, 0, 4, 4, 0, 0, 0, 0];
 
 // The relations' keys: in a log that counts, rows alike in the first so many columns are alike in all. A strap has one rower in a session and one rate at a
 // tick; 0 is no key.
-pub const KEYS: [usize; 10] = [0, 0, 2, 0, 0, 0, 2, 0, 0, 0];
+pub const KEYS: [usize; OWN_RELATIONS] = [0, 0, 2, 0, 0, 0, 2, 0, 0, 0];
 
 // The most atoms of the question or a list, and of a view; the most lists; the most views; the most rows, of all views together.
 pub const MOST_ATOMS: usize = 6;

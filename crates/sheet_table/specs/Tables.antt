@@ -6,8 +6,8 @@ use lib.Dec.{eqb, ltb, leb}
 use lib.IntN.{ℤ, pos, negsuc}
 use lib.ListN.{length, getD, drop}
 use Rattle.sheet_format.specs.Limits.{most-relations, most-columns, table-fields}
-use Rattle.sheet_format.specs.Table.{Relation, Table, unknown, relation, ten}
-use Rattle.sheet_format.specs.Line.{Line, all, null, natural, byteLines, bytesOf}
+use Rattle.sheet_format.specs.Table.{Relation, Table, unknown, relation}
+use Rattle.sheet_format.specs.Line.{Line, all, null, natural, byteLines}
 use Rattle.sheet_format.specs.Cause.{refusal, none}
 use Rattle.sheet_format.specs.Sheet.{Returned, refusedBy, doneWith}
 use Rattle.sheet_format.specs.declared.Refusal.{Refusal}
@@ -102,13 +102,3 @@ lentAfter r new old = cond (eqb (r .number) 0) new old
 
 unfoldable pub readNumbers : List ℕ → List ℕ → List ℕ
 readNumbers s out = lentAfter (tableRefusal s) (tableNumbers (tableOf s)) out
-
--- ---- the library's own table
-
--- the lines of a table, from number n on
-abbrev pub linesOf : ℕ → Table → List Line
-linesOf n [] = []
-linesOf n (r ∷ t) = (pos n ∷ pos (r .columns) ∷ pos (r .key) ∷ pos (r .parent) ∷ []) ∷ linesOf (n + 1) t
-
-unfoldable pub ownBytes : List ℕ
-ownBytes = bytesOf (linesOf 1 ten)

@@ -1,0 +1,36 @@
+-- The library's own table is not refused, and means the ten relations.
+use mathlib.Core.Path.{_≡_, refl, ap}
+use mathlib.Core.Bool.{true, _&&_}
+use mathlib.Core.List.{List, [], _∷_, map}
+use lib.Dec.{leb}
+use lib.ListN.{length}
+use borrow.Author.Tests.{leb-true}
+use Rattle.sheet_format.specs.Limits.{most-fields}
+use Rattle.sheet_format.specs.Table.{relation, ten}
+use Rattle.sheet_format.specs.Field.{fits}
+use Rattle.sheet_format.specs.Line.{Line, all, byteLines}
+use Rattle.sheet_format.specs.Cause.{none}
+use Rattle.sheet_format.proofs.Lists.{both}
+use Rattle.sheet_format.proofs.Good.{Goods}
+use Rattle.sheet_format.proofs.LineLaws.{bytes-back}
+use Rattle.sheet_table.specs.Tables.{relationIn, lineRight, linesRefusal, tableRefusal, tableOf}
+use Rattle.sheet_own_table.specs.Own.{ownLines, ownBytes}
+
+goods-by : (ls : List Line) → all (λ l. leb (length l) most-fields && all fits l) ls ≡ true → Goods ls
+goods-by [] e = tt
+goods-by (l ∷ ls) e =
+    let (a, b) = both (leb (length l) most-fields && all fits l) (all (λ l. leb (length l) most-fields && all fits l) ls) e in
+    let (x, y) = both (leb (length l) most-fields) (all fits l) a in
+    (record { few = leb-true (length l) most-fields x; fitting = y }, goods-by ls b)
+
+own-lines : byteLines ownBytes ≡ ownLines
+unfolding ownBytes
+own-lines = bytes-back ownLines (goods-by ownLines refl) refl
+
+pub own-passes : tableRefusal ownBytes ≡ none
+unfolding tableRefusal linesRefusal lineRight relation
+own-passes = rw own-lines
+
+pub own-means : tableOf ownBytes ≡ ten
+unfolding tableOf
+own-means = ap (map relationIn) own-lines

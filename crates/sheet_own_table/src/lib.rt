@@ -1,0 +1,59 @@
+// The library's own table of relations, as bytes.
+use sheet_format::COLUMNS;
+use sheet_format::FIELD_BYTES;
+use sheet_format::KEYS;
+use sheet_format::OWN_RELATIONS;
+use sheet_format::PARENTS;
+use sheet_format::TABLE_FIELDS;
+ghost use mathlib.Core.Path.{_≡_};
+ghost use mathlib.Core.List.{[]};
+ghost use Prim.Native.Nat.{_<_, _≤_};
+ghost use lib.IntN.{pos};
+ghost use lib.ListN.{getD};
+ghost use Rattle.sheet_own_table.specs.Own.{ownLines, ownBytes};
+
+// The bytes of a line up to its end, and with it.
+const LINE_END: usize = TABLE_FIELDS * FIELD_BYTES;
+
+const LINE_BYTES: usize = LINE_END + 1;
+
+pub const OWN_TABLE_BYTES: usize = OWN_RELATIONS * LINE_BYTES;
+
+// A field of the line at a place, both from 0.
+fn own_field(n: usize, j: usize) -> usize
+    requires { ⌜ (n < 10) × (j < 4) ⌝ }
+    ensures { λ r. ⌜ (pos r ≡ getD (getD ownLines n []) j (pos 0)) × (r ≤ 10) ⌝ }
+{
+    match j {
+        0 => n + 1,
+        1 => COLUMNS[n],
+        2 => KEYS[n],
+        _ => PARENTS[n],
+    }
+}
+
+// The byte at a place.
+fn own_byte(i: usize) -> u8
+    requires { ⌜ i < 330 ⌝ }
+    ensures { λ r. ⌜ r ≡ getD ownBytes i 0 ⌝ }
+{
+    let k = i % LINE_BYTES;
+    if k == LINE_END {
+        return 10;
+    }
+    let b = sheet_fields::field_bytes(own_field(i / LINE_BYTES, k / FIELD_BYTES) as i32);
+    b[k % FIELD_BYTES]
+}
+
+// The own table's bytes.
+pub fn own_table() -> [u8; OWN_TABLE_BYTES]
+    ensures { λ r. ⌜ r ≡ ownBytes ⌝ }
+{
+    let mut bytes = [0u8; OWN_TABLE_BYTES];
+    let mut i = 0;
+    while i < OWN_TABLE_BYTES {
+        bytes[i] = own_byte(i);
+        i += 1;
+    }
+    bytes
+}
