@@ -1,5 +1,5 @@
 /* Figdawesa from C: sheets read and written, their lines, evaluation, the verdict on cover, the verdicts of a page's whole set, and the
- * page to print for it.
+ * page to print for it; sheets as texts, and what comes of them in words.
  *
  * Link target/staticlib/libfigdawesa.a, which `rt staticlib figdawesa` writes, for x86-64 Linux. Of the C library it needs memcpy,
  * memmove and memset, and nothing else. README.md says what a sheet is, docs/PROMISES.md what each call promises.
@@ -14,7 +14,7 @@
  *   - A refusal changes nothing. Otherwise the results stand at the front of `out`, and what follows them is as it was. (Of a set each sheet
  *     has a stretch of `out`, of which this holds.)
  *   - Nothing is kept between calls, and nothing is allocated. Threads can call at the same time, each with an `out` (and `page`) of its own.
- *   - Stack: give the thread that calls figdawesa_judge, figdawesa_judge_set or figdawesa_judge_day 256 KiB or more. No proof speaks of the stack; it is measured.
+ *   - Stack: give the thread that calls figdawesa_judge, figdawesa_judge_set, figdawesa_judge_day or figdawesa_answer 256 KiB or more. No proof speaks of the stack; it is measured.
  */
 #ifndef FIGDAWESA_H
 #define FIGDAWESA_H
@@ -34,6 +34,7 @@ extern "C" {
 #define FIGDAWESA_JUDGE_WORDS 1260 /* the words that figdawesa_judge wants, and figdawesa_judge_set for each sheet */
 #define FIGDAWESA_SHEETS 16        /* sheets of a set, at most */
 #define FIGDAWESA_PAGE_BYTES 569   /* the bytes that figdawesa_judge_day wants for the page */
+#define FIGDAWESA_TEXT_BYTES 16384 /* the bytes that figdawesa_text_of and figdawesa_answer want */
 #define FIGDAWESA_FACTS 256        /* facts given to figdawesa_evaluate, at most */
 #define FIGDAWESA_LINE_WORDS 7     /* a line in the number form: how many fields it has, and the fields, filled up with 0 to six */
 #define FIGDAWESA_FACT_WORDS 5     /* a fact: its relation and its values, filled up with 0 to four */
@@ -120,6 +121,18 @@ struct figdawesa_day_outcome {
     size_t bytes;
 };
 
+/* What became of a text. Its sheet has `bytes` bytes, and everything else is 0. Or it was not understood: `expected` says by one of README's numbers what was
+ * expected in line `text_line` of the text, and `relation` in which relation, 0 where none is meant. Or its sheet is refused: the number and the line of the sheet, and
+ * the line of the text in which that one begins, 0 where none is named. */
+struct figdawesa_text_outcome {
+    size_t expected;
+    size_t relation;
+    size_t number;
+    size_t line;
+    size_t text_line;
+    size_t bytes;
+};
+
 /* ---- The calls */
 
 /* A sheet's bytes to its number form: `count` lines of seven words at the front of `out`. At most 749 words are written.
@@ -164,6 +177,17 @@ struct figdawesa_set_outcome figdawesa_judge_set(const uint8_t *bytes, size_t by
  * Refused by 14, and then by 13 where out_words is below 1,260 for each sheet or page_bytes below 569, however many sheets there are. */
 struct figdawesa_day_outcome figdawesa_judge_day(const uint8_t *bytes, size_t byte_count, const size_t *ends, size_t sheets, int32_t *out,
                                                  size_t out_words, uint8_t *page, size_t page_bytes);
+
+/* The sheet of a text: `bytes` bytes at the front of `out`. At most 5,243 bytes are written, and none where there is no sheet. What is expected is told first; a
+ * sheet is refused as figdawesa_write refuses it, by 13 where out_bytes is below 5,243. */
+struct figdawesa_text_outcome figdawesa_sheet_of(const uint8_t *text, size_t text_bytes, uint8_t *out, size_t out_bytes);
+
+/* The text of a sheet: `count` bytes at the front of `out`. Refused by 1 to 9, and then by 13 where out_bytes is below 16,384. */
+struct figdawesa_ended figdawesa_text_of(const uint8_t *sheet, size_t sheet_bytes, uint8_t *out, size_t out_bytes);
+
+/* What comes of a sheet or a text, in words: its verdict, with the missing answer and the case, or why there is none. How many bytes stand at the front of `out`;
+ * 0, and nothing is written, where out_bytes is below 16,384. */
+size_t figdawesa_answer(const uint8_t *given, size_t given_bytes, uint8_t *out, size_t out_bytes);
 
 #ifdef __cplusplus
 }

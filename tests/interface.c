@@ -334,6 +334,41 @@ static void judging_days(void)
     CHECK(r.bytes == 0 && r.set.number == FIGDAWESA_NO_ROOM && empty_from(&r.set, 0, FIGDAWESA_NO_ROOM));
 }
 
+static void texts(void)
+{
+    static const char text[] = "q(s,t): Sig(s,t)\nl(s,t): Beat(s,t)\nv(s,t): Sig(s,t) = (7,1); (7,2)\n";
+    static const char descending[] = "q(s,t): Sig(s,t)\nl(s,t): Beat(s,t)\nv(s,t): Sig(s,t) = (7,2); (7,1)\n";
+    static const char columns[] = "q(s,t): Sig(s,t)\nl(s,t): Beat(s)\n";
+    static const char said[] = "not covered: (7,1) is missing. Log: Sig(7,1), Sig(7,2)\n";
+    static uint8_t room[FIGDAWESA_TEXT_BYTES + 1];
+    struct figdawesa_text_outcome r;
+    mark();
+    r = figdawesa_sheet_of((const uint8_t *)text, strlen(text), lent_bytes, FIGDAWESA_WRITE_BYTES);
+    CHECK(r.expected == 0 && r.relation == 0 && r.number == 0 && r.line == 0 && r.text_line == 0 && r.bytes == strlen(SHEET));
+    CHECK(memcmp(lent_bytes, SHEET, strlen(SHEET)) == 0 && bytes_kept(strlen(SHEET)));
+    mark();
+    r = figdawesa_sheet_of((const uint8_t *)text, strlen(text), lent_bytes, FIGDAWESA_WRITE_BYTES - 1);
+    CHECK(r.expected == 0 && r.number == FIGDAWESA_NO_ROOM && r.line == 0 && r.text_line == 0 && r.bytes == 0 && bytes_kept(0));
+    r = figdawesa_sheet_of((const uint8_t *)descending, strlen(descending), lent_bytes, ROOM);
+    CHECK(r.expected == 0 && r.number == FIGDAWESA_NOT_ABOVE && r.line == 8 && r.text_line == 3 && r.bytes == 0 && bytes_kept(0));
+    r = figdawesa_sheet_of((const uint8_t *)columns, strlen(columns), lent_bytes, ROOM);
+    CHECK(r.expected != 0 && r.relation == 5 && r.number == 0 && r.line == 0 && r.text_line == 2 && r.bytes == 0 && bytes_kept(0));
+    memset(room, MARK, sizeof room);
+    struct figdawesa_ended e = figdawesa_text_of((const uint8_t *)SHEET, strlen(SHEET), room, FIGDAWESA_TEXT_BYTES - 1);
+    CHECK(e.number == FIGDAWESA_NO_ROOM && e.line == 0 && e.count == 0 && room[0] == MARK);
+    e = figdawesa_text_of((const uint8_t *)SHEET, strlen(SHEET), room, FIGDAWESA_TEXT_BYTES);
+    CHECK(e.number == FIGDAWESA_DONE && e.line == 0 && e.count > 0 && room[e.count] == MARK && room[FIGDAWESA_TEXT_BYTES] == MARK);
+    r = figdawesa_sheet_of(room, e.count, lent_bytes, ROOM);
+    CHECK(r.bytes == strlen(SHEET) && memcmp(lent_bytes, SHEET, strlen(SHEET)) == 0);
+    memset(room, MARK, sizeof room);
+    CHECK(figdawesa_answer((const uint8_t *)text, strlen(text), room, FIGDAWESA_TEXT_BYTES - 1) == 0 && room[0] == MARK);
+    CHECK(figdawesa_answer((const uint8_t *)text, strlen(text), room, FIGDAWESA_TEXT_BYTES) == strlen(said));
+    CHECK(memcmp(room, said, strlen(said)) == 0 && room[strlen(said)] == MARK);
+    memset(room, MARK, sizeof room);
+    CHECK(figdawesa_answer((const uint8_t *)SHEET, strlen(SHEET), room, FIGDAWESA_TEXT_BYTES) == strlen(said) && memcmp(room, said, strlen(said)) == 0);
+    CHECK(figdawesa_answer(NULL, 0, NULL, 0) == 0);
+}
+
 int main(void)
 {
     reading();
@@ -344,6 +379,7 @@ int main(void)
     serials();
     judging_sets();
     judging_days();
+    texts();
     printf("C: %d checks, %d failed\n", checks, failures);
     return failures == 0 ? EXIT_SUCCESS : EXIT_FAILURE;
 }

@@ -1,5 +1,5 @@
 //! Whether saved lists cover a question, judged from the rows of lists alone, for one sheet or a page's whole set, with the page to print
-//! for it; sheets read and written, their lines, and evaluation.
+//! for it; sheets read and written, their lines, and evaluation; sheets as texts, and what comes of them in words.
 //!
 //! Each function is a call of the proved library, over slices that the caller lends. `docs/PROMISES.md` says what is proved of it. Every
 //! input is answered: what cannot be taken is [`Refused`], and then nothing lent is changed. Otherwise the results stand at the front
@@ -21,6 +21,8 @@ pub const JUDGE_WORDS: usize = 1260;
 pub const SHEETS: usize = 16;
 /// The bytes that [`judge_day`] wants for the page.
 pub const PAGE_BYTES: usize = 569;
+/// The bytes that [`text_of`] and [`answer`] want.
+pub const TEXT_BYTES: usize = 16384;
 /// The facts given to [`evaluate`], at most.
 pub const FACTS: usize = 256;
 /// A line in the number form: how many fields it has, and the fields, filled up with 0 to six.
@@ -82,7 +84,20 @@ mod c {
         pub bytes: usize,
     }
 
+    #[repr(C)]
+    pub struct TextOutcome {
+        pub expected: usize,
+        pub relation: usize,
+        pub number: usize,
+        pub line: usize,
+        pub text_line: usize,
+        pub bytes: usize,
+    }
+
     extern "C" {
+        pub fn figdawesa_sheet_of(text: *const u8, text_bytes: usize, out: *mut u8, out_bytes: usize) -> TextOutcome;
+        pub fn figdawesa_text_of(sheet: *const u8, sheet_bytes: usize, out: *mut u8, out_bytes: usize) -> Ended;
+        pub fn figdawesa_answer(given: *const u8, given_bytes: usize, out: *mut u8, out_bytes: usize) -> usize;
         pub fn figdawesa_read(sheet: *const u8, sheet_bytes: usize, out: *mut i32, out_words: usize) -> Ended;
         pub fn figdawesa_write(words: *const i32, word_count: usize, out: *mut u8, out_bytes: usize) -> Ended;
         pub fn figdawesa_line(sheet: *const u8, sheet_bytes: usize, number: usize) -> Stretch;
@@ -358,4 +373,42 @@ pub fn judge_day<'a>(bytes: &[u8], ends: &[usize], out: &'a mut [i32], page: &'a
         )
     };
     Ok((set_judged(day.set, out)?, &page[..day.bytes]))
+}
+
+/// Why a text has no sheet.
+#[derive(Clone, Copy, Debug, PartialEq, Eq, Hash)]
+pub enum NoSheet {
+    /// In this line of the text something else was expected, by one of the numbers that the README lists; in a relation, 0 where none is meant.
+    Expected { line: usize, what: usize, relation: usize },
+    /// Its sheet is refused; the line of the text in which the refused line begins, 0 where none is named.
+    Refused { refused: Refused, line: usize },
+}
+
+/// A text's sheet.
+///
+/// What is expected comes first; a sheet is refused as [`write`] refuses it, by 13 where fewer than [`WRITE_BYTES`] are lent.
+pub fn sheet_of<'a>(text: &[u8], out: &'a mut [u8]) -> Result<&'a [u8], NoSheet> {
+    // SAFETY: both pointers are valid for their lengths, and the lent one is not shared.
+    let made = unsafe { c::figdawesa_sheet_of(text.as_ptr(), text.len(), out.as_mut_ptr(), out.len()) };
+    match (made.expected, made.number) {
+        (0, 0) => Ok(&out[..made.bytes]),
+        (0, number) => Err(NoSheet::Refused { refused: refused(number, made.line), line: made.text_line }),
+        (what, _) => Err(NoSheet::Expected { line: made.text_line, what, relation: made.relation }),
+    }
+}
+
+/// A sheet's text.
+///
+/// Refused by 1 to 9, and then by 13 where fewer than [`TEXT_BYTES`] are lent.
+pub fn text_of<'a>(sheet: &[u8], out: &'a mut [u8]) -> Result<&'a [u8], Refused> {
+    // SAFETY: both pointers are valid for their lengths, and the lent one is not shared.
+    let ended = unsafe { c::figdawesa_text_of(sheet.as_ptr(), sheet.len(), out.as_mut_ptr(), out.len()) };
+    Ok(&out[..counted(ended)?])
+}
+
+/// What comes of a sheet or a text, in words; nothing where fewer than [`TEXT_BYTES`] are lent.
+pub fn answer<'a>(given: &[u8], out: &'a mut [u8]) -> &'a [u8] {
+    // SAFETY: both pointers are valid for their lengths, and the lent one is not shared.
+    let bytes = unsafe { c::figdawesa_answer(given.as_ptr(), given.len(), out.as_mut_ptr(), out.len()) };
+    &out[..bytes]
 }

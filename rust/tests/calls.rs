@@ -224,6 +224,29 @@ fn judges_days() {
 }
 
 #[test]
+fn texts() {
+    let text = "q(s,t): Sig(s,t)\nl(s,t): Beat(s,t)\nv(s,t): Sig(s,t) = (7,1); (7,2)\n";
+    let mut bytes = [b'~'; WRITE_BYTES];
+    assert_eq!(sheet_of(text.as_bytes(), &mut bytes), Ok(&whole()[..]));
+    assert!(bytes[whole().len()..].iter().all(|&byte| byte == b'~'));
+    let no_room = Refused { cause: Cause::NoRoom, line: 0 };
+    assert_eq!(sheet_of(text.as_bytes(), &mut bytes[1..]), Err(NoSheet::Refused { refused: no_room, line: 0 }));
+    let descending = text.replace("(7,1); (7,2)", "(7,2); (7,1)");
+    let not_above = Refused { cause: Cause::NotAbove, line: 8 };
+    assert_eq!(sheet_of(descending.as_bytes(), &mut bytes), Err(NoSheet::Refused { refused: not_above, line: 3 }));
+    assert!(matches!(sheet_of(b"q(s,t): Sig(s)\n", &mut bytes), Err(NoSheet::Expected { line: 1, relation: 4, .. })));
+    let mut room = [b'~'; TEXT_BYTES + 1];
+    let back = text_of(&whole(), &mut room).unwrap().to_vec();
+    let mut again = [0; WRITE_BYTES];
+    assert_eq!(sheet_of(&back, &mut again), Ok(&whole()[..]));
+    assert_eq!(text_of(&whole(), &mut room[2..]), refused(Cause::NoRoom, 0));
+    let said = "not covered: (7,1) is missing. Log: Sig(7,1), Sig(7,2)\n";
+    assert_eq!(answer(text.as_bytes(), &mut room), said.as_bytes());
+    assert_eq!(answer(&whole(), &mut room), said.as_bytes());
+    assert_eq!(answer(text.as_bytes(), &mut room[2..]), b"");
+}
+
+#[test]
 fn causes_have_their_numbers() {
     for (at, cause) in Cause::ALL.iter().enumerate() {
         assert_eq!(cause.number(), at + 1);

@@ -9,6 +9,8 @@ use c_results::part;
 use c_results::passed;
 use c_results::passed_day;
 use c_results::passed_set;
+use c_texts::TextOutcome;
+use c_texts::passed_text;
 ghost use mathlib.Core.Path.{_≡_};
 ghost use Prim.Native.Nat.{_+_, _≤_};
 ghost use lib.ListN.{length, take, drop};
@@ -21,6 +23,11 @@ ghost use Rattle.judge_result.specs.Judged.{Judged};
 ghost use Rattle.judge_ends.specs.Sets.{SetJudged};
 ghost use Rattle.judge_day.specs.Days.{DayJudged};
 ghost use Rattle.c_results.specs.Passed.{returnedOf, judgementOf, setJudgementOf, dayJudgementOf};
+ghost use Rattle.text_to_sheet.specs.declared.Made.{Made};
+ghost use Rattle.text_to_sheet.specs.Texts.{MadeAs};
+ghost use Rattle.text_from_sheet.specs.Shown.{textEnding, textLent};
+ghost use Rattle.text_answer.specs.Answered.{Answered};
+ghost use Rattle.c_texts.specs.Passed.{textOutcomeOf};
 
 // A sheet's bytes to its number form in the lent words.
 #[no_mangle]
@@ -88,4 +95,28 @@ pub extern "C" fn figdawesa_judge_day(
     ensures { λ r. ⌜ DayJudged (now (bytes .entry)) (now (ends .entry)) (now (out .entry)) (now (out .exit)) (now (page .entry)) (now (page .exit)) (dayJudgementOf r) ⌝ }
 {
     passed_day(judge_day::judge_day(bytes, ends, out, page))
+}
+
+// The sheet of a text in the lent bytes.
+#[no_mangle]
+pub extern "C" fn figdawesa_sheet_of(text: &[u8], out: &mut [u8]) -> TextOutcome
+    ensures { λ r. ⌜ ((m : Made) × (r ≡ textOutcomeOf m) × MadeAs (now (text .entry)) (now (out .entry)) (now (out .exit)) m) ⌝ }
+{
+    passed_text(text_to_sheet::sheet_of(text, out))
+}
+
+// The text of a sheet in the lent bytes.
+#[no_mangle]
+pub extern "C" fn figdawesa_text_of(sheet: &[u8], out: &mut [u8]) -> Ended
+    ensures { λ r. ⌜ (returnedOf r ≡ returned (textEnding (now (sheet .entry)) (length (now (out .entry))))) × (now (out .exit) ≡ textLent (now (sheet .entry)) (now (out .entry))) ⌝ }
+{
+    in_numbers(text_from_sheet::text_of(sheet, out))
+}
+
+// What comes of a sheet or a text, in words in the lent bytes: how many bytes they have.
+#[no_mangle]
+pub extern "C" fn figdawesa_answer(given: &[u8], out: &mut [u8]) -> usize
+    ensures { λ r. ⌜ Answered (now (given .entry)) (now (out .entry)) (now (out .exit)) r ⌝ }
+{
+    text_answer::answer(given, out)
 }
