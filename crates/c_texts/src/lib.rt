@@ -11,7 +11,7 @@ pub struct TextOutcome {
     pub relation: usize,
     pub number: usize,
     pub line: usize,
-    pub text_line: usize,
+    pub begun: usize,
     pub bytes: usize,
 }
 
@@ -25,23 +25,23 @@ pub fn passed_text(m: Made) -> TextOutcome
             relation: 0,
             number: 0,
             line: 0,
-            text_line: 0,
+            begun: 0,
             bytes,
         },
-        Made::Expected(text_line, expected, relation) => TextOutcome {
+        Made::Expected(begun, expected, relation) => TextOutcome {
             expected,
             relation,
             number: 0,
             line: 0,
-            text_line,
+            begun,
             bytes: 0,
         },
-        Made::Refused(number, line, text_line) => TextOutcome {
+        Made::Refused(number, line, begun) => TextOutcome {
             expected: 0,
             relation: 0,
             number,
             line,
-            text_line,
+            begun,
             bytes: 0,
         },
     }
