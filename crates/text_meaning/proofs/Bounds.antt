@@ -37,6 +37,7 @@ beyond-few (a ∷ s) = by (eqb a 82) (ltb 10 n) (ltb n field-end) refl
   where
     n : ℕ
     n = numberFrom 0 s
+
     by : (t u v : Bool) → ltb (numberFrom 0 s) field-end ≡ v → Few (cond (t && (u && v)) (numberFrom 0 s) 0)
     by true true true e = ltb-true (numberFrom 0 s) field-end e
     by true true false e = omega arith

@@ -35,31 +35,31 @@ held-none : (text : List ℕ) (words : List ℤ) (begun names : List ℕ) → wo
     → Held text words begun names (record { line = 1; names = 0; lines = 0; fields = 0 }) unread
 unfolding wordsOf
 held-none text words begun names w b l = record {
-    line = refl;
-    noted = record { size = l; few = omega arith; begin = record { each = λ i h. absurd (omega arith) }; are = refl };
-    kept = record {
-      room = record { words-size = ap length w ∙ length-replicate most-words (pos 0); begun-size = ap length b ∙ length-replicate {A = ℕ} most-lines 0 };
-      count = omega arith;
-      same = refl;
-      fit = tt;
-      last = refl;
-      stored = λ h. record { form = w; places = b };
-    };
-  }
+  line = refl;
+  noted = record { size = l; few = omega arith; begin = record { each = λ i h. absurd (omega arith) }; are = refl };
+  kept = record {
+    room = record { words-size = ap length w ∙ length-replicate most-words (pos 0); begun-size = ap length b ∙ length-replicate {A = ℕ} most-lines 0 };
+    count = omega arith;
+    same = refl;
+    fit = tt;
+    last = refl;
+    stored = λ h. record { form = w; places = b };
+  };
+}
 
 pub going-start : {text : List ℕ} {words : List ℤ} {begun names : List ℕ} {at : ℕ} → words ≡ replicate most-words (pos 0) → begun ≡ replicate most-lines 0 → length names ≡ 12 → Skipped text 0 at
     → Going text words begun names (unread .control) (record { line = 1; names = 0; lines = 0; fields = 0 }) at
 unfolding readingOf
 going-start {text} {words} {begun} {names} {at} w b l s = record {
-    reading = unread;
-    control = refl;
-    held = held-none text words begun names w b l;
-    rest = ap (λ ts. run unread (ts ++ ([] ∷ []))) (sym (s .tokens));
-    small = omega arith;
-    line = omega arith;
-    inside = s .inside;
-    begins = s .begins;
-  }
+  reading = unread;
+  control = refl;
+  held = held-none text words begun names w b l;
+  rest = ap (λ ts. run unread (ts ++ ([] ∷ []))) (sym (s .tokens));
+  small = omega arith;
+  line = omega arith;
+  inside = s .inside;
+  begins = s .begins;
+}
 
 -- ---- one token
 
@@ -126,6 +126,7 @@ module _ {text : List ℕ} {words : List ℤ} {begun names : List ℕ} {c : Cont
     where
       none : take (at - at) (drop at text) ≡ []
       none = let z : at - at ≡ 0 = omega arith in rw z
+
       both : (b : Bool) (p : Reading) → cond b p p ≡ p
       both true p = refl
       both false p = refl

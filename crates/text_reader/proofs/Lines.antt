@@ -111,6 +111,7 @@ begin-kept {ws} {new} {bs} {to} {n} {f} {r} {ls} {ss} {k} {line} h b = ⊎-elim 
           last = refl;
           stored = λ m. rw (w, g) (begin-stored ws bs ls ss (h .fit) n i l (h .same) k line (h .stored (omega arith)));
         }
+
     full : most-lines ≤ n → Kept new to r 1 ((pos k ∷ []) ∷ ls) (line ∷ ss)
     full l =
         let t = le-leb most-lines n l in
@@ -156,8 +157,10 @@ module _ {ws new : List ℤ} {bs : List ℕ} {n f r : ℕ} {ss : List ℕ} {z : 
     where
       c : n ≡ min (most-lines + 1) (suc (length ls))
       c = h .count
+
       some : eqb n 0 ≡ false
       some = ne-eqb n 0 (λ e. let d = c in absurd (omega arith))
+
       full : 6 ≤ f → Kept new bs n r (take 6 (l ++ (z ∷ [])) ∷ ls) ss
       full g =
           let a = h .fit .1 in
@@ -166,30 +169,37 @@ module _ {ws new : List ℤ} {bs : List ℕ} {n f r : ℕ} {ss : List ℕ} {z : 
           let w : new ≡ ws = rw (some, le-leb 6 f g) at (p .words) in
           let e : r ≡ f = rw (some, le-leb 6 f g) at (p .count) in
           rw (t, w, e) h
+
       more : f < 6 → Kept new bs n r (take 6 (l ++ (z ∷ [])) ∷ ls) ss
       more g = ⊎-elim far near (less? most-lines n)
         where
           i : f ≡ length l
           i = h .last
+
           t : take 6 (l ++ (z ∷ [])) ≡ l ++ (z ∷ [])
           t = let i′ = i in take-all 6 (l ++ (z ∷ [])) (rw (length-append l (z ∷ [])) (omega arith))
+
           e : r ≡ f + 1
           e = rw (some, lt-leb 6 f g) at (p .count)
+
           k : length (l ++ (z ∷ [])) ≡ f + 1
           k = let i′ = i in length-append l (z ∷ []) ∙ omega arith
+
           kept : length new ≡ most-words → (length (l ∷ ls) ≤ most-lines → Stored new bs ((l ++ (z ∷ [])) ∷ ls) ss) → Kept new bs n r (take 6 (l ++ (z ∷ [])) ∷ ls) ss
           kept w s = rw t (record {
-              room = record { words-size = w; begun-size = h .room .begun-size };
-              count = c;
-              same = h .same;
-              fit = (let k′ = k in omega arith, let k′ = k in omega arith, h .fit .2);
-              last = e ∙ sym k;
-              stored = s;
-            })
+            room = record { words-size = w; begun-size = h .room .begun-size };
+            count = c;
+            same = h .same;
+            fit = (let k′ = k in omega arith, let k′ = k in omega arith, h .fit .2);
+            last = e ∙ sym k;
+            stored = s;
+          })
+
           far : most-lines < n → Kept new bs n r (take 6 (l ++ (z ∷ [])) ∷ ls) ss
           far x =
               let w : new ≡ ws = rw (some, lt-leb 6 f g, lt-ltb most-lines n x) at (p .words) in
               kept (ap length w ∙ h .room .words-size) (λ m. let d = c in absurd (omega arith))
+
           near : n ≤ most-lines → Kept new bs n r (take 6 (l ++ (z ∷ [])) ∷ ls) ss
           near x =
               let d = c in

@@ -81,6 +81,7 @@ module _ (text names : List ℕ) (count at : ℕ) (size : length names ≡ 12) (
     where
       here : (i : ℕ) → i ≡ count → Begins text (getD (set names count at) i 0)
       here i e = let s = size in let r = room in rw (e, getD-set-same names count at 0 (omega arith)) a
+
       before : (i : ℕ) → i < count → Begins text (getD (set names count at) i 0)
       before i l = rw (getD-set-other names count i at 0 (λ e. omega arith)) (b .each i l)
 
@@ -91,21 +92,26 @@ note-held {text} {from} {to} {count} {at} {r} {w} {ns} h b a is = ⊎-elim old n
   where
     long : length ns ≡ count
     long = let s = h .size in let f = h .few in ap length (h .are) ∙ names-length text from count (omega arith)
+
     same : to ≡ from → r ≡ count → Noted text to r ns
     same e f = rw (e, f) h
+
     old : placeIn w ns < count → Noted text to r (cond (ltb (placeIn w ns) (length ns)) ns (cond (leb 12 (length ns)) ns (ns ++ (w ∷ []))))
     old l =
         let t = lt-ltb (placeIn w ns) count l in
         rw (long, t) (same (rw t at (b .names)) (rw t at (b .count-after)))
+
     new : count ≤ placeIn w ns → Noted text to r (cond (ltb (placeIn w ns) (length ns)) ns (cond (leb 12 (length ns)) ns (ns ++ (w ∷ []))))
     new l = ⊎-elim room full (less? count 12)
       where
         t : ltb (placeIn w ns) count ≡ false
         t = le-ltb (placeIn w ns) count l
+
         full : 12 ≤ count → Noted text to r (cond (ltb (placeIn w ns) (length ns)) ns (cond (leb 12 (length ns)) ns (ns ++ (w ∷ []))))
         full k =
             let u = le-leb 12 count k in
             rw (long, t, u) (same (rw (t, u) at (b .names)) (rw (t, u) at (b .count-after)))
+
         room : count < 12 → Noted text to r (cond (ltb (placeIn w ns) (length ns)) ns (cond (leb 12 (length ns)) ns (ns ++ (w ∷ []))))
         room k =
             let u = lt-leb 12 count k in

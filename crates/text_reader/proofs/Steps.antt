@@ -29,23 +29,23 @@ module _ (c : Control) (n : Counts) where
   module _ {old new : List ℤ} {from to : List ℕ} {r : ℕ} (e : c .begins ≡ true) (b : BegunLine old new from to (n .lines) (c .kind) (n .line) r) where
     pub begun-head : c .kind < 4 → BegunBy c old new from to n (record { line = n .line; names = 0; lines = r; fields = 1 })
     begun-head k = record {
-        held = λ h. record {
-          line = h .line;
-          noted = rw (e, lt-ltb (c .kind) 4 k) (record { size = h .noted .size; few = omega arith; begin = record { each = λ i l. absurd (omega arith) }; are = refl });
-          kept = rw (e, ← h .line) (begin-kept (h .kept) b);
-        };
-        line = refl;
-      }
+      held = λ h. record {
+        line = h .line;
+        noted = rw (e, lt-ltb (c .kind) 4 k) (record { size = h .noted .size; few = omega arith; begin = record { each = λ i l. absurd (omega arith) }; are = refl });
+        kept = rw (e, ← h .line) (begin-kept (h .kept) b);
+      };
+      line = refl;
+    }
 
     pub begun-other : 4 ≤ c .kind → BegunBy c old new from to n (record { line = n .line; names = n .names; lines = r; fields = 1 })
     begun-other k = record {
-        held = λ h. record {
-          line = h .line;
-          noted = rw (e, le-ltb (c .kind) 4 k) (h .noted);
-          kept = rw (e, ← h .line) (begin-kept (h .kept) b);
-        };
-        line = refl;
-      }
+      held = λ h. record {
+        line = h .line;
+        noted = rw (e, le-ltb (c .kind) 4 k) (h .noted);
+        kept = rw (e, ← h .line) (begin-kept (h .kept) b);
+      };
+      line = refl;
+    }
 
 -- ---- a field is put
 
@@ -56,23 +56,23 @@ module _ (text : List ℕ) (at e : ℕ) (c : Control) (m : Mark) (n : Counts) wh
   pub put-value : {old new : List ℤ} {from : List ℕ} {r : ℕ} → c .puts ≡ true → (m .kind ≡ 97 → ⊥) → PutField old new (n .lines) (n .fields) (pos (m .value)) r
       → PutBy text at e c m old new from from n (record { line = n .line; names = n .names; lines = n .lines; fields = r })
   put-value f k p = record {
-      held = λ h. record {
-        line = h .line;
-        noted = rw (f, ne-eqb (m .kind) 97 k) (h .noted);
-        kept = rw (f, ne-eqb (m .kind) 97 k) (put-kept p (h .kept));
-      };
-      line = refl;
-    }
+    held = λ h. record {
+      line = h .line;
+      noted = rw (f, ne-eqb (m .kind) 97 k) (h .noted);
+      kept = rw (f, ne-eqb (m .kind) 97 k) (put-kept p (h .kept));
+    };
+    line = refl;
+  }
 
   pub put-variable : {old new : List ℤ} {from to : List ℕ} {r : Counts} → c .puts ≡ true → m .kind ≡ 97 → WordAt text at e → at < e → VariablePut text at e old new from to n r → PutBy text at e c m old new from to n r
   put-variable f k w l v = record {
-      held = λ h. record {
-        line = v .line ∙ h .line;
-        noted = rw (f, eq-eqb (m .kind) 97 k) (note-held (h .noted) (rw (← h .noted .are) at (v .noted)) (w .begins l) (w .is l));
-        kept = rw (f, eq-eqb (m .kind) 97 k, v .lines) (put-kept (rw (← h .noted .are) at (v .field)) (h .kept));
-      };
-      line = v .line;
-    }
+    held = λ h. record {
+      line = v .line ∙ h .line;
+      noted = rw (f, eq-eqb (m .kind) 97 k) (note-held (h .noted) (rw (← h .noted .are) at (v .noted)) (w .begins l) (w .is l));
+      kept = rw (f, eq-eqb (m .kind) 97 k, v .lines) (put-kept (rw (← h .noted .are) at (v .field)) (h .kept));
+    };
+    line = v .line;
+  }
 
 -- ---- a line of the text ends
 
@@ -104,13 +104,14 @@ pub taken : {text : List ℕ} {at e : ℕ} {c control : Control} {m : Mark} {old
     → TakenBy text at e c old new begun begun-after names names-after n (record { control = control; counts = r })
 unfolding read
 taken {text} {at} {e} {c} {control} {m} {old} {mid} {new} {begun} {begun-after} {names} {names-after} {n} {a} {b} {r} mk ct begins puts ends = record {
-    held = λ {p} i h. subst (λ x. Held text new begun-after names-after r (after x (markOf w) w p)) (sym (moved p i)) (subst (λ y. Held text new begun-after names-after r (after control y w p)) mk (ends .held (puts .held (begins .held h))));
-    control = λ p i. moved p i;
-    small = λ h. rw ct (kind-small c m h);
-    line = let l = ends .line in let k = puts .line in let j = begins .line in omega arith;
-  }
+  held = λ {p} i h. subst (λ x. Held text new begun-after names-after r (after x (markOf w) w p)) (sym (moved p i)) (subst (λ y. Held text new begun-after names-after r (after control y w p)) mk (ends .held (puts .held (begins .held h))));
+  control = λ p i. moved p i;
+  small = λ h. rw ct (kind-small c m h);
+  line = let l = ends .line in let k = puts .line in let j = begins .line in omega arith;
+}
   where
     w : List ℕ
     w = take (e - at) (drop at text)
+
     moved : (p : Reading) → p .control ≡ c → step (p .control) (markOf (take (e - at) (drop at text))) ≡ control
     moved p i = ap (λ x. step x (markOf (take (e - at) (drop at text)))) i ∙ ap (step c) (sym mk) ∙ sym ct

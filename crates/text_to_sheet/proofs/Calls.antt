@@ -104,15 +104,15 @@ module _ (t out : List ℕ) (few : length t ≤ most-text) {w : List ℤ} {b : L
 
         pub sheet-made : (n : ℕ) → x ≡ Done n → MadeAs t out new (made.Sheet n)
         sheet-made n d = record {
-            result = fitted (made.Sheet n) (ap (madeBy (readingOf t)) (sym d ∙ ends));
-            lent = bytes ∙ ap (λ z. lentBy z (sheetBytes t) out) d;
-          }
+          result = fitted (made.Sheet n) (ap (madeBy (readingOf t)) (sym d ∙ ends));
+          lent = bytes ∙ ap (λ z. lentBy z (sheetBytes t) out) d;
+        }
 
         pub refused-made : (c l v : ℕ) → x ≡ Refused c l → v ≡ lineIn b l → MadeAs t out new (made.Refused c l v)
         refused-made c l v d i = record {
-            result = fitted (made.Refused c l v) (ap (λ z. made.Refused c l z) (i ∙ line-is l) ∙ ap (madeBy (readingOf t)) (sym d ∙ ends));
-            lent = bytes ∙ ap (λ z. lentBy z (sheetBytes t) out) d;
-          }
+          result = fitted (made.Refused c l v) (ap (λ z. made.Refused c l z) (i ∙ line-is l) ∙ ap (madeBy (readingOf t)) (sym d ∙ ends));
+          lent = bytes ∙ ap (λ z. lentBy z (sheetBytes t) out) d;
+        }
 
 -- ---- a sheet that is made
 

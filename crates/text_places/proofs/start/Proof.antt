@@ -28,7 +28,7 @@ block-head-requires c κs = search needs
 
 returns-3 : tie.Need-returns-3
 unfolding startAt
-returns-3 c = 
+returns-3 c =
     let two = c .before .before .before in
     let a = two .before .before .before .args in
     else _ (ne-eqb _ _ (two .before .if1 .left)) (else _ (ne-eqb _ _ (c .before .before .if2 .left)) (c .block-head .ensures ∙ ap (λ b. headAt (a .c) (a .m) b) (c .before .next-block .ensures)))

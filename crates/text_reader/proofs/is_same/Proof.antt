@@ -21,7 +21,7 @@ are-equal-requires : tie.Need-are-equal-requires
 are-equal-requires c κs = search needs
 
 returns : tie.Need-returns
-returns c = 
+returns c =
     let a = c .before .before .before .before .before .args in
     c .are-equal .ensures ∙ ap (λ ts. sameBytes (a .word .now) (first ts)) (sym (c .before .before .token-end .ensures .token))
 

@@ -28,7 +28,7 @@ is-same-requires : tie.Need-is-same-requires Inv-loop μ-loop
 is-same-requires c κs = c .before .before .before .before .before .before .pre .1 .each (c .before .before .loop .i) (omega arith)
 
 returns : tie.Need-returns Inv-loop μ-loop
-returns c = 
+returns c =
     let l = c .before .before .before .before in
     let s = l .before .before .before .before in
     let a = s .args in
@@ -42,7 +42,7 @@ loop-less : tie.Need-loop-less Inv-loop μ-loop
 loop-less c = search needs
 
 loop-again : tie.Need-loop-again Inv-loop μ-loop
-loop-again c = 
+loop-again c =
     let l = c .before .before .before .before in
     let s = l .before .before .before .before in
     let a = s .args in
@@ -50,7 +50,7 @@ loop-again c =
     (omega arith, another (a .text .now) (a .names .now) (a .count) (s .pre .0) (a .word .now) (l .loop .i) (i .1) (omega arith) (sym (c .before .is-same .ensures) ∙ c .if1 .left))
 
 returns-2 : tie.Need-returns-2 Inv-loop μ-loop
-returns-2 c = 
+returns-2 c =
     let l = c .before in
     let s = l .before .before .before .before in
     let a = s .args in

@@ -56,7 +56,7 @@ same-length : tie.Need-same-length
 same-length c = search needs
 
 returns-4 : tie.Need-returns-4
-returns-4 c = 
+returns-4 c =
     let s = c .before .before .before in
     let t = ne-eqb _ _ (c .before .before .if1 .left) in
     let u = lt-leb _ _ (c .before .if2 .left) in

@@ -28,7 +28,7 @@ slice-aggregate-take : tie.Need-slice-aggregate-take Inv-loop μ-loop
 slice-aggregate-take c = search needs
 
 take-requires : tie.Need-take-requires Inv-loop μ-loop
-take-requires c κs = 
+take-requires c κs =
     let s = c .before .before .before .before .before .before .before .before .before in
     let g = c .before .before .before .before .before .loop .inv in
     let l = g .line in
@@ -37,7 +37,7 @@ take-requires c κs =
     ((going-word g (omega arith) (c .before .before .before .token-end .ensures), going-some g), (g .small, omega arith))
 
 same-length : tie.Need-same-length Inv-loop μ-loop
-same-length c = 
+same-length c =
     let s = c .before .before .before .before .before .before .before .before .before .before .before .before .before .before .before .before .before .before in
     let a : length (s .args .words .now) ≡ most-words = ap length (s .pre .1) ∙ length-replicate most-words (pos 0) in
     let b = c .before .before .before .before .before .before .before .before .before .before .before .before .before .before .loop .inv .held .kept .room .words-size in
@@ -45,7 +45,7 @@ same-length c =
     omega arith
 
 same-length-2 : tie.Need-same-length-2 Inv-loop μ-loop
-same-length-2 c = 
+same-length-2 c =
     let s = c .before .before .before .before .before .before .before .before .before .before .before .before .before .before .before .before .before .before in
     let a : length (s .args .begun .now) ≡ most-lines = ap length (s .pre .2) ∙ length-replicate {A = ℕ} most-lines 0 in
     let b = c .before .before .before .before .before .before .before .before .before .before .before .before .before .before .loop .inv .held .kept .room .begun-size in
@@ -59,7 +59,7 @@ skip-requires-2 : tie.Need-skip-requires-2 Inv-loop μ-loop
 skip-requires-2 c κs = search needs
 
 loop-less : tie.Need-loop-less Inv-loop μ-loop
-loop-less c = 
+loop-less c =
     let e = c .before .before .before .before .before .before .before .before .before .before .before .before .before .token-end .ensures in
     let a = e .after in
     let b = e .inside in
@@ -73,7 +73,7 @@ slice-aggregate-take-2 : tie.Need-slice-aggregate-take-2 Inv-loop μ-loop
 slice-aggregate-take-2 c = search needs
 
 take-requires-2 : tie.Need-take-requires-2 Inv-loop μ-loop
-take-requires-2 c κs = 
+take-requires-2 c κs =
     let s = c .before .before .before .before .before .before .before .before in
     let g = c .before .before .before .before .loop .inv in
     let l = g .line in
@@ -82,7 +82,7 @@ take-requires-2 c κs =
     ((end-word g, going-some g), (g .small, omega arith))
 
 same-length-3 : tie.Need-same-length-3 Inv-loop μ-loop
-same-length-3 c = 
+same-length-3 c =
     let s = c .before .before .before .before .before .before .before .before .before .before .before .before .before in
     let a : length (s .args .words .now) ≡ most-words = ap length (s .pre .1) ∙ length-replicate most-words (pos 0) in
     let b = c .before .before .before .before .before .before .before .before .before .loop .inv .held .kept .room .words-size in
@@ -90,7 +90,7 @@ same-length-3 c =
     omega arith
 
 same-length-4 : tie.Need-same-length-4 Inv-loop μ-loop
-same-length-4 c = 
+same-length-4 c =
     let s = c .before .before .before .before .before .before .before .before .before .before .before .before .before in
     let a : length (s .args .begun .now) ≡ most-lines = ap length (s .pre .2) ∙ length-replicate {A = ℕ} most-lines 0 in
     let b = c .before .before .before .before .before .before .before .before .before .loop .inv .held .kept .room .begun-size in

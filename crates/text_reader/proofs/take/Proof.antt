@@ -24,13 +24,13 @@ begin-requires : tie.Need-begin-requires
 begin-requires c κs = let s = c .before .before .before .before .before .before .before .before in (s .pre .0 .1 .held .kept .room, rw (c .before .before .step .ensures) (kind-small _ _ (s .pre .1 .0)))
 
 put-requires : tie.Need-put-requires
-put-requires c κs = 
+put-requires c κs =
     let s = c .before .before .before .before .before .before .before .before .before .before .before .before .before .before in
     let h = c .before .before .before .before .before .begin .ensures .held (s .pre .0 .1 .held) in
     ((s .pre .0 .0, record { is = c .before .before .before .before .before .before .before .before .before .mark .ensures }), (h .kept .room .words-size, h .noted .size, h .noted .few, h .noted .begin))
 
 end-line-requires : tie.Need-end-line-requires
-end-line-requires c κs = 
+end-line-requires c κs =
     let s = c .before .before .before .before .before .before .before .before .before .before .before .before .before .before .before .before .before .before in
     let l = s .pre .1 .1 in
     let a = c .before .before .before .before .before .before .before .before .before .begin .ensures .line in

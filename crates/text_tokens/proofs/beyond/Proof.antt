@@ -19,7 +19,7 @@ number-from-requires : tie.Need-number-from-requires
 number-from-requires c κs = search needs
 
 returns-3 : tie.Need-returns-3
-returns-3 c = 
+returns-3 c =
     let w = c .before .before .before .before .before .before .args .word .now in
     let n = c .before .number-from in
     let e = beyond-by w (n .result) (omega arith) (c .before .before .if2 .left) (n .ensures .0) in
@@ -29,14 +29,14 @@ cast-if4 : tie.Need-cast-if4
 cast-if4 c = search needs
 
 returns-4 : tie.Need-returns-4
-returns-4 c = 
+returns-4 c =
     let w = c .before .before .before .before .before .before .before .args .word .now in
     let n = c .before .before .number-from in
     let e = beyond-by w (n .result) (omega arith) (c .before .before .before .if2 .left) (n .ensures .0) in
     sym (e ∙ rw (lt-ltb _ _ (c .before .if3 .left), lt-ltb _ _ (c .if4 .taken)))
 
 returns-5 : tie.Need-returns-5
-returns-5 c = 
+returns-5 c =
     let w = c .before .before .before .before .before .before .before .args .word .now in
     let n = c .before .before .number-from in
     let e = beyond-by w (n .result) (omega arith) (c .before .before .before .if2 .left) (n .ensures .0) in

@@ -25,7 +25,7 @@ are-equal-requires : tie.Need-are-equal-requires
 are-equal-requires c κs = search needs
 
 returns : tie.Need-returns
-returns c = 
+returns c =
     let p = c .before .before .before .before .put-relation in
     c .are-equal .ensures ∙ ap (λ n. sameBytes (c .before .before .before .before .before .before .before .args .word .now) n) ((name-part (p .ensures) (relation-few _)) .1)
 

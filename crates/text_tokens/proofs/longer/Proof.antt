@@ -24,7 +24,7 @@ mul-result : tie.Need-mul-result
 mul-result c = search needs
 
 sub-result : tie.Need-sub-result
-sub-result c = 
+sub-result c =
     let b = c .before .before .before .args .b in
     let e : between 48 57 b ≡ true = sym (c .before .before .is-between .ensures) ∙ not-false _ (c .before .if1 .left) in
     leb-true 48 b (and-left (leb 48 b) (leb b 57) e)
@@ -37,7 +37,7 @@ add-result c = search needs
 
 returns-2 : tie.Need-returns-2
 unfolding longer
-returns-2 c = 
+returns-2 c =
     let b = c .before .before .before .args .b in
     let e : between 48 57 b ≡ true = sym (c .before .before .is-between .ensures) ∙ not-false _ (c .before .if1 .left) in
     let l = leb-true b 57 (and-right (leb 48 b) (leb b 57) e) in

@@ -23,7 +23,7 @@ is-named-requires : tie.Need-is-named-requires Inv-loop μ-loop
 is-named-requires c κs = search needs
 
 returns : tie.Need-returns Inv-loop μ-loop
-returns c = 
+returns c =
     let l = c .before .before .before in
     let w = l .before .before .args .word .now in
     let r = l .loop .r in
@@ -37,7 +37,7 @@ loop-less : tie.Need-loop-less Inv-loop μ-loop
 loop-less c = search needs
 
 loop-again : tie.Need-loop-again Inv-loop μ-loop
-loop-again c = 
+loop-again c =
     let l = c .before .before .before in
     let w = l .before .before .args .word .now in
     let r = l .loop .r in
@@ -46,7 +46,7 @@ loop-again c =
     (omega arith, omega arith, l .loop .inv .2 ∙ among-next w (r - 1) r relationNames (omega arith) e ∙ ap (λ k. among w (suc r) (drop k relationNames)) n ∙ rw add-one)
 
 returns-2 : tie.Need-returns-2 Inv-loop μ-loop
-returns-2 c = 
+returns-2 c =
     let l = c .before in
     sym (l .loop .inv .2 ∙ among-none (l .before .before .args .word .now) (l .loop .r - 1) (l .loop .r) relationNames (omega arith))
 

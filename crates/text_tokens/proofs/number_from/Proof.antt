@@ -31,14 +31,14 @@ loop-less : tie.Need-loop-less Inv-loop μ-loop
 loop-less c = search needs
 
 loop-again : tie.Need-loop-again Inv-loop μ-loop
-loop-again c = 
+loop-again c =
     let l = c .before .before .before in
     let a = l .before .before .args in
     let e = number-next (a .digits .now) (l .loop .i) (l .loop .n) (omega arith) in
     (omega arith, l .loop .inv .1 ∙ e ∙ ap (λ n. numberFrom n (drop (l .loop .i + 1) (a .digits .now))) (sym (c .longer .ensures .0)), c .longer .ensures .1)
 
 returns : tie.Need-returns Inv-loop μ-loop
-returns c = 
+returns c =
     let l = c .before in
     let a = l .before .before .args in
     (sym (l .loop .inv .1 ∙ number-end (a .digits .now) (l .loop .i) (l .loop .n) (omega arith)), l .loop .inv .2)

@@ -38,7 +38,7 @@ joins-requires : tie.Need-joins-requires Inv-loop μ-loop
 joins-requires c κs = search needs
 
 returns : tie.Need-returns Inv-loop μ-loop
-returns c = 
+returns c =
     let l = c .before .before .before .before .before in
     let a = l .before .before .before .before .args in
     let i = l .loop .inv in
@@ -52,7 +52,7 @@ loop-less : tie.Need-loop-less Inv-loop μ-loop
 loop-less c = search needs
 
 loop-again : tie.Need-loop-again Inv-loop μ-loop
-loop-again c = 
+loop-again c =
     let l = c .before .before .before .before .before in
     let a = l .before .before .before .before .args in
     let i = l .loop .inv in
@@ -60,7 +60,7 @@ loop-again c =
     (omega arith, omega arith, i .2 ∙ token-grows (a .text .now) (a .at) (l .loop .e) (i .0) (omega arith) j, i .3)
 
 returns-2 : tie.Need-returns-2 Inv-loop μ-loop
-returns-2 c = 
+returns-2 c =
     let l = c .before in
     let a = l .before .before .before .before .args in
     let i = l .loop .inv in
