@@ -1,0 +1,25 @@
+-- Worked examples of the definition: a block and the lines of its number form, and a text that is not understood.
+use mathlib.Core.Path.{_≡_, refl}
+use mathlib.Core.List.{List, [], _∷_, reverse}
+use Prim.Native.Nat.{ℕ}
+use lib.IntN.{ℤ, pos, negsuc}
+use Rattle.text_buffer.specs.Words.{bytes}
+use Rattle.text_meaning.specs.Tokens.{kindOf, joins, goesOn, behind, tokens}
+use Rattle.text_meaning.specs.Names.{sameBytes, longer, numberFrom, among, relationOf, placeIn, noted, markOf}
+use Rattle.text_meaning.specs.Places.{columnsIn, nextBlock, startAt, commentAt, openAt, termAt, moreAt, closedBy, closeAt, firstAt, rowEndAt, nextAt, colonAt, relationAt, atomEndAt, rowAt, rowsAt, stepFrom, step}
+use Rattle.text_meaning.specs.Reading.{Reading, grown, read, run, readingOf}
+
+-- a question is taken apart into words, numbers and signs
+pub question-tokens : tokens (bytes "q(s,7): Sig(s,7)") ≡ bytes "q" ∷ bytes "(" ∷ bytes "s" ∷ bytes "," ∷ bytes "7" ∷ bytes ")" ∷ bytes ":" ∷ bytes "Sig" ∷ bytes "(" ∷ bytes "s" ∷ bytes "," ∷ bytes "7" ∷ bytes ")" ∷ []
+unfolding behind goesOn joins kindOf
+question-tokens = refl
+
+-- a head and its atom, of which the first term is a variable
+pub block-lines : reverse (readingOf (bytes "q(s): Sig(s,7)") .lines) ≡ (pos 1 ∷ negsuc 0 ∷ []) ∷ (pos 4 ∷ pos 4 ∷ negsuc 0 ∷ pos 7 ∷ []) ∷ []
+unfolding behind goesOn joins kindOf sameBytes longer numberFrom among relationOf placeIn noted markOf columnsIn nextBlock startAt commentAt openAt termAt moreAt closedBy closeAt firstAt rowEndAt nextAt colonAt relationAt atomEndAt rowAt rowsAt stepFrom step grown read run readingOf
+block-lines = refl
+
+-- a bracket that is not closed: in line 2 a comma or a bracket (7) was expected
+pub open-bracket : (readingOf (bytes "#\nq(s") .control .expected ≡ 7) × (readingOf (bytes "#\nq(s") .line ≡ 2)
+unfolding behind goesOn joins kindOf sameBytes longer numberFrom among relationOf placeIn noted markOf columnsIn nextBlock startAt commentAt openAt termAt moreAt closedBy closeAt firstAt rowEndAt nextAt colonAt relationAt atomEndAt rowAt rowsAt stepFrom step grown read run readingOf
+open-bracket = (refl, refl)
