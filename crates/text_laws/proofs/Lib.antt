@@ -1,3 +1,4 @@
 pub mod Sound
 pub mod Example
 pub mod Whole
+pub mod Written
