@@ -186,6 +186,11 @@ module _ (s : List ℕ) (at e : ℕ) (le : at ≤ e) (inside : e ≤ length s) (
 
 -- ---- a line that is taken, or not
 
+-- whether the line is right, and then the numbers to put
+pub record LineRead (s : List ℕ) (at e : ℕ) (ns : List ℕ) (n c k p : ℕ) (r : Bool) : Type 0 where
+  pub right : (t : Table) → length t ≡ n → ns ≡ tableNumbers t → r ≡ lineRight t (lineOf (take (e - at) (drop at s)))
+  pub put : (t : Table) → length t ≡ n → ns ≡ tableNumbers t → r ≡ true → putRelation ns n c k p ≡ tableNumbers (t ++ (relationIn (lineOf (take (e - at) (drop at s))) ∷ []))
+
 pub not-four : (s : List ℕ) (at e : ℕ) (ns us : List ℕ) (n : ℕ) → at ≤ e → e ≤ length s → (e - at ≡ 32 → ⊥) → TakenLine s at e ns us n false
 not-four s at e ns us n le inside h =
     record { right = λ t l q. other-length (take (e - at) (drop at s)) t (λ x. h (sym (part-length s at e le inside) ∙ x)); put = λ t l q x. no-way x }
@@ -198,13 +203,17 @@ module _ (s : List ℕ) (at e : ℕ) (le : at ≤ e) (inside : e ≤ length s) (
   fits-right : (t : Table) → length t ≡ n → ns ≡ tableNumbers t → lineFits ns n m c k p ≡ lineRight t line
   fits-right t l q = rw (q, sym l, ms, cs, ks, ps) (right-by s at e le inside size t (omega arith))
 
-  pub not-taken : (us : List ℕ) (r : Bool) → r ≡ false → r ≡ lineFits ns n m c k p → TakenLine s at e ns us n false
-  not-taken us r is h = record { right = λ t l q. sym is ∙ h ∙ fits-right t l q; put = λ t l q x. no-way x }
-
-  pub taken : (us : List ℕ) (r : Bool) → r ≡ true → r ≡ lineFits ns n m c k p → us ≡ putRelation ns n c k p → TakenLine s at e ns us n true
-  taken us r is h w = record {
-    right = λ t l q. sym is ∙ h ∙ fits-right t l q;
-    put = λ t l q x.
-        let r = relation-by s at e le inside size t (sym (fits-right t l q) ∙ sym h ∙ is) in
-        w ∙ rw (q, sym l, cs, ks, ps, r) (numbers-more most-relations t (entry (plainOf (fieldAt s (at + 8))) (plainOf (fieldAt s (at + 16))) (plainOf (fieldAt s (at + 24)))) (omega arith));
+  pub line-read : (r : Bool) → r ≡ lineFits ns n m c k p → LineRead s at e ns n c k p r
+  line-read r h = record {
+    right = λ t l q. h ∙ fits-right t l q;
+    put = λ t l q is.
+        let x = relation-by s at e le inside size t (sym (fits-right t l q) ∙ sym h ∙ is) in
+        rw (q, sym l, cs, ks, ps, x) (numbers-more most-relations t (entry (plainOf (fieldAt s (at + 8))) (plainOf (fieldAt s (at + 16))) (plainOf (fieldAt s (at + 24)))) (omega arith));
   }
+
+module _ {s : List ℕ} {at e : ℕ} {ns : List ℕ} {n c k p : ℕ} {r : Bool} (d : LineRead s at e ns n c k p r) where
+  pub not-taken : (us : List ℕ) → r ≡ false → TakenLine s at e ns us n false
+  not-taken us is = record { right = λ t l q. sym is ∙ d .right t l q; put = λ t l q x. no-way x }
+
+  pub taken : (us : List ℕ) → r ≡ true → us ≡ putRelation ns n c k p → TakenLine s at e ns us n true
+  taken us is w = record { right = λ t l q. sym is ∙ d .right t l q; put = λ t l q x. w ∙ d .put t l q is }

@@ -1,5 +1,5 @@
 -- Lines taken from a table's bytes one after the other.
-use mathlib.Core.Path.{_≡_, refl, sym, ap, _∙_}
+use mathlib.Core.Path.{_≡_, refl, sym, ap, _∙_, subst}
 use mathlib.Core.Bool.{Bool, true, false, cond, _&&_}
 use mathlib.Core.List.{List, [], _∷_, _++_, map, append-assoc}
 use Prim.Native.Nat.{ℕ, _+_, _-_, _<_, _≤_}
@@ -96,7 +96,7 @@ module _ (s ns : List ℕ) (n at : ℕ) (r : Reading s ns n at) where
     closes : byteLines (drop at s) ≡ line ∷ after
     closes = line-closes s at e (r .inside) is lt
 
-    pub not-right : TakenLine s at e ns us n false → tableRefusal s ≡ refusal 15 (n + 1)
+    not-right : TakenLine s at e ns us n false → tableRefusal s ≡ refusal 15 (n + 1)
     not-right w =
         refused-here line after closes (and-no (ltb (length table) most-relations) (lineRight table line) (sym (w .right table table-length (r .numbers))))
 
@@ -104,7 +104,7 @@ module _ (s ns : List ℕ) (n at : ℕ) (r : Reading s ns n at) where
     unfolding linesRefusal
     goes-on f h = let t = table-length in rw (lt-ltb (length table) most-relations (omega arith), h)
 
-    pub reading-more : n < most-relations → TakenLine s at e ns us n true → Reading s us (n + 1) (e + 1)
+    reading-more : n < most-relations → TakenLine s at e ns us n true → Reading s us (n + 1) (e + 1)
     reading-more f w =
         let m = map-append relationIn (r .lines) (line ∷ []) in
         record {
@@ -152,6 +152,21 @@ module _ (s ns : List ℕ) (n at : ℕ) (r : Reading s ns n at) where
       answer = sym (ap (λ x. endingBy x (length (tableOf s))) (accepted h) ∙ ap Done (ap length read-whole ∙ table-length));
       numbers = λ z. r .numbers ∙ ap tableNumbers (sym read-whole);
     }
+
+-- a line that closes at e, taken behind the lines so far; whether it is right
+pub record LineTaken (s ns us : List ℕ) (n at e : ℕ) (r : Bool) : Type 0 where
+  pub so-far : Reading s ns n at
+  pub room : n < most-relations
+  pub end : e ≡ at + beforeEnd (drop at s)
+  pub from : at ≤ e
+  pub closed : e < length s
+  pub line : TakenLine s at e ns us n r
+
+pub wrong-line : {s ns us : List ℕ} {n at e : ℕ} {r : Bool} → LineTaken s ns us n at e r → r ≡ false → tableRefusal s ≡ refusal 15 (n + 1)
+wrong-line {s} {ns} {us} {n} {at} {e} t is = not-right s ns n at (t .so-far) us e (t .end) (t .closed) (subst (TakenLine s at e ns us n) is (t .line))
+
+pub right-line : {s ns us : List ℕ} {n at e : ℕ} {r : Bool} → LineTaken s ns us n at e r → r ≡ true → Reading s us (n + 1) (e + 1)
+right-line {s} {ns} {us} {n} {at} {e} t is = reading-more s ns n at (t .so-far) us e (t .end) (t .closed) (t .room) (subst (TakenLine s at e ns us n) is (t .line))
 
 pub read-refused : (s us : List ℕ) (k : ℕ) → tableRefusal s ≡ refusal 15 k → ReadLines s us (Refused 15 k)
 unfolding tableEnding

@@ -1,12 +1,11 @@
-use mathlib.Core.Path.{sym, _∙_, subst}
+use mathlib.Core.Path.{sym, _∙_}
 use Prim.Native.Nat.{_+_, _-_}
 use native.Mathlib.Omega.{arith}
 use lib.ListN.{length}
 use borrow.Author.Tests.{not-true, not-false}
 use borrow.Author.Needs.{needs}
 use Rattle.sheet_line_ends.proofs.Laws.{end-inside}
-use Rattle.sheet_table.specs.Numbers.{TakenLine}
-use Rattle.sheet_table.proofs.Reading.{Reading, reading-none, too-many, unclosed, not-right, reading-more, empty, read-done, read-refused}
+use Rattle.sheet_table.proofs.Reading.{Reading, reading-none, too-many, unclosed, LineTaken, wrong-line, right-line, empty, read-done, read-refused}
 use Rattle.sheet_table.proofs.read_lines.Statement.{statement}
 use Rattle.sheet_table.proofs.read_lines.Tie as tie
 
@@ -15,6 +14,20 @@ Inv-loop s ns₀ n₀ at₀ ns n at = Reading s ns n at
 
 abbrev μ-loop : tie.MeasureT-loop
 μ-loop s ns₀ n₀ at₀ ns n at = length s - at
+
+-- what is known when a line was taken
+line-taken : (c : tie.After-take-line Inv-loop μ-loop)
+    → LineTaken (c .before .before .before .before .before .before .before .before .args .s .now) (c .before .before .before .before .before .before .loop .ns) (c .take-line .last .1 .1 .1 .0)
+    (c .before .before .before .before .before .before .loop .n) (c .before .before .before .before .before .before .loop .at) (c .before .before .before .line-end .result) (c .take-line .result)
+line-taken c =
+    let l = c .before .before .before .before .before .before .loop in
+    let s = c .before .before .before .before .before .before .before .before .args .s .now in
+    let e = c .before .before .before .line-end in
+    let i = end-inside s (l .at) (e .result) (l .inv .inside) (e .ensures) in
+    let h = c .before .before .if2 .left in
+    let f = l .inv .few in
+    let g = c .before .before .before .before .if1 .left in
+    record { so-far = l .inv; room = omega arith; end = e .ensures; from = i .0; closed = omega arith; line = c .take-line .ensures }
 
 loop-holds : tie.Need-loop-holds Inv-loop μ-loop
 loop-holds c =
@@ -55,56 +68,22 @@ take-line-requires c κs =
     (i .0, i .1, omega arith)
 
 add-t12 : tie.Need-add-t12 Inv-loop μ-loop
-add-t12 c =
-    let f = c .before .before .before .before .before .before .before .loop .inv .few in omega arith
+add-t12 c = let t = line-taken (c .before) in let f = t .room in omega arith
 
 returns-3 : tie.Need-returns-3 Inv-loop μ-loop
-returns-3 c =
-    let l = c .before .before .before .before .before .before .before .loop in
-    let s = c .before .before .before .before .before .before .before .before .before .args .s .now in
-    let e = c .before .before .before .before .line-end in
-    let i = end-inside s (l .at) (e .result) (l .inv .inside) (e .ensures) in
-    let h = c .before .before .before .if2 .left in
-    let f = l .inv .few in
-    let g = c .before .before .before .before .before .if1 .left in
-    read-refused s (c .before .take-line .last .1 .1 .1 .0) (l .n + 1) (not-right s (l .ns) (l .n) (l .at) (l .inv) (c .before .take-line .last .1 .1 .1 .0) (e .result) (e .ensures) (omega arith) (subst (TakenLine s (l .at) (e .result) (l .ns) (c .before .take-line .last .1 .1 .1 .0) (l .n)) (not-true (c .before .take-line .result) (c .if3 .taken)) (c .before .take-line .ensures)))
+returns-3 c = let t = line-taken (c .before) in read-refused _ _ _ (wrong-line t (not-true (c .before .take-line .result) (c .if3 .taken)))
 
 add-n : tie.Need-add-n Inv-loop μ-loop
-add-n c =
-    let f = c .before .before .before .before .before .before .before .loop .inv .few in omega arith
+add-n c = let t = line-taken (c .before) in let f = t .room in omega arith
 
 add-at : tie.Need-add-at Inv-loop μ-loop
-add-at c =
-    let l = c .before .before .before .before .before .before .before .loop in
-    let s = c .before .before .before .before .before .before .before .before .before .args .s .now in
-    let e = c .before .before .before .before .line-end in
-    let i = end-inside s (l .at) (e .result) (l .inv .inside) (e .ensures) in
-    let h = c .before .before .before .if2 .left in
-    let f = l .inv .few in
-    let g = c .before .before .before .before .before .if1 .left in
-    omega arith
+add-at c = let t = line-taken (c .before) in let f = t .closed in omega arith
 
 loop-less : tie.Need-loop-less Inv-loop μ-loop
-loop-less c =
-    let l = c .before .before .before .before .before .before .before .loop in
-    let s = c .before .before .before .before .before .before .before .before .before .args .s .now in
-    let e = c .before .before .before .before .line-end in
-    let i = end-inside s (l .at) (e .result) (l .inv .inside) (e .ensures) in
-    let h = c .before .before .before .if2 .left in
-    let f = l .inv .few in
-    let g = c .before .before .before .before .before .if1 .left in
-    omega arith
+loop-less c = let t = line-taken (c .before) in let f = t .from in let h = t .closed in omega arith
 
 loop-again : tie.Need-loop-again Inv-loop μ-loop
-loop-again c =
-    let l = c .before .before .before .before .before .before .before .loop in
-    let s = c .before .before .before .before .before .before .before .before .before .args .s .now in
-    let e = c .before .before .before .before .line-end in
-    let i = end-inside s (l .at) (e .result) (l .inv .inside) (e .ensures) in
-    let h = c .before .before .before .if2 .left in
-    let f = l .inv .few in
-    let g = c .before .before .before .before .before .if1 .left in
-    reading-more s (l .ns) (l .n) (l .at) (l .inv) (c .before .take-line .last .1 .1 .1 .0) (e .result) (e .ensures) (omega arith) (omega arith) (subst (TakenLine s (l .at) (e .result) (l .ns) (c .before .take-line .last .1 .1 .1 .0) (l .n)) (not-false (c .before .take-line .result) (c .if3 .left)) (c .before .take-line .ensures))
+loop-again c = right-line (line-taken (c .before)) (not-false (c .before .take-line .result) (c .if3 .left))
 
 returns-4 : tie.Need-returns-4 Inv-loop μ-loop
 returns-4 c =

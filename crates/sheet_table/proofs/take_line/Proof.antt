@@ -1,6 +1,6 @@
 use native.Mathlib.Omega.{arith}
 use borrow.Author.Needs.{needs}
-use Rattle.sheet_table.proofs.Lines.{not-four, not-taken, taken}
+use Rattle.sheet_table.proofs.Lines.{LineRead, line-read, not-four, not-taken, taken}
 use Rattle.sheet_table.proofs.take_line.Statement.{statement}
 use Rattle.sheet_table.proofs.take_line.Tie as tie
 
@@ -45,29 +45,25 @@ line-fits-requires c κs = search needs
 put-relation-requires : tie.Need-put-relation-requires
 put-relation-requires c κs = search needs
 
-returns-2 : tie.Need-returns-2
-returns-2 c =
-    let f = c .before .before .before in
+-- what the four fields tell
+read : (f : tie.After-line-fits)
+    → LineRead (f .before .before .before .before .before .before .before .before .args .s .now) (f .before .before .before .before .before .before .before .before .args .at) (f .before .before .before .before .before .before .before .before .args .e)
+    (f .before .before .before .before .before .before .before .before .args .ns .now) (f .before .before .before .before .before .before .before .before .args .n)
+    (f .before .before .before .before .plain-field2 .result) (f .before .before .before .plain-field3 .result) (f .before .before .plain-field4 .result) (f .line-fits .result)
+read f =
     let p4 = f .before .before in
     let p3 = p4 .before in
     let p2 = p3 .before in
     let p1 = p2 .before in
     let a = p1 .before .before .before .args in
-    let size = p1 .before .if1 .left in
-    taken (a .s .now) (a .at) (a .e) (omega arith) (omega arith) size (a .ns .now) (a .n) (omega arith) (p1 .plain-field .result) (p2 .plain-field2 .result) (p3 .plain-field3 .result) (p4 .plain-field4 .result)
-    (p1 .plain-field .ensures) (p2 .plain-field2 .ensures) (p3 .plain-field3 .ensures) (p4 .plain-field4 .ensures) (c .put-relation .last .0) (f .line-fits .result) (c .before .before .if2 .taken) (f .line-fits .ensures) (c .put-relation .ensures)
+    line-read (a .s .now) (a .at) (a .e) (omega arith) (omega arith) (p1 .before .if1 .left) (a .ns .now) (a .n) (omega arith) (p1 .plain-field .result) (p2 .plain-field2 .result) (p3 .plain-field3 .result) (p4 .plain-field4 .result)
+    (p1 .plain-field .ensures) (p2 .plain-field2 .ensures) (p3 .plain-field3 .ensures) (p4 .plain-field4 .ensures) (f .line-fits .result) (f .line-fits .ensures)
+
+returns-2 : tie.Need-returns-2
+returns-2 c = taken (read (c .before .before .before)) (c .put-relation .last .0) (c .before .before .if2 .taken) (c .put-relation .ensures)
 
 returns-3 : tie.Need-returns-3
-returns-3 c =
-    let f = c .before in
-    let p4 = f .before .before in
-    let p3 = p4 .before in
-    let p2 = p3 .before in
-    let p1 = p2 .before in
-    let a = p1 .before .before .before .args in
-    let size = p1 .before .if1 .left in
-    not-taken (a .s .now) (a .at) (a .e) (omega arith) (omega arith) size (a .ns .now) (a .n) (omega arith) (p1 .plain-field .result) (p2 .plain-field2 .result) (p3 .plain-field3 .result) (p4 .plain-field4 .result)
-    (p1 .plain-field .ensures) (p2 .plain-field2 .ensures) (p3 .plain-field3 .ensures) (p4 .plain-field4 .ensures) (a .ns .now) (f .line-fits .result) (c .if2 .left) (f .line-fits .ensures)
+returns-3 c = not-taken (read (c .before)) _ (c .if2 .left)
 
 pub take-line-spec : {M : Type 1} → statement M
 take-line-spec =
