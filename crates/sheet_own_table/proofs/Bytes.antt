@@ -6,7 +6,7 @@ use Prim.Native.Nat.{ℕ, zero, suc, _+_, _*_, _/_, _%_, _<_, _≤_}
 use native.Mathlib.Omega.{arith}
 use borrow.Author.Tests.{eqb-true}
 use lib.Dec.{eqb}
-use lib.IntN.{ℤ, pos}
+use lib.IntN.{pos}
 use lib.ListN.{length, getD, take, length-append, drop-of-length-le, List·getD-append}
 use lib.Seq.{getD-append-add, getD-append-seam, take-length}
 use Rattle.list_laws.specs.Wrote.{Wrote}

@@ -1,6 +1,6 @@
 -- A line of bytes is right by its four fields.
-use mathlib.Core.Path.{_≡_, refl, sym, ap, _∙_, subst}
-use mathlib.Core.Bool.{Bool, true, false, cond, _&&_, _||_}
+use mathlib.Core.Path.{_≡_, refl, sym, ap, _∙_}
+use mathlib.Core.Bool.{Bool, true, false, cond, _&&_}
 use mathlib.Core.List.{List, [], _∷_, _++_, map}
 use Prim.Native.Nat.{ℕ, zero, suc, _+_, _-_, _*_, _/_, _%_, _<_, _≤_}
 use native.Mathlib.Omega.{arith}
@@ -18,7 +18,7 @@ use Rattle.sheet_format.specs.declared.Field.the-variants.{Number, Malformed}
 use Rattle.sheet_format.proofs.Lists.{both, no-way}
 use Rattle.sheet_format.proofs.LineLaws.{line-by, eights-length}
 use Rattle.sheet_reader.proofs.LineOf.{eights-take, part-length}
-use Rattle.sheet_table.specs.Tables.{numberIn, relationIn, notNegative, relationNumbers, tableNumbers, numbersOf, fourFields, columnsRight, parentRight, relationRight, lineRight}
+use Rattle.sheet_table.specs.Tables.{numberIn, relationIn, notNegative, relationNumbers, tableNumbers, fourFields, parentRight, relationRight, lineRight}
 use Rattle.sheet_table.specs.Numbers.{plainOf, parentFits, lineFits, putRelation, TakenLine}
 use Rattle.sheet_table.proofs.Numbers.{numbers-at, numbers-more}
 

@@ -1,17 +1,16 @@
 -- Lines taken from a table's bytes one after the other.
 use mathlib.Core.Path.{_≡_, refl, sym, ap, _∙_, subst}
-use mathlib.Core.Bool.{Bool, true, false, cond, _&&_}
+use mathlib.Core.Bool.{Bool, true, false, _&&_}
 use mathlib.Core.List.{List, [], _∷_, _++_, map, append-assoc}
 use Prim.Native.Nat.{ℕ, _+_, _-_, _<_, _≤_}
 use native.Mathlib.Omega.{arith}
 use borrow.Author.Tests.{ltb-true, ltb-false, lt-ltb, le-ltb}
-use lib.Dec.{eqb, ltb}
+use lib.Dec.{ltb}
 use lib.ListN.{length, take, drop, replicate, length-append, length-drop, length-map, drop-of-length-le}
 use Rattle.sheet_format.specs.Limits.{most-relations}
 use Rattle.sheet_format.specs.Table.{Table}
 use Rattle.sheet_format.specs.Line.{Line, null, lineOf, byteLines}
 use Rattle.sheet_format.specs.Cause.{refusal, none}
-use Rattle.sheet_format.specs.declared.Refusal.{Refusal}
 use Rattle.sheet_format.specs.declared.Ending.the-variants.{Done, Refused}
 use Rattle.sheet_format.proofs.Lists.{append-nil, map-append}
 use Rattle.sheet_format.proofs.LineLaws.{lines-none}

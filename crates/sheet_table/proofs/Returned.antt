@@ -10,8 +10,7 @@ use Rattle.sheet_format.specs.Sheet.{returned, refusedBy, doneWith}
 use Rattle.sheet_format.specs.declared.Refusal.{Refusal}
 use Rattle.sheet_format.specs.declared.Ending.{Ending}
 use Rattle.sheet_format.specs.declared.Ending.the-variants.{Done, Refused}
-use Rattle.sheet_format.proofs.Lists.{no-way}
-use Rattle.sheet_table.specs.Tables.{tableRefusal, tableOf, tableNumbers, endingBy, tableEnding, returnedBy, tableReturned, readNumbers}
+use Rattle.sheet_table.specs.Tables.{tableRefusal, tableOf, endingBy, tableEnding, returnedBy, tableReturned, readNumbers}
 use Rattle.sheet_table.specs.Numbers.{ReadLines}
 
 abbrev isDone : Ending → Bool

@@ -1,6 +1,6 @@
 -- The rules of a line, one after the other, over plain numbers.
-use mathlib.Core.Path.{_≡_, refl, sym, ap, _∙_}
-use mathlib.Core.Bool.{Bool, true, false, _&&_}
+use mathlib.Core.Path.{_≡_, refl}
+use mathlib.Core.Bool.{true, false}
 use mathlib.Core.List.{List}
 use Prim.Native.Nat.{ℕ, _+_, _-_, _*_, _≤_, _<_}
 use native.Mathlib.Omega.{arith}
@@ -10,7 +10,6 @@ use lib.IntN.{ℤ, pos, negsuc}
 use lib.ListN.{getD}
 use lib.Signed.{ltZ}
 use Rattle.sheet_format.specs.Limits.{field-end, most-columns}
-use Rattle.sheet_format.proofs.Lists.{no-way}
 use Rattle.sheet_table.specs.Numbers.{plainNumber, parentFits, lineFits}
 
 pub below-zero : (z : ℤ) → ltZ z (pos 0) ≡ true → field-end ≡ plainNumber z

@@ -13,7 +13,7 @@ use Rattle.sheet_format.specs.Limits.{most-relations, most-columns}
 use Rattle.sheet_format.specs.Table.{Relation, Table, unknown, relation, Sound}
 use Rattle.sheet_format.specs.Line.{Line, null, byteLines}
 use Rattle.sheet_format.specs.Cause.{refusal}
-use Rattle.sheet_format.proofs.Lists.{both, no-way, true-false}
+use Rattle.sheet_format.proofs.Lists.{both}
 use Rattle.sheet_table.specs.Tables.{numberIn, relationIn, fourFields, inOrder, columnsRight, keyRight, parentRight, relationRight, lineRight, linesRefusal, tableRefusal, tableOf}
 
 -- the relation p of t is a parent that fits r

@@ -10,7 +10,6 @@ use Rattle.sheet_format.specs.Limits.{field-end, most-columns}
 use Rattle.sheet_format.specs.Table.{Table}
 use Rattle.sheet_format.specs.Line.{lineOf}
 use Rattle.sheet_format.specs.declared.Ending.{Ending}
-use Rattle.sheet_format.specs.declared.Refusal.{Refusal}
 use Rattle.sheet_format.specs.declared.Field.{Field}
 use Rattle.sheet_format.specs.declared.Field.the-variants.{Number, Malformed}
 use Rattle.sheet_table.specs.Tables.{relationIn, lineRight, tableNumbers, tableRefusal, tableOf, tableEnding}

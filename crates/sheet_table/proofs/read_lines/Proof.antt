@@ -3,7 +3,6 @@ use Prim.Native.Nat.{_+_, _-_}
 use native.Mathlib.Omega.{arith}
 use lib.ListN.{length}
 use borrow.Author.Tests.{not-true, not-false}
-use borrow.Author.Needs.{needs}
 use Rattle.sheet_line_ends.proofs.Laws.{end-inside}
 use Rattle.sheet_table.proofs.Reading.{Reading, reading-none, too-many, unclosed, LineTaken, wrong-line, right-line, empty, read-done, read-refused}
 use Rattle.sheet_table.proofs.read_lines.Statement.{statement}
