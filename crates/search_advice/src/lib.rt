@@ -255,14 +255,7 @@ fn clash(trial: bool, bd: &[u32; BOARD], bits: &[u64; BITS]) -> Advice {
     let mut relation = search_board::next_digit(keyed, 0);
     while relation < 64 {
         let of = facts_to_test(relation, trial, bits);
-        let a = clash_of(
-            relation,
-            sheet_terms::key(relation),
-            &of,
-            trial,
-            bd,
-            bits,
-        );
+        let a = clash_of(relation, sheet_terms::key(relation), &of, trial, bd, bits);
         if a.kind != NOTHING {
             return a;
         }

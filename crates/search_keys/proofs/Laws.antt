@@ -135,7 +135,7 @@ module _ {table : Table} (plain : PlainTable table) {ns : List ℕ} {log : Log} 
             let four : c < 4 = let few = key-few (getD ns (i * 5) 0) in omega arith in
             let less : c < relation table (f .rel) .key = subst (λ n. c < n) (sym key) lt in
             fn .values i li c four ∙ sym (getD-take (relation table (f .rel) .key) (f .row) c 0 less) ∙ ap (λ l. getD l c 0) (h .first)
-                ∙ getD-take (relation table (f .rel) .key) (g .row) c 0 less ∙ sym (fn .values k lk c four);
+            ∙ getD-take (relation table (f .rel) .key) (g .row) c 0 less ∙ sym (fn .values k lk c four);
       }
 
   -- keys hold among the numbers: they hold in the log

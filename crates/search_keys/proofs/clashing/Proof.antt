@@ -30,7 +30,7 @@ is-clash-requires : tie.Need-is-clash-requires Inv-loop μ-loop
 is-clash-requires c κs = search needs
 
 returns : tie.Need-returns Inv-loop μ-loop
-returns c = 
+returns c =
     let l = c .before .before .before .loop in
     let k = c .before .is-clash in
     record {

@@ -31,9 +31,10 @@ returns c =
     let h4 = c .mark-value4 in
     let h3 = c .before .before .mark-value3 in
     let h2 = c .before .before .before .before .mark-value2 in
-    let h1 = k1 .mark-value in
-    (λ f. row-marked (a .p .now) (a .ws .now) (a .i) (a .key) (h1 .ensures .0 (f 0 (omega arith))) (h2 .ensures .0 (f 1 (omega arith))) (h3 .ensures .0 (f 2 (omega arith))) (h4 .ensures .0 (f 3 (omega arith))),
-      h4 .ensures .1 ∙ h3 .ensures .1 ∙ h2 .ensures .1 ∙ h1 .ensures .1)
+    let h1 = k1 .mark-value in (
+      λ f. row-marked (a .p .now) (a .ws .now) (a .i) (a .key) (h1 .ensures .0 (f 0 (omega arith))) (h2 .ensures .0 (f 1 (omega arith))) (h3 .ensures .0 (f 2 (omega arith))) (h4 .ensures .0 (f 3 (omega arith))),
+      h4 .ensures .1 ∙ h3 .ensures .1 ∙ h2 .ensures .1 ∙ h1 .ensures .1,
+    )
 
 pub mark-row-spec : {M : Type 1} → statement M
 mark-row-spec =

@@ -48,9 +48,10 @@ returns-3 c =
     let left = c .before .before .mark-row in
     let marked = c .before .before .before .before .mark-key in
     let at-key = c .before .before .before .before .before .before in
-    let a = at-key .before .before .before .before .args in
-    (λ li lk f g. clash-shown (a .p .now) (a .ws .now) (a .i) (a .k) _ (at-key .key .ensures .0 ∙ ap keyOf (relation-at (a .p .now) (a .i))) (marked .ensures .0 f g) (left .ensures .0 f) (right .ensures .0 g),
-      right .ensures .1 ∙ left .ensures .1 ∙ marked .ensures .1)
+    let a = at-key .before .before .before .before .args in (
+      λ li lk f g. clash-shown (a .p .now) (a .ws .now) (a .i) (a .k) _ (at-key .key .ensures .0 ∙ ap keyOf (relation-at (a .p .now) (a .i))) (marked .ensures .0 f g) (left .ensures .0 f) (right .ensures .0 g),
+      right .ensures .1 ∙ left .ensures .1 ∙ marked .ensures .1,
+    )
 
 pub show-spec : {M : Type 1} → statement M
 show-spec =
