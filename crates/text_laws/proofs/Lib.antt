@@ -2,3 +2,4 @@ pub mod Sound
 pub mod Example
 pub mod Whole
 pub mod Written
+pub mod Terms

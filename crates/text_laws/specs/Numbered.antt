@@ -1,0 +1,36 @@
+-- The lines of a sheet with the variables of each block numbered by first place.
+use mathlib.Core.Bool.{cond}
+use mathlib.Core.List.{List, [], _∷_, _++_}
+use Prim.Native.Nat.{ℕ, zero, suc}
+use lib.Dec.{eqb, ltb}
+use lib.IntN.{ℤ, pos, negsuc}
+use lib.ListN.{length}
+use Rattle.sheet_format.specs.Line.{Line}
+use Rattle.sheet_format.specs.Cause.{Kind, kind, isHead, isAtom}
+
+-- the place of a variable among those that came before it, from 0; their count where it is new
+unfoldable pub placeOf : ℕ → List ℕ → ℕ
+placeOf v [] = 0
+placeOf v (k ∷ ks) = cond (eqb v k) 0 (suc (placeOf v ks))
+
+-- those that came before, and one more where it is new
+unfoldable pub known : ℕ → List ℕ → List ℕ
+known v ks = cond (ltb (placeOf v ks) (length ks)) ks (ks ++ (v ∷ []))
+
+-- a term, and what is known after it
+abbrev pub numberedTerm : List ℕ → ℤ → ℤ
+numberedTerm ks (pos n) = pos n
+numberedTerm ks (negsuc v) = negsuc (placeOf v ks)
+
+abbrev pub knownAfter : List ℕ → ℤ → List ℕ
+knownAfter ks (pos n) = ks
+knownAfter ks (negsuc v) = known v ks
+
+-- terms one after the other
+unfoldable pub numberedTerms : List ℕ → List ℤ → List ℤ
+numberedTerms ks [] = []
+numberedTerms ks (z ∷ zs) = numberedTerm ks z ∷ numberedTerms (knownAfter ks z) zs
+
+unfoldable pub knownBehind : List ℕ → List ℤ → List ℕ
+knownBehind ks [] = ks
+knownBehind ks (z ∷ zs) = knownBehind (knownAfter ks z) zs
