@@ -3,3 +3,5 @@ pub mod Example
 pub mod Whole
 pub mod Written
 pub mod Terms
+pub mod Bracketed
+pub mod Lines

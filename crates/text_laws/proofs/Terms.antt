@@ -1,94 +1,191 @@
--- Terms in brackets are read one after the other.
+-- Terms in brackets, as they are written, are read one after the other, with their variables numbered by first place.
 use mathlib.Core.Path.{_≡_, refl, sym, ap, _∙_}
 use mathlib.Core.Bool.{Bool, true, false, cond, _&&_, _||_}
-use mathlib.Core.List.{List, [], _∷_, _++_, append-assoc}
-use mathlib.Core.Logic.{_⊎_, ⊎-elim}
+use mathlib.Core.List.{List, [], _∷_, _++_, map, append-assoc}
+use mathlib.Core.Logic.{_⊎_, inl, inr, ⊎-elim}
 use Prim.Native.Nat.{ℕ, zero, suc, _+_, _-_, _≤_, _<_}
 use native.Mathlib.Omega.{arith}
-use lib.Dec.{eqb, ltb}
+use lib.Dec.{eqb, ltb, leb}
 use lib.IntN.{ℤ, pos, negsuc}
-use lib.ListN.{length, take, length-append}
+use lib.ListN.{length, take, length-append, length-map}
 use lib.Seq.{take-all}
-use borrow.Author.Tests.{eq-eqb, ne-eqb, lt-ltb}
-use Rattle.sheet_format.specs.Line.{Line}
-use Rattle.text_meaning.specs.Tokens.{kindOf}
-use Rattle.text_meaning.specs.Names.{noted, placeIn, markOf}
-use Rattle.text_meaning.specs.Places.{termAt, moreAt, isCounted, nextAt, closeAt, stepFrom, step}
+use borrow.Author.Tests.{eq-eqb, ne-eqb, eqb-true, eqb-false, lt-ltb, ltb-true, le-leb}
+use Rattle.list_laws.proofs.Lists.{map-append}
+use Rattle.sheet_format.specs.Limits.{most-variables, constant-end}
+use Rattle.sheet_format.specs.Line.{Line, all}
+use Rattle.sheet_format.specs.Cause.{orOut, isTerm, termOf, term}
+use Rattle.sheet_format.specs.declared.FieldTerm.{FieldTerm}
+use Rattle.sheet_format.specs.declared.FieldTerm.the-variants.{Constant, Variable}
+use Rattle.sheet_format.proofs.Lists.{no-way, true-false, and-left, and-right}
+use Rattle.text_begins.specs.Begins.{isBlank}
+use Rattle.text_writer.specs.Texts.{variableLetter, wordBytes, termBytes, following}
+use Rattle.text_writer.proofs.Parts.{letter-at}
+use Rattle.text_meaning.specs.Tokens.{kindOf, isInWord, joins, tokens}
+use Rattle.text_meaning.specs.Names.{sameBytes, noted, placeIn, numberOf, markOf}
+use Rattle.text_meaning.specs.Places.{termAt, moreAt, isCounted, nextAt, firstAt, closeAt, stepFrom, step}
 use Rattle.text_meaning.specs.Reading.{Reading, grown, fieldOf, read, run}
 use Rattle.text_meaning.specs.declared.Control.{Control}
 use Rattle.text_meaning.specs.declared.Mark.{Mark}
+use Rattle.text_laws.specs.Numbered.{placeOf, known, numberedTerm, knownAfter, numberedTerms, knownBehind}
+use Rattle.text_laws.proofs.Written.{Stops, GoOn, Digits, Shows, token-back, digit-kind, digits-go-on, number-shows, number-back}
 
--- a reading within brackets, at a place, where so many columns may still come
-abbrev pub within : ℕ → ℕ → ℕ → ℕ → ℕ → Bool → ℕ → List (List ℕ) → Line → List Line → List ℕ → Reading
-within place block kind relation left puts line names l ls starts = record {
-  control = record { place = place; block = block; kind = kind; relation = relation; left = left; bare = false; expected = 0; begins = false; puts = puts };
-  line = line;
-  names = names;
-  lines = l ∷ ls;
-  starts = starts;
-}
+-- ---- bytes that are read from somewhere on
 
--- a word that is a term: a number, or a variable
-pub record Term (w : List ℕ) : Type 0 where
-  pub is : (markOf w .kind ≡ 48) ⊎ (markOf w .kind ≡ 97)
-
--- the names after it
-abbrev pub namesBy : List ℕ → List (List ℕ) → List (List ℕ)
-namesBy w ns = cond (eqb (markOf w .kind) 97) (noted w ns) ns
-
--- words with a comma (44) between them
-abbrev pub commas : List ℕ → List (List ℕ) → List (List ℕ)
-commas w [] = w ∷ []
-commas w (v ∷ ws) = w ∷ (44 ∷ []) ∷ commas v ws
-
--- the fields of terms one after the other, and the names after them
-abbrev pub fieldsOf : List (List ℕ) → List (List ℕ) → List ℤ
-fieldsOf [] ns = []
-fieldsOf (w ∷ ws) ns = fieldOf (markOf w) w ns ∷ fieldsOf ws (namesBy w ns)
-
-abbrev pub namesOf : List (List ℕ) → List (List ℕ) → List (List ℕ)
-namesOf [] ns = ns
-namesOf (w ∷ ws) ns = namesOf ws (namesBy w ns)
-
-abbrev pub Terms : List (List ℕ) → Type 0
-Terms [] = Unit
-Terms (w ∷ ws) = Term w × Terms ws
+-- the rest of a text
+abbrev pub reads : Reading → List ℕ → Reading
+reads p s = run p (tokens s ++ ([] ∷ []))
 
 -- a token that fits leads on
-pub run-on : (p q : Reading) (w : List ℕ) (ws : List (List ℕ)) → read p w ≡ q → q .control .expected ≡ 0 → run p (w ∷ ws) ≡ run q ws
+run-on : (p q : Reading) (w : List ℕ) (ws : List (List ℕ)) → read p w ≡ q → q .control .expected ≡ 0 → run p (w ∷ ws) ≡ run q ws
 unfolding run
 run-on p q w ws e f = rw (e, eq-eqb (q .control .expected) 0 f)
 
-module _ (block kind relation line : ℕ) (ls : List Line) (starts : List ℕ) where
-  -- a term before which a comma or an atom's bracket stands
-  term-read : (left : ℕ) (puts : Bool) (ns : List (List ℕ)) (l : Line) (w : List ℕ) → Term w → length l < 6
-      → read (within 4 block kind relation left puts line ns l ls starts) w ≡ within 5 block kind relation (left - 1) true line (namesBy w ns) (l ++ (fieldOf (markOf w) w ns ∷ [])) ls starts
-  unfolding read step stepFrom termAt grown
-  term-read left puts ns l w t h = ⊎-elim number variable (t .is)
-    where
-      cut : (z : ℤ) → take 6 (l ++ (z ∷ [])) ≡ l ++ (z ∷ [])
-      cut z = take-all 6 (l ++ (z ∷ [])) (rw (length-append l (z ∷ [])) (omega arith))
-      number : markOf w .kind ≡ 48 → read (within 4 block kind relation left puts line ns l ls starts) w ≡ within 5 block kind relation (left - 1) true line (namesBy w ns) (l ++ (fieldOf (markOf w) w ns ∷ [])) ls starts
-      number e = rw (e, cut (pos (markOf w .value)))
-      variable : markOf w .kind ≡ 97 → read (within 4 block kind relation left puts line ns l ls starts) w ≡ within 5 block kind relation (left - 1) true line (namesBy w ns) (l ++ (fieldOf (markOf w) w ns ∷ [])) ls starts
-      variable e = rw (e, cut (negsuc (placeIn w ns)))
+pub word-on : (p q : Reading) (a : ℕ) (w s : List ℕ) → isBlank a ≡ false → GoOn (kindOf a) w → Stops (kindOf a) s → read p (a ∷ w) ≡ q → q .control .expected ≡ 0 → reads p ((a ∷ w) ++ s) ≡ reads q s
+word-on p q a w s b g k e f = ap (λ ts. run p (ts ++ ([] ∷ []))) (token-back a w s b g k) ∙ run-on p q (a ∷ w) (tokens s ++ ([] ∷ [])) e f
 
-  comma-read : (left : ℕ) (ns : List (List ℕ)) (l : Line) → 0 < left
-      → read (within 5 block kind relation left true line ns l ls starts) (44 ∷ []) ≡ within 4 block kind relation left false line ns l ls starts
-  unfolding read step stepFrom nextAt moreAt markOf kindOf
-  comma-read left ns l h = rw (lt-ltb 0 left h)
+no-join : (k : ℕ) (s : List ℕ) → ((n : ℕ) → joins k n ≡ false) → Stops k s
+no-join k [] h = tt
+no-join k (b ∷ s) h = h (kindOf b)
 
-  -- terms with commas between them, as many as may come
-  pub terms-run : (w : List ℕ) (ws rest : List (List ℕ)) (left : ℕ) (puts : Bool) (ns : List (List ℕ)) (l : Line)
-      → Term w → Terms ws → suc (length ws) ≤ left → length l + suc (length ws) ≤ 6
-      → run (within 4 block kind relation left puts line ns l ls starts) (commas w ws ++ rest)
-      ≡ run (within 5 block kind relation (left - suc (length ws)) true line (namesOf (w ∷ ws) ns) (l ++ fieldsOf (w ∷ ws) ns) ls starts) rest
-  terms-run w [] rest left puts ns l t ts h k = run-on _ _ w rest (term-read left puts ns l w t (omega arith)) refl
-  terms-run w (v ∷ ws) rest left puts ns l t ts h k =
-      let z = fieldOf (markOf w) w ns in
-      let n = length-append l (z ∷ []) in
-      let e : left - 1 - suc (length ws) ≡ left - suc (suc (length ws)) = omega arith in
-      run-on _ _ w ((44 ∷ []) ∷ (commas v ws ++ rest)) (term-read left puts ns l w t (omega arith)) refl
-      ∙ run-on _ _ (44 ∷ []) (commas v ws ++ rest) (comma-read (left - 1) (namesBy w ns) (l ++ (z ∷ [])) (omega arith)) refl
-      ∙ terms-run v ws rest (left - 1) false (namesBy w ns) (l ++ (z ∷ [])) (ts .0) (ts .1) (omega arith) (omega arith)
-      ∙ rw (e, append-assoc l (z ∷ []) (fieldsOf (v ∷ ws) (namesBy w ns)))
+-- a sign is a token by itself
+pub sign-on : (p q : Reading) (b : ℕ) (s : List ℕ) → isBlank b ≡ false → ((n : ℕ) → joins (kindOf b) n ≡ false) → read p (b ∷ []) ≡ q → q .control .expected ≡ 0 → reads p (b ∷ s) ≡ reads q s
+sign-on p q b s k h e f = word-on p q b [] s k tt (no-join (kindOf b) s h) e f
+
+-- and ends what comes before it
+pub ended : (k n : ℕ) → isInWord n ≡ false → joins k n ≡ false
+unfolding joins
+ended k n h = by (eqb k 97 || eqb k 65) (eqb k 48) (eqb n 97 || eqb n 65) (eqb n 48) h
+  where
+    by : (t u x v : Bool) → (x || v) ≡ false → cond t (x || v) (u && v) ≡ false
+    by true u x v e = e
+    by false false x v e = refl
+    by false true true v e = true-false e
+    by false true false v e = e
+
+-- ---- letters of variables
+
+abbrev pub letterFor : ℕ → List ℕ
+letterFor v = variableLetter (suc v) ∷ []
+
+abbrev pub letters : List ℕ → List (List ℕ)
+letters ks = map letterFor ks
+
+abbrev pub Below : List ℕ → Type 0
+Below [] = Unit
+Below (k ∷ ks) = (k < most-variables) × Below ks
+
+letter-is : (v : ℕ) → v < most-variables → variableLetter (suc v) ≡ 97 + v
+letter-is v h = sym (letter-at {i = suc v} (omega arith) (omega arith)) ∙ omega arith
+
+same-letter : (v k : ℕ) → v < most-variables → k < most-variables → sameBytes (letterFor v) (letterFor k) ≡ eqb v k
+unfolding sameBytes
+same-letter v k h l = rw (letter-is v h, letter-is k l) (by (eqb v k) refl)
+  where
+    by : (t : Bool) → eqb v k ≡ t → (eqb (97 + v) (97 + k) && true) ≡ eqb v k
+    by true e = let q = eqb-true v k e in rw (e, eq-eqb (97 + v) (97 + k) (omega arith))
+    by false e = let q = eqb-false v k e in rw (e, ne-eqb (97 + v) (97 + k) (λ i. q (omega arith)))
+
+place-letter : (v : ℕ) (ks : List ℕ) → v < most-variables → Below ks → placeIn (letterFor v) (letters ks) ≡ placeOf v ks
+unfolding placeIn placeOf
+place-letter v [] h b = refl
+place-letter v (k ∷ ks) h b = rw (same-letter v k h (b .0), place-letter v ks h (b .1))
+
+noted-letter : (v : ℕ) (ks : List ℕ) → v < most-variables → Below ks → noted (letterFor v) (letters ks) ≡ letters (known v ks)
+unfolding noted known
+noted-letter v ks h b = rw (place-letter v ks h b, length-map ks letterFor) (by (ltb (placeOf v ks) (length ks)) (leb most-variables (length ks)))
+  where
+    by : (t u : Bool) → cond t (letters ks) (cond u (letters ks) (letters ks ++ (letterFor v ∷ []))) ≡ letters (cond t ks (cond u ks (ks ++ (v ∷ []))))
+    by true u = refl
+    by false true = refl
+    by false false = sym (map-append letterFor ks (v ∷ []))
+
+below-more : (ks : List ℕ) (v : ℕ) → Below ks → v < most-variables → Below (ks ++ (v ∷ []))
+below-more [] v b h = (h, tt)
+below-more (k ∷ ks) v b h = (b .0, below-more ks v (b .1) h)
+
+known-below : (v : ℕ) (ks : List ℕ) → v < most-variables → Below ks → Below (known v ks)
+unfolding known
+known-below v ks h b = by (ltb (placeOf v ks) (length ks)) (leb most-variables (length ks))
+  where
+    by : (t u : Bool) → Below (cond t ks (cond u ks (ks ++ (v ∷ []))))
+    by true u = b
+    by false true = b
+    by false false = below-more ks v b h
+
+-- ---- a term
+
+-- the kind of a token that is a number or a variable
+abbrev pub termKind : ℤ → ℕ
+termKind (pos n) = 48
+termKind (negsuc v) = 97
+
+-- a term as a token, after the variables ks
+pub record Token (z : ℤ) (ks : List ℕ) : Type 0 where
+  pub first : ℕ
+  pub more : List ℕ
+  pub bytes : termBytes z ≡ first ∷ more
+  pub apart : isBlank first ≡ false
+  pub on : GoOn (kindOf first) more
+  pub kind : markOf (first ∷ more) .kind ≡ termKind z
+  pub is : (markOf (first ∷ more) .kind ≡ 48) ⊎ (markOf (first ∷ more) .kind ≡ 97)
+  pub field : fieldOf (markOf (first ∷ more)) (first ∷ more) (letters ks) ≡ numberedTerm ks z
+  pub names : cond (eqb (markOf (first ∷ more) .kind) 97) (noted (first ∷ more) (letters ks)) (letters ks) ≡ letters (knownAfter ks z)
+  pub below : Below (knownAfter ks z)
+
+not-blank : (a : ℕ) → 32 < a → isBlank a ≡ false
+not-blank a h = rw (ne-eqb a 32 (λ e. omega arith), ne-eqb a 9 (λ e. omega arith), ne-eqb a 13 (λ e. omega arith))
+
+number-token : (n : ℕ) (ks : List ℕ) → n < constant-end → Below ks → Token (pos n) ks
+unfolding markOf termBytes termOf
+number-token n ks h b = by (wordBytes (pos n)) refl (number-shows n (omega arith)) (number-back n (omega arith))
+  where
+    written : termBytes (pos n) ≡ wordBytes (pos n)
+    written = rw (lt-ltb n constant-end h)
+
+    by : (w : List ℕ) → wordBytes (pos n) ≡ w → Shows n w → numberOf w ≡ n → Token (pos n) ks
+    by [] e s v = absurd (let k = s .some in omega arith)
+    by (a ∷ w) e s v =
+        let k = digit-kind a (s .digits .0) (s .digits .1) in
+        record {
+          first = a;
+          more = w;
+          bytes = written ∙ e;
+          apart = not-blank a (let q = s .digits .0 in omega arith);
+          on = rw k (digits-go-on w (s .digits .2));
+          kind = k;
+          is = inl k;
+          field = rw (k, v);
+          names = rw k;
+          below = b;
+        }
+
+letter-kind : (v : ℕ) → v < most-variables → kindOf (variableLetter (suc v)) ≡ 97
+unfolding kindOf
+letter-kind v h = rw (letter-is v h, le-leb 97 (97 + v) (omega arith), le-leb (97 + v) 122 (omega arith))
+
+letter-token : (v : ℕ) (ks : List ℕ) → v < most-variables → Below ks → Token (negsuc v) ks
+unfolding markOf termBytes termOf
+letter-token v ks h b =
+    let k = letter-kind v h in
+    record {
+      first = variableLetter (suc v);
+      more = [];
+      bytes = rw (lt-ltb v most-variables h);
+      apart = not-blank (variableLetter (suc v)) (let e = letter-is v h in omega arith);
+      on = tt;
+      kind = k;
+      is = inr k;
+      field = rw k (ap negsuc (place-letter v ks h b));
+      names = rw k (noted-letter v ks h b);
+      below = known-below v ks h b;
+    }
+
+in-range : (t : Bool) (f : FieldTerm) → isTerm (orOut t f) ≡ true → t ≡ true
+in-range true f e = refl
+in-range false f e = no-way e
+
+-- every term in range is one
+pub term-token : (z : ℤ) (ks : List ℕ) → term z ≡ true → Below ks → Token z ks
+unfolding termOf
+term-token (pos n) ks e b = number-token n ks (ltb-true n constant-end (in-range (ltb n constant-end) (Constant n) e)) b
+term-token (negsuc v) ks e b = letter-token v ks (ltb-true v most-variables (in-range (ltb v most-variables) (Variable (suc v)) e)) b

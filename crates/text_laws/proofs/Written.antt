@@ -47,7 +47,7 @@ abbrev pub Digits : List ℕ → Type 0
 Digits [] = Unit
 Digits (b ∷ s) = (48 ≤ b) × (b < 58) × Digits s
 
-digit-kind : (b : ℕ) → 48 ≤ b → b < 58 → kindOf b ≡ 48
+pub digit-kind : (b : ℕ) → 48 ≤ b → b < 58 → kindOf b ≡ 48
 unfolding kindOf
 digit-kind b l h = rw (lt-leb 97 b (omega arith), lt-leb 65 b (omega arith), le-leb 48 b l, le-leb b 57 (omega arith))
 

@@ -2,20 +2,21 @@
 use mathlib.Core.Bool.{cond}
 use mathlib.Core.List.{List, [], _∷_, _++_}
 use Prim.Native.Nat.{ℕ, zero, suc}
-use lib.Dec.{eqb, ltb}
+use lib.Dec.{eqb, ltb, leb}
 use lib.IntN.{ℤ, pos, negsuc}
-use lib.ListN.{length}
+use lib.ListN.{length, take}
+use Rattle.sheet_format.specs.Limits.{most-variables}
 use Rattle.sheet_format.specs.Line.{Line}
-use Rattle.sheet_format.specs.Cause.{Kind, kind, isHead, isAtom}
+use Rattle.sheet_format.specs.Cause.{kind, rest, terms, isHead, isAtom}
 
 -- the place of a variable among those that came before it, from 0; their count where it is new
 unfoldable pub placeOf : ℕ → List ℕ → ℕ
 placeOf v [] = 0
 placeOf v (k ∷ ks) = cond (eqb v k) 0 (suc (placeOf v ks))
 
--- those that came before, and one more where it is new
+-- those that came before, and one more where it is new; they are never more than a block may have
 unfoldable pub known : ℕ → List ℕ → List ℕ
-known v ks = cond (ltb (placeOf v ks) (length ks)) ks (ks ++ (v ∷ []))
+known v ks = cond (ltb (placeOf v ks) (length ks)) ks (cond (leb most-variables (length ks)) ks (ks ++ (v ∷ [])))
 
 -- a term, and what is known after it
 abbrev pub numberedTerm : List ℕ → ℤ → ℤ
@@ -34,3 +35,19 @@ numberedTerms ks (z ∷ zs) = numberedTerm ks z ∷ numberedTerms (knownAfter ks
 unfoldable pub knownBehind : List ℕ → List ℤ → List ℕ
 knownBehind ks [] = ks
 knownBehind ks (z ∷ zs) = knownBehind (knownAfter ks z) zs
+
+-- a line's terms come after its kind, an atom's after its relation
+abbrev pub termsIn : Line → List ℤ
+termsIn l = cond (isAtom (kind l)) (terms l) (rest l)
+
+abbrev pub beforeTerms : Line → List ℤ
+beforeTerms l = take (cond (isAtom (kind l)) 2 1) l
+
+-- a block has variables of its own
+abbrev pub knownIn : List ℕ → Line → List ℕ
+knownIn ks l = cond (isHead (kind l)) [] ks
+
+-- lines one after the other
+unfoldable pub numberedLines : List ℕ → List Line → List Line
+numberedLines ks [] = []
+numberedLines ks (l ∷ ls) = (beforeTerms l ++ numberedTerms (knownIn ks l) (termsIn l)) ∷ numberedLines (knownBehind (knownIn ks l) (termsIn l)) ls
