@@ -1,25 +1,23 @@
 -- What is written in brackets is read into the line that it stands in.
 use mathlib.Core.Path.{_≡_, refl, sym, ap, _∙_}
-use mathlib.Core.Bool.{Bool, true, false, cond, _&&_, _||_}
+use mathlib.Core.Bool.{Bool, true, false, cond}
 use mathlib.Core.List.{List, [], _∷_, _++_, map, append-assoc, append-nil}
-use mathlib.Core.Logic.{_⊎_, inl, inr, ⊎-elim}
-use Prim.Native.Nat.{ℕ, zero, suc, _+_, _-_, _≤_, _<_}
+use mathlib.Core.Logic.{_⊎_, ⊎-elim}
+use Prim.Native.Nat.{ℕ, suc, _+_, _-_, _≤_, _<_}
 use native.Mathlib.Omega.{arith}
-use lib.Dec.{eqb, ltb, leb}
+use lib.Dec.{eqb, leb}
 use lib.IntN.{ℤ, pos, negsuc}
 use lib.ListN.{length, take, length-append}
 use lib.Seq.{take-all}
-use borrow.Author.Tests.{eq-eqb, lt-ltb}
+use borrow.Author.Tests.{lt-ltb}
 use Rattle.sheet_format.specs.Line.{Line, all}
 use Rattle.sheet_format.specs.Cause.{term}
 use Rattle.sheet_format.proofs.Lists.{and-left, and-right}
 use Rattle.text_writer.specs.Texts.{termBytes, following, separated, termsBytes}
 use Rattle.text_meaning.specs.Tokens.{kindOf, joins}
-use Rattle.text_meaning.specs.Names.{noted, placeIn, markOf, valueOf}
-use Rattle.text_meaning.specs.Places.{openAt, termAt, moreAt, isCounted, nextAt, firstAt, closedBy, closeAt, stepFrom, step}
-use Rattle.text_meaning.specs.Reading.{Reading, grown, fieldOf, read, run}
-use Rattle.text_meaning.specs.declared.Control.{Control}
-use Rattle.text_meaning.specs.declared.Mark.{Mark}
+use Rattle.text_meaning.specs.Names.{noted, placeIn, markOf}
+use Rattle.text_meaning.specs.Places.{termAt, moreAt, nextAt, firstAt, closedBy, closeAt, stepFrom, step}
+use Rattle.text_meaning.specs.Reading.{Reading, grown, fieldOf, read}
 use Rattle.text_laws.specs.Numbered.{numberedTerm, knownAfter, numberedTerms, knownBehind}
 use Rattle.text_laws.proofs.Terms.{reads, word-on, sign-on, ended, letters, Below, Token, term-token}
 

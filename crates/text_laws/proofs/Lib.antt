@@ -5,3 +5,7 @@ pub mod Written
 pub mod Terms
 pub mod Bracketed
 pub mod Lines
+pub mod Shown
+pub mod Follows
+pub mod ReadBack
+pub mod RoundTrip

@@ -1,14 +1,14 @@
 -- A head, an atom or a row, as it is written, is read into a line of its own.
 use mathlib.Core.Path.{_≡_, refl, sym, ap, _∙_}
-use mathlib.Core.Bool.{Bool, true, false, cond, _&&_, _||_}
-use mathlib.Core.List.{List, [], _∷_, _++_, map, append-assoc}
-use mathlib.Core.Logic.{_⊎_, inl, inr, ⊎-elim}
-use Prim.Native.Nat.{ℕ, zero, suc, _+_, _-_, _≤_, _<_}
+use mathlib.Core.Bool.{Bool, true, false, cond}
+use mathlib.Core.List.{List, [], _∷_, _++_, map}
+use mathlib.Core.Logic.{_⊎_, ⊎-elim}
+use Prim.Native.Nat.{ℕ, zero, suc, _-_, _≤_, _<_}
 use native.Mathlib.Omega.{arith}
-use lib.Dec.{eqb, ltb, leb}
+use lib.Dec.{eqb, ltb}
 use lib.IntN.{ℤ, pos, negsuc}
-use lib.ListN.{length, take}
-use borrow.Author.Tests.{eq-eqb, ne-eqb, lt-ltb, le-leb}
+use lib.ListN.{length}
+use borrow.Author.Tests.{eq-eqb, ne-eqb, le-leb}
 use Rattle.sheet_format.specs.Line.{Line, all}
 use Rattle.sheet_format.specs.Limits.{most-variables}
 use Rattle.sheet_format.specs.Cause.{orOut, isTerm, isConstant, termOf, term, constant}
@@ -24,10 +24,9 @@ use Rattle.text_meaning.specs.Names.{markOf, relationOf}
 use Rattle.text_meaning.specs.Places.{columnsIn, nextBlock, startAt, openAt, termAt, firstAt, closedBy, closeAt, colonAt, relationAt, atomEndAt, rowAt, rowsAt, rowEndAt, nextAt, stepFrom, step}
 use Rattle.text_meaning.specs.Reading.{Reading, fieldOf, grown, read, run}
 use Rattle.text_meaning.specs.declared.Control.{Control}
-use Rattle.text_meaning.specs.declared.Mark.{Mark}
 use Rattle.text_laws.specs.Numbered.{numberedTerm, numberedTerms, knownBehind}
 use Rattle.text_laws.proofs.Written.{GoOn, relation-back}
-use Rattle.text_laws.proofs.Terms.{reads, word-on, sign-on, ended, letters, Below, termKind, Token, term-token}
+use Rattle.text_laws.proofs.Terms.{reads, word-on, sign-on, ended, letters, Below, termKind, term-token}
 use Rattle.text_laws.proofs.Bracketed.{within, head-run, atom-run, brackets}
 
 -- a reading at a place between lines; of where it stood before only the block counts
@@ -212,7 +211,7 @@ rowValues (z ∷ []) = termBytes z
 rowValues (z ∷ y ∷ zs) = termsBytes (z ∷ y ∷ zs)
 
 -- constants stay as they are
-constants-kept : (zs : List ℤ) (ks : List ℕ) → all constant zs ≡ true → (numberedTerms ks zs ≡ zs) × (knownBehind ks zs ≡ ks)
+pub constants-kept : (zs : List ℤ) (ks : List ℕ) → all constant zs ≡ true → (numberedTerms ks zs ≡ zs) × (knownBehind ks zs ≡ ks)
 unfolding numberedTerms knownBehind termOf
 constants-kept [] ks e = (refl, refl)
 constants-kept (pos n ∷ zs) ks e = let r = constants-kept zs ks (and-right (constant (pos n)) (all constant zs) e) in (ap (λ x. pos n ∷ x) (r .0), r .1)

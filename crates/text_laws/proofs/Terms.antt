@@ -1,33 +1,29 @@
 -- Terms in brackets, as they are written, are read one after the other, with their variables numbered by first place.
 use mathlib.Core.Path.{_≡_, refl, sym, ap, _∙_}
 use mathlib.Core.Bool.{Bool, true, false, cond, _&&_, _||_}
-use mathlib.Core.List.{List, [], _∷_, _++_, map, append-assoc}
-use mathlib.Core.Logic.{_⊎_, inl, inr, ⊎-elim}
-use Prim.Native.Nat.{ℕ, zero, suc, _+_, _-_, _≤_, _<_}
+use mathlib.Core.List.{List, [], _∷_, _++_, map}
+use mathlib.Core.Logic.{_⊎_, inl, inr}
+use Prim.Native.Nat.{ℕ, suc, _+_, _<_}
 use native.Mathlib.Omega.{arith}
 use lib.Dec.{eqb, ltb, leb}
 use lib.IntN.{ℤ, pos, negsuc}
-use lib.ListN.{length, take, length-append, length-map}
-use lib.Seq.{take-all}
+use lib.ListN.{length, length-map}
 use borrow.Author.Tests.{eq-eqb, ne-eqb, eqb-true, eqb-false, lt-ltb, ltb-true, le-leb}
 use Rattle.list_laws.proofs.Lists.{map-append}
 use Rattle.sheet_format.specs.Limits.{most-variables, constant-end}
-use Rattle.sheet_format.specs.Line.{Line, all}
+use Rattle.sheet_format.specs.Line.{all}
 use Rattle.sheet_format.specs.Cause.{orOut, isTerm, termOf, term}
 use Rattle.sheet_format.specs.declared.FieldTerm.{FieldTerm}
 use Rattle.sheet_format.specs.declared.FieldTerm.the-variants.{Constant, Variable}
 use Rattle.sheet_format.proofs.Lists.{no-way, true-false, and-left, and-right}
 use Rattle.text_begins.specs.Begins.{isBlank}
-use Rattle.text_writer.specs.Texts.{variableLetter, wordBytes, termBytes, following}
+use Rattle.text_writer.specs.Texts.{variableLetter, wordBytes, termBytes}
 use Rattle.text_writer.proofs.Parts.{letter-at}
 use Rattle.text_meaning.specs.Tokens.{kindOf, isInWord, joins, tokens}
 use Rattle.text_meaning.specs.Names.{sameBytes, noted, placeIn, numberOf, markOf}
-use Rattle.text_meaning.specs.Places.{termAt, moreAt, isCounted, nextAt, firstAt, closeAt, stepFrom, step}
-use Rattle.text_meaning.specs.Reading.{Reading, grown, fieldOf, read, run}
-use Rattle.text_meaning.specs.declared.Control.{Control}
-use Rattle.text_meaning.specs.declared.Mark.{Mark}
-use Rattle.text_laws.specs.Numbered.{placeOf, known, numberedTerm, knownAfter, numberedTerms, knownBehind}
-use Rattle.text_laws.proofs.Written.{Stops, GoOn, Digits, Shows, token-back, digit-kind, digits-go-on, number-shows, number-back}
+use Rattle.text_meaning.specs.Reading.{Reading, fieldOf, read, run}
+use Rattle.text_laws.specs.Numbered.{placeOf, known, numberedTerm, knownAfter, knownBehind}
+use Rattle.text_laws.proofs.Written.{Stops, GoOn, Shows, token-back, digit-kind, digits-go-on, number-shows, number-back}
 
 -- ---- bytes that are read from somewhere on
 
@@ -161,7 +157,7 @@ number-token n ks h b = by (wordBytes (pos n)) refl (number-shows n (omega arith
 
 letter-kind : (v : ℕ) → v < most-variables → kindOf (variableLetter (suc v)) ≡ 97
 unfolding kindOf
-letter-kind v h = rw (letter-is v h, le-leb 97 (97 + v) (omega arith), le-leb (97 + v) 122 (omega arith))
+letter-kind v h = rw (letter-is v h, le-leb 97 (97 + v) (omega arith), le-leb (97 + v) (96 + 26) (omega arith))
 
 letter-token : (v : ℕ) (ks : List ℕ) → v < most-variables → Below ks → Token (negsuc v) ks
 unfolding markOf termBytes termOf
@@ -189,3 +185,9 @@ pub term-token : (z : ℤ) (ks : List ℕ) → term z ≡ true → Below ks → 
 unfolding termOf
 term-token (pos n) ks e b = number-token n ks (ltb-true n constant-end (in-range (ltb n constant-end) (Constant n) e)) b
 term-token (negsuc v) ks e b = letter-token v ks (ltb-true v most-variables (in-range (ltb v most-variables) (Variable (suc v)) e)) b
+
+-- all variables stay in range
+pub terms-below : (zs : List ℤ) (ks : List ℕ) → all term zs ≡ true → Below ks → Below (knownBehind ks zs)
+unfolding knownBehind
+terms-below [] ks e b = b
+terms-below (z ∷ zs) ks e b = terms-below zs (knownAfter ks z) (and-right (term z) (all term zs) e) (term-token z ks (and-left (term z) (all term zs) e) b .below)

@@ -1,12 +1,13 @@
 -- The lines of a sheet with the variables of each block numbered by first place.
+use mathlib.Core.Path.{_≡_}
 use mathlib.Core.Bool.{cond}
 use mathlib.Core.List.{List, [], _∷_, _++_}
-use Prim.Native.Nat.{ℕ, zero, suc}
+use Prim.Native.Nat.{ℕ, suc}
 use lib.Dec.{eqb, ltb, leb}
 use lib.IntN.{ℤ, pos, negsuc}
 use lib.ListN.{length, take}
 use Rattle.sheet_format.specs.Limits.{most-variables}
-use Rattle.sheet_format.specs.Line.{Line}
+use Rattle.sheet_format.specs.Line.{Line, byteLines}
 use Rattle.sheet_format.specs.Cause.{kind, rest, terms, isHead, isAtom}
 
 -- the place of a variable among those that came before it, from 0; their count where it is new
@@ -51,3 +52,7 @@ knownIn ks l = cond (isHead (kind l)) [] ks
 unfoldable pub numberedLines : List ℕ → List Line → List Line
 numberedLines ks [] = []
 numberedLines ks (l ∷ ls) = (beforeTerms l ++ numberedTerms (knownIn ks l) (termsIn l)) ∷ numberedLines (knownBehind (knownIn ks l) (termsIn l)) ls
+
+-- a sheet whose variables are numbered so
+abbrev pub ByFirstPlace : List ℕ → Type 0
+ByFirstPlace s = numberedLines [] (byteLines s) ≡ byteLines s

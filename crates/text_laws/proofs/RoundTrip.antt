@@ -1,0 +1,64 @@
+-- The text of an accepted sheet has that sheet again, with the variables of each block numbered by first place.
+use mathlib.Core.Path.{_≡_, ap, _∙_}
+use mathlib.Core.List.{List, []}
+use Prim.Native.Nat.{ℕ, _%_, _≤_}
+use native.Mathlib.Omega.{arith}
+use lib.ListN.{length}
+use borrow.Author.Tests.{eq-eqb, le-ltb}
+use Rattle.sheet_format.specs.Limits.{most-words, most-bytes, line-words}
+use Rattle.sheet_format.specs.Line.{Line, byteLines, bytesOf, wordsOf}
+use Rattle.sheet_format.specs.Cause.{refusalOf}
+use Rattle.sheet_format.specs.Sheet.{sheetRefusal, wordsRefusal, writeEnding}
+use Rattle.sheet_format.specs.declared.Ending.the-variants.{Done}
+use Rattle.sheet_format.proofs.Good.{Goods}
+use Rattle.sheet_format.proofs.LineLaws.{words-back, all-words-length, bytes-good, bytes-shown}
+use Rattle.sheet_format.proofs.ScanLaws.{accepted-lines, accepted-length}
+use Rattle.sheet_format.proofs.RoundTrip.{ending-is, bytes-clean}
+use Rattle.text_begins.specs.Begins.{most-text}
+use Rattle.text_from_sheet.specs.Shown.{textOf}
+use Rattle.text_from_sheet.proofs.Calls.{text-fits}
+use Rattle.text_to_sheet.specs.Texts.{madeBy, madeOf, sheetBytes}
+use Rattle.text_to_sheet.specs.declared.Made.the-variants as made
+use Rattle.text_meaning.specs.Reading.{readingOf, formOf}
+use Rattle.text_laws.specs.Numbered.{numberedLines, ByFirstPlace}
+use Rattle.text_laws.proofs.Sound.{form-lines}
+use Rattle.text_laws.proofs.Shown.{lines-shown}
+use Rattle.text_laws.proofs.ReadBack.{Ends, start-run}
+
+-- all of the text is understood, and its lines are the sheet's, numbered
+pub text-back : (s : List ℕ) → sheetRefusal s .number ≡ 0 → Ends (readingOf (textOf s)) (numberedLines [] (byteLines s))
+unfolding readingOf textOf
+text-back s e =
+    let r = start-run (byteLines s) (bytes-clean s e) in
+    rw (lines-shown (byteLines s) (bytes-good s)) r
+
+-- its sheet is the one that is numbered by first place
+pub numbered-back : (s : List ℕ) → sheetRefusal s .number ≡ 0 → sheetBytes (textOf s) ≡ bytesOf (numberedLines [] (byteLines s))
+unfolding sheetBytes
+numbered-back s e = ap bytesOf (form-lines (textOf s) ∙ text-back s e .lines)
+
+-- what is written from the words of accepted lines
+words-written : (ls : List Line) → Goods ls → refusalOf ls .number ≡ 0 → (room : ℕ) → most-bytes ≤ room → writeEnding (wordsOf ls) room ≡ Done (length (bytesOf ls))
+unfolding writeEnding wordsRefusal
+words-written ls g e room le =
+    let b = words-back ls g in
+    let n = accepted-length ls e in
+    let m = all-words-length ls g in
+    rw (le-ltb most-words (length (wordsOf ls)) (omega arith), eq-eqb (length (wordsOf ls) % line-words) 0 (omega arith), b) (ending-is (refusalOf ls) room most-bytes (length (bytesOf ls)) e le)
+
+module _ (s : List ℕ) (e : sheetRefusal s .number ≡ 0) (n : ByFirstPlace s) where
+  -- a sheet that is numbered so is given back byte for byte
+  pub sheet-back : sheetBytes (textOf s) ≡ s
+  sheet-back = numbered-back s e ∙ ap bytesOf n ∙ bytes-shown s (accepted-lines (byteLines s) (bytes-clean s e))
+
+  -- and it is what sheet_of makes of the text, in any room that a sheet wants
+  pub made-back : (room : ℕ) → most-bytes ≤ room → madeOf (textOf s) room ≡ made.Sheet (length s)
+  unfolding madeOf formOf
+  made-back room h =
+      let t = text-back s e in
+      let f = text-fits s e in
+      let w : writeEnding (formOf (readingOf (textOf s))) room ≡ Done (length s) =
+      ap (λ ls. writeEnding (wordsOf ls) room) (t .lines ∙ n)
+      ∙ words-written (byteLines s) (bytes-good s) (bytes-clean s e) room h
+      ∙ ap (λ x. Done (length x)) (bytes-shown s (accepted-lines (byteLines s) (bytes-clean s e))) in
+      rw (le-ltb most-text (length (textOf s)) (omega arith), eq-eqb (readingOf (textOf s) .control .expected) 0 (t .fits)) (ap (madeBy (readingOf (textOf s))) w)
