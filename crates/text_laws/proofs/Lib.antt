@@ -2,6 +2,7 @@ pub mod Sound
 pub mod Example
 pub mod Whole
 pub mod Written
+pub mod Few
 pub mod Terms
 pub mod Bracketed
 pub mod Lines

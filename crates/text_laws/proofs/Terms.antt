@@ -3,12 +3,12 @@ use mathlib.Core.Path.{_≡_, refl, sym, ap, _∙_}
 use mathlib.Core.Bool.{Bool, true, false, cond, _&&_, _||_}
 use mathlib.Core.List.{List, [], _∷_, _++_, map}
 use mathlib.Core.Logic.{_⊎_, inl, inr}
-use Prim.Native.Nat.{ℕ, suc, _+_, _<_}
+use Prim.Native.Nat.{ℕ, suc, _+_, _≤_, _<_}
 use native.Mathlib.Omega.{arith}
 use lib.Dec.{eqb, ltb, leb}
 use lib.IntN.{ℤ, pos, negsuc}
 use lib.ListN.{length, length-map}
-use borrow.Author.Tests.{eq-eqb, ne-eqb, eqb-true, eqb-false, lt-ltb, ltb-true, le-leb}
+use borrow.Author.Tests.{eq-eqb, ne-eqb, eqb-true, eqb-false, lt-ltb, ltb-true, ltb-false, le-leb, lt-leb}
 use Rattle.list_laws.proofs.Lists.{map-append}
 use Rattle.sheet_format.specs.Limits.{most-variables, constant-end}
 use Rattle.sheet_format.specs.Line.{all}
@@ -23,6 +23,7 @@ use Rattle.text_meaning.specs.Tokens.{kindOf, isInWord, joins, tokens}
 use Rattle.text_meaning.specs.Names.{sameBytes, noted, placeIn, numberOf, markOf}
 use Rattle.text_meaning.specs.Reading.{Reading, fieldOf, read, run}
 use Rattle.text_laws.specs.Numbered.{placeOf, known, numberedTerm, knownAfter, knownBehind}
+use Rattle.text_laws.proofs.Few.{Fresh, Different, different-more, few}
 use Rattle.text_laws.proofs.Written.{Stops, GoOn, Shows, token-back, digit-kind, digits-go-on, number-shows, number-back}
 
 -- ---- bytes that are read from somewhere on
@@ -66,9 +67,9 @@ letterFor v = variableLetter (suc v) ∷ []
 abbrev pub letters : List ℕ → List (List ℕ)
 letters ks = map letterFor ks
 
+-- variables of a block, each but once
 abbrev pub Below : List ℕ → Type 0
-Below [] = Unit
-Below (k ∷ ks) = (k < most-variables) × Below ks
+Below ks = Different most-variables ks
 
 letter-is : (v : ℕ) → v < most-variables → variableLetter (suc v) ≡ 97 + v
 letter-is v h = sym (letter-at {i = suc v} (omega arith) (omega arith)) ∙ omega arith
@@ -84,29 +85,35 @@ same-letter v k h l = rw (letter-is v h, letter-is k l) (by (eqb v k) refl)
 place-letter : (v : ℕ) (ks : List ℕ) → v < most-variables → Below ks → placeIn (letterFor v) (letters ks) ≡ placeOf v ks
 unfolding placeIn placeOf
 place-letter v [] h b = refl
-place-letter v (k ∷ ks) h b = rw (same-letter v k h (b .0), place-letter v ks h (b .1))
+place-letter v (k ∷ ks) h b = rw (same-letter v k h (b .0), place-letter v ks h (b .2))
+
+-- a new one is none of them
+new-fresh : (v : ℕ) (ks : List ℕ) → length ks ≤ placeOf v ks → Fresh v ks
+unfolding placeOf
+new-fresh v [] h = tt
+new-fresh v (k ∷ ks) h = by (eqb v k) refl h (new-fresh v ks)
+  where
+    by : (t : Bool) → eqb v k ≡ t → suc (length ks) ≤ cond t 0 (suc (placeOf v ks)) → (length ks ≤ placeOf v ks → Fresh v ks) → Fresh v (k ∷ ks)
+    by true e h r = absurd (omega arith)
+    by false e h r = (eqb-false v k e, r (omega arith))
 
 noted-letter : (v : ℕ) (ks : List ℕ) → v < most-variables → Below ks → noted (letterFor v) (letters ks) ≡ letters (known v ks)
 unfolding noted known
-noted-letter v ks h b = rw (place-letter v ks h b, length-map ks letterFor) (by (ltb (placeOf v ks) (length ks)) (leb most-variables (length ks)))
+noted-letter v ks h b = rw (place-letter v ks h b, length-map ks letterFor) (by (ltb (placeOf v ks) (length ks)) refl)
   where
-    by : (t u : Bool) → cond t (letters ks) (cond u (letters ks) (letters ks ++ (letterFor v ∷ []))) ≡ letters (cond t ks (cond u ks (ks ++ (v ∷ []))))
-    by true u = refl
-    by false true = refl
-    by false false = sym (map-append letterFor ks (v ∷ []))
-
-below-more : (ks : List ℕ) (v : ℕ) → Below ks → v < most-variables → Below (ks ++ (v ∷ []))
-below-more [] v b h = (h, tt)
-below-more (k ∷ ks) v b h = (b .0, below-more ks v (b .1) h)
+    by : (t : Bool) → ltb (placeOf v ks) (length ks) ≡ t → cond t (letters ks) (cond (leb most-variables (length ks)) (letters ks) (letters ks ++ (letterFor v ∷ []))) ≡ letters (cond t ks (ks ++ (v ∷ [])))
+    by true e = refl
+    by false e =
+        let l = few most-variables (v ∷ ks) (h, new-fresh v ks (ltb-false (placeOf v ks) (length ks) e), b) in
+        rw (lt-leb most-variables (length ks) (omega arith)) (sym (map-append letterFor ks (v ∷ [])))
 
 known-below : (v : ℕ) (ks : List ℕ) → v < most-variables → Below ks → Below (known v ks)
 unfolding known
-known-below v ks h b = by (ltb (placeOf v ks) (length ks)) (leb most-variables (length ks))
+known-below v ks h b = by (ltb (placeOf v ks) (length ks)) refl
   where
-    by : (t u : Bool) → Below (cond t ks (cond u ks (ks ++ (v ∷ []))))
-    by true u = b
-    by false true = b
-    by false false = below-more ks v b h
+    by : (t : Bool) → ltb (placeOf v ks) (length ks) ≡ t → Below (cond t ks (ks ++ (v ∷ [])))
+    by true e = b
+    by false e = different-more most-variables v ks b (new-fresh v ks (ltb-false (placeOf v ks) (length ks) e)) h
 
 -- ---- a term
 

@@ -3,10 +3,9 @@ use mathlib.Core.Path.{_≡_}
 use mathlib.Core.Bool.{cond}
 use mathlib.Core.List.{List, [], _∷_, _++_}
 use Prim.Native.Nat.{ℕ, suc}
-use lib.Dec.{eqb, ltb, leb}
+use lib.Dec.{eqb, ltb}
 use lib.IntN.{ℤ, pos, negsuc}
 use lib.ListN.{length, take}
-use Rattle.sheet_format.specs.Limits.{most-variables}
 use Rattle.sheet_format.specs.Line.{Line, byteLines}
 use Rattle.sheet_format.specs.Cause.{kind, rest, terms, isHead, isAtom}
 
@@ -15,9 +14,9 @@ unfoldable pub placeOf : ℕ → List ℕ → ℕ
 placeOf v [] = 0
 placeOf v (k ∷ ks) = cond (eqb v k) 0 (suc (placeOf v ks))
 
--- those that came before, and one more where it is new; they are never more than a block may have
+-- those that came before, and one more where it is new
 unfoldable pub known : ℕ → List ℕ → List ℕ
-known v ks = cond (ltb (placeOf v ks) (length ks)) ks (cond (leb most-variables (length ks)) ks (ks ++ (v ∷ [])))
+known v ks = cond (ltb (placeOf v ks) (length ks)) ks (ks ++ (v ∷ []))
 
 -- a term, and what is known after it
 abbrev pub numberedTerm : List ℕ → ℤ → ℤ
