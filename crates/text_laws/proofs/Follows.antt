@@ -43,7 +43,7 @@ pub kind-shown : (k : ℕ) (zs : List ℤ) → ltb 6 k ≡ false → lineKind (l
 unfolding lineWords
 kind-shown k zs e = rw e
 
-four : (n : ℕ) → isAtom (kindAt n) ≡ true → n ≡ 4
+pub four : (n : ℕ) → isAtom (kindAt n) ≡ true → n ≡ 4
 four n h = by (eqb n 1) (eqb n 2) (eqb n 3) (eqb n 4) (eqb n 5) refl h
   where
     by : (a b c d e : Bool) → eqb n 4 ≡ d → isAtom (cond a question (cond b saved (cond c view (cond d atom (cond e row other))))) ≡ true → n ≡ 4

@@ -9,4 +9,6 @@ pub mod Lines
 pub mod Shown
 pub mod Follows
 pub mod ReadBack
+pub mod Bound
+pub mod Accepted
 pub mod RoundTrip

@@ -1,5 +1,5 @@
 -- The text of an accepted sheet has that sheet again, with the variables of each block numbered by first place.
-use mathlib.Core.Path.{_≡_, ap, _∙_}
+use mathlib.Core.Path.{_≡_, ap, _∙_, subst}
 use mathlib.Core.List.{List, []}
 use Prim.Native.Nat.{ℕ, _%_, _≤_}
 use native.Mathlib.Omega.{arith}
@@ -21,8 +21,9 @@ use Rattle.text_to_sheet.specs.Texts.{madeBy, madeOf, sheetBytes}
 use Rattle.text_to_sheet.specs.declared.Made.the-variants as made
 use Rattle.text_meaning.specs.Reading.{readingOf, formOf}
 use Rattle.text_laws.specs.Numbered.{numberedLines, ByFirstPlace}
-use Rattle.text_laws.proofs.Sound.{form-lines}
+use Rattle.text_laws.proofs.Sound.{text-sound, goods-back, form-lines}
 use Rattle.text_laws.proofs.Shown.{lines-shown}
+use Rattle.text_laws.proofs.Accepted.{numbered-accepted}
 use Rattle.text_laws.proofs.ReadBack.{Ends, start-run}
 
 -- all of the text is understood, and its lines are the sheet's, numbered
@@ -46,19 +47,28 @@ words-written ls g e room le =
     let m = all-words-length ls g in
     rw (le-ltb most-words (length (wordsOf ls)) (omega arith), eq-eqb (length (wordsOf ls) % line-words) 0 (omega arith), b) (ending-is (refusalOf ls) room most-bytes (length (bytesOf ls)) e le)
 
-module _ (s : List ℕ) (e : sheetRefusal s .number ≡ 0) (n : ByFirstPlace s) where
-  -- a sheet that is numbered so is given back byte for byte
-  pub sheet-back : sheetBytes (textOf s) ≡ s
-  sheet-back = numbered-back s e ∙ ap bytesOf n ∙ bytes-shown s (accepted-lines (byteLines s) (bytes-clean s e))
+module _ (s : List ℕ) (e : sheetRefusal s .number ≡ 0) where
+  abbrev numbered : List Line
+  numbered = numberedLines [] (byteLines s)
 
   -- and it is what sheet_of makes of the text, in any room that a sheet wants
-  pub made-back : (room : ℕ) → most-bytes ≤ room → madeOf (textOf s) room ≡ made.Sheet (length s)
+  pub numbered-made : (room : ℕ) → most-bytes ≤ room → madeOf (textOf s) room ≡ made.Sheet (length (bytesOf numbered))
   unfolding madeOf formOf
-  made-back room h =
+  numbered-made room h =
       let t = text-back s e in
       let f = text-fits s e in
-      let w : writeEnding (formOf (readingOf (textOf s))) room ≡ Done (length s) =
-      ap (λ ls. writeEnding (wordsOf ls) room) (t .lines ∙ n)
-      ∙ words-written (byteLines s) (bytes-good s) (bytes-clean s e) room h
-      ∙ ap (λ x. Done (length x)) (bytes-shown s (accepted-lines (byteLines s) (bytes-clean s e))) in
+      let g : Goods numbered = subst Goods (t .lines) (goods-back (readingOf (textOf s) .lines) (text-sound (textOf s) .lines)) in
+      let w : writeEnding (formOf (readingOf (textOf s))) room ≡ Done (length (bytesOf numbered)) =
+      ap (λ ls. writeEnding (wordsOf ls) room) (t .lines) ∙ words-written numbered g (numbered-accepted (byteLines s) (bytes-clean s e)) room h in
       rw (le-ltb most-text (length (textOf s)) (omega arith), eq-eqb (readingOf (textOf s) .control .expected) 0 (t .fits)) (ap (madeBy (readingOf (textOf s))) w)
+
+  -- a sheet that is numbered so is given back byte for byte
+  module _ (n : ByFirstPlace s) where
+    same-bytes : bytesOf numbered ≡ s
+    same-bytes = ap bytesOf n ∙ bytes-shown s (accepted-lines (byteLines s) (bytes-clean s e))
+
+    pub sheet-back : sheetBytes (textOf s) ≡ s
+    sheet-back = numbered-back s e ∙ same-bytes
+
+    pub made-back : (room : ℕ) → most-bytes ≤ room → madeOf (textOf s) room ≡ made.Sheet (length s)
+    made-back room h = numbered-made room h ∙ ap (λ x. made.Sheet (length x)) same-bytes

@@ -99,7 +99,7 @@ goods-more : (ls : List Line) (l : Line) → Goods ls → FittingLine l → Good
 goods-more [] l g f = (f, tt)
 goods-more (m ∷ ls) l g f = (g .0, goods-more ls l (g .1) f)
 
-goods-back : (ls : List Line) → Goods ls → Goods (reverse ls)
+pub goods-back : (ls : List Line) → Goods ls → Goods (reverse ls)
 goods-back [] g = tt
 goods-back (l ∷ ls) g = rw (reverse-cons l ls) (goods-more (reverse ls) l (goods-back ls (g .1)) (g .0))
 

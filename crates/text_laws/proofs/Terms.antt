@@ -88,7 +88,7 @@ place-letter v [] h b = refl
 place-letter v (k ∷ ks) h b = rw (same-letter v k h (b .0), place-letter v ks h (b .2))
 
 -- a new one is none of them
-new-fresh : (v : ℕ) (ks : List ℕ) → length ks ≤ placeOf v ks → Fresh v ks
+pub new-fresh : (v : ℕ) (ks : List ℕ) → length ks ≤ placeOf v ks → Fresh v ks
 unfolding placeOf
 new-fresh v [] h = tt
 new-fresh v (k ∷ ks) h = by (eqb v k) refl h (new-fresh v ks)
@@ -183,7 +183,7 @@ letter-token v ks h b =
       below = known-below v ks h b;
     }
 
-in-range : (t : Bool) (f : FieldTerm) → isTerm (orOut t f) ≡ true → t ≡ true
+pub in-range : (t : Bool) (f : FieldTerm) → isTerm (orOut t f) ≡ true → t ≡ true
 in-range true f e = refl
 in-range false f e = no-way e
 
