@@ -12,3 +12,5 @@ pub mod ReadBack
 pub mod Bound
 pub mod Accepted
 pub mod RoundTrip
+pub mod Means
+pub mod Judged
