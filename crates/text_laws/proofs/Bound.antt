@@ -22,7 +22,7 @@ record Knows (v p : ℕ) (ks : List ℕ) : Type 0 where
   place : placeOf v ks ≡ p
   inside : p < length ks
 
-place-stays : (v : ℕ) (ks xs : List ℕ) → placeOf v ks < length ks → placeOf v (ks ++ xs) ≡ placeOf v ks
+pub place-stays : (v : ℕ) (ks xs : List ℕ) → placeOf v ks < length ks → placeOf v (ks ++ xs) ≡ placeOf v ks
 unfolding placeOf
 place-stays v [] xs h = absurd (omega arith)
 place-stays v (k ∷ ks) xs h = by (eqb v k) h (place-stays v ks xs)
@@ -31,7 +31,7 @@ place-stays v (k ∷ ks) xs h = by (eqb v k) h (place-stays v ks xs)
     by true h r = refl
     by false h r = ap suc (r (omega arith))
 
-place-new : (v : ℕ) (ks : List ℕ) → placeOf v (ks ++ (v ∷ [])) ≡ placeOf v ks
+pub place-new : (v : ℕ) (ks : List ℕ) → placeOf v (ks ++ (v ∷ [])) ≡ placeOf v ks
 unfolding placeOf
 place-new v [] = rw (eq-eqb v v refl)
 place-new v (k ∷ ks) = ap (λ n. cond (eqb v k) 0 (suc n)) (place-new v ks)

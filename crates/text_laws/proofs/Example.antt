@@ -1,13 +1,15 @@
--- Worked examples of the definition: a block and the lines of its number form, and a text that is not understood.
+-- Worked examples of the definitions: a block and the lines of its number form, a text that is not understood, and numbering by first place.
 use mathlib.Core.Path.{_≡_, refl}
 use mathlib.Core.List.{List, [], _∷_, reverse}
 use Prim.Native.Nat.{ℕ}
 use lib.IntN.{ℤ, pos, negsuc}
+use Rattle.sheet_format.specs.Cause.{kindOf as lineKind}
 use Rattle.text_buffer.specs.Words.{bytes}
 use Rattle.text_meaning.specs.Tokens.{kindOf, joins, goesOn, behind, tokens}
 use Rattle.text_meaning.specs.Names.{sameBytes, longer, numberFrom, among, relationOf, placeIn, noted, markOf}
 use Rattle.text_meaning.specs.Places.{columnsIn, nextBlock, startAt, commentAt, openAt, termAt, moreAt, closedBy, closeAt, firstAt, rowEndAt, nextAt, colonAt, relationAt, atomEndAt, rowAt, rowsAt, stepFrom, step}
 use Rattle.text_meaning.specs.Reading.{Reading, grown, read, run, readingOf}
+use Rattle.text_laws.specs.Numbered.{placeOf, known, numberedTerms, knownBehind, numberedLines}
 
 -- a question is taken apart into words, numbers and signs
 pub question-tokens : tokens (bytes "q(s,7): Sig(s,7)") ≡ bytes "q" ∷ bytes "(" ∷ bytes "s" ∷ bytes "," ∷ bytes "7" ∷ bytes ")" ∷ bytes ":" ∷ bytes "Sig" ∷ bytes "(" ∷ bytes "s" ∷ bytes "," ∷ bytes "7" ∷ bytes ")" ∷ []
@@ -23,3 +25,8 @@ block-lines = refl
 pub open-bracket : (readingOf (bytes "#\nq(s") .control .expected ≡ 7) × (readingOf (bytes "#\nq(s") .line ≡ 2)
 unfolding behind goesOn joins kindOf sameBytes longer numberFrom among relationOf placeIn noted markOf columnsIn nextBlock startAt commentAt openAt termAt moreAt closedBy closeAt firstAt rowEndAt nextAt colonAt relationAt atomEndAt rowAt rowsAt stepFrom step grown read run readingOf
 open-bracket = (refl, refl)
+
+-- a head's variables -3 and -1 are the first and the second of their block, also where its atom has them the other way round
+pub numbered-block : numberedLines [] ((pos 1 ∷ negsuc 2 ∷ negsuc 0 ∷ []) ∷ (pos 4 ∷ pos 4 ∷ negsuc 0 ∷ negsuc 2 ∷ []) ∷ []) ≡ (pos 1 ∷ negsuc 0 ∷ negsuc 1 ∷ []) ∷ (pos 4 ∷ pos 4 ∷ negsuc 1 ∷ negsuc 0 ∷ []) ∷ []
+unfolding lineKind placeOf known numberedTerms knownBehind numberedLines
+numbered-block = refl

@@ -11,6 +11,7 @@ pub mod Follows
 pub mod ReadBack
 pub mod Bound
 pub mod Accepted
+pub mod Again
 pub mod RoundTrip
 pub mod Means
 pub mod Judged

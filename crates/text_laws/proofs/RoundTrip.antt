@@ -11,7 +11,7 @@ use Rattle.sheet_format.specs.Cause.{refusalOf}
 use Rattle.sheet_format.specs.Sheet.{sheetRefusal, wordsRefusal, writeEnding}
 use Rattle.sheet_format.specs.declared.Ending.the-variants.{Done}
 use Rattle.sheet_format.proofs.Good.{Goods}
-use Rattle.sheet_format.proofs.LineLaws.{words-back, all-words-length, bytes-good, bytes-shown}
+use Rattle.sheet_format.proofs.LineLaws.{words-back, bytes-back, all-words-length, bytes-good, bytes-shown}
 use Rattle.sheet_format.proofs.ScanLaws.{accepted-lines, accepted-length}
 use Rattle.sheet_format.proofs.RoundTrip.{ending-is, bytes-clean}
 use Rattle.text_begins.specs.Begins.{most-text}
@@ -23,6 +23,7 @@ use Rattle.text_meaning.specs.Reading.{readingOf, formOf}
 use Rattle.text_laws.specs.Numbered.{numberedLines, ByFirstPlace}
 use Rattle.text_laws.proofs.Sound.{text-sound, goods-back, form-lines}
 use Rattle.text_laws.proofs.Shown.{lines-shown}
+use Rattle.text_laws.proofs.Again.{numbered-again}
 use Rattle.text_laws.proofs.Accepted.{numbered-accepted}
 use Rattle.text_laws.proofs.ReadBack.{Ends, start-run}
 
@@ -51,15 +52,24 @@ module _ (s : List ℕ) (e : sheetRefusal s .number ≡ 0) where
   abbrev numbered : List Line
   numbered = numberedLines [] (byteLines s)
 
-  -- and it is what sheet_of makes of the text, in any room that a sheet wants
+  numbered-good : Goods numbered
+  numbered-good = subst Goods (text-back s e .lines) (goods-back (readingOf (textOf s) .lines) (text-sound (textOf s) .lines))
+
+  -- which has nothing left to number
+  pub first-place : ByFirstPlace (sheetBytes (textOf s))
+  first-place =
+      let a = numbered-accepted (byteLines s) (bytes-clean s e) in
+      let b : byteLines (sheetBytes (textOf s)) ≡ numbered = ap byteLines (numbered-back s e) ∙ bytes-back numbered numbered-good (accepted-lines numbered a) in
+      rw b (numbered-again (byteLines s) (bytes-clean s e))
+
+  -- it is what sheet_of makes of the text, in any room that a sheet wants
   pub numbered-made : (room : ℕ) → most-bytes ≤ room → madeOf (textOf s) room ≡ made.Sheet (length (bytesOf numbered))
   unfolding madeOf formOf
   numbered-made room h =
       let t = text-back s e in
       let f = text-fits s e in
-      let g : Goods numbered = subst Goods (t .lines) (goods-back (readingOf (textOf s) .lines) (text-sound (textOf s) .lines)) in
       let w : writeEnding (formOf (readingOf (textOf s))) room ≡ Done (length (bytesOf numbered)) =
-      ap (λ ls. writeEnding (wordsOf ls) room) (t .lines) ∙ words-written numbered g (numbered-accepted (byteLines s) (bytes-clean s e)) room h in
+      ap (λ ls. writeEnding (wordsOf ls) room) (t .lines) ∙ words-written numbered numbered-good (numbered-accepted (byteLines s) (bytes-clean s e)) room h in
       rw (le-ltb most-text (length (textOf s)) (omega arith), eq-eqb (readingOf (textOf s) .control .expected) 0 (t .fits)) (ap (madeBy (readingOf (textOf s))) w)
 
   -- a sheet that is numbered so is given back byte for byte
