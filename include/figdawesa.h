@@ -1,5 +1,5 @@
 /* Figdawesa from C: sheets read and written, their lines, evaluation, the verdict on cover, the verdicts of a page's whole set, and the
- * page to print for it; sheets as texts, and what comes of them in words.
+ * page to print for it; sheets as texts, and what comes of them in words. All go by the library's own table of relations, or by a club's.
  *
  * Link target/staticlib/libfigdawesa.a, which `rt staticlib figdawesa` writes, for x86-64 Linux. Of the C library it needs memcpy,
  * memmove and memset, and nothing else. README.md says what a sheet is, docs/PROMISES.md what each call promises.
@@ -14,7 +14,8 @@
  *   - A refusal changes nothing. Otherwise the results stand at the front of `out`, and what follows them is as it was. (Of a set each sheet
  *     has a stretch of `out`, of which this holds.)
  *   - Nothing is kept between calls, and nothing is allocated. Threads can call at the same time, each with an `out` (and `page`) of its own.
- *   - Stack: give the thread that calls figdawesa_judge, figdawesa_judge_set, figdawesa_judge_day or figdawesa_answer 256 KiB or more. No proof speaks of the stack; it is measured.
+ *   - Stack: give the thread that calls figdawesa_judge, figdawesa_judge_set, figdawesa_judge_day or figdawesa_answer, or one of these by a table,
+ *     256 KiB or more. No proof speaks of the stack; it is measured.
  */
 #ifndef FIGDAWESA_H
 #define FIGDAWESA_H
@@ -28,32 +29,51 @@ extern "C" {
 
 /* ---- Sizes */
 
-#define FIGDAWESA_SHEET_BYTES 8192 /* a sheet's bytes, at most */
-#define FIGDAWESA_READ_WORDS 749   /* the words that figdawesa_read wants, and the number form's words, at most */
-#define FIGDAWESA_WRITE_BYTES 5243 /* the bytes that figdawesa_write wants */
-#define FIGDAWESA_JUDGE_WORDS 1260 /* the words that figdawesa_judge wants, and figdawesa_judge_set for each sheet */
-#define FIGDAWESA_SHEETS 16        /* sheets of a set, at most */
-#define FIGDAWESA_PAGE_BYTES 569   /* the bytes that figdawesa_judge_day wants for the page */
-#define FIGDAWESA_TEXT_BYTES 16384 /* the bytes that figdawesa_text_of and figdawesa_answer want */
-#define FIGDAWESA_FACTS 256        /* facts given to figdawesa_evaluate, at most */
-#define FIGDAWESA_LINE_WORDS 7     /* a line in the number form: how many fields it has, and the fields, filled up with 0 to six */
-#define FIGDAWESA_FACT_WORDS 5     /* a fact: its relation and its values, filled up with 0 to four */
-#define FIGDAWESA_ANSWER_WORDS 4   /* an answer: its values, filled up with 0 to four */
+#define FIGDAWESA_SHEET_BYTES 8192    /* a sheet's bytes, at most */
+#define FIGDAWESA_READ_WORDS 749      /* the words that figdawesa_read wants, and the number form's words, at most */
+#define FIGDAWESA_WRITE_BYTES 5243    /* the bytes that figdawesa_write wants */
+#define FIGDAWESA_JUDGE_WORDS 1260    /* the words that figdawesa_judge wants, and figdawesa_judge_set for each sheet */
+#define FIGDAWESA_SHEETS 16           /* sheets of a set, at most */
+#define FIGDAWESA_PAGE_BYTES 569      /* the bytes that figdawesa_judge_day wants for the page */
+#define FIGDAWESA_TEXT_BYTES 16384    /* the bytes that figdawesa_text_of and figdawesa_answer want */
+#define FIGDAWESA_TABLE_BYTES 1056    /* a table's bytes, at most: 32 lines of 33 */
+#define FIGDAWESA_OWN_TABLE_BYTES 330 /* the bytes that figdawesa_own_table wants, and the own table's bytes */
+#define FIGDAWESA_RELATIONS 32        /* relations of a table, at most */
+#define FIGDAWESA_FACTS 256           /* facts given to figdawesa_evaluate, at most */
+#define FIGDAWESA_LINE_WORDS 7        /* a line in the number form: how many fields it has, and the fields, filled up with 0 to six */
+#define FIGDAWESA_FACT_WORDS 5        /* a fact: its relation and its values, filled up with 0 to four */
+#define FIGDAWESA_ANSWER_WORDS 4      /* an answer: its values, filled up with 0 to four */
 
-/* A relation's number, name and columns:
+/* ---- Relations
+ *
+ * A table says which relations there are. It is 1 to 32 lines, one for each relation, and byte 10 closes a line. A line has four fields of eight
+ * bytes, as in a sheet:
+ *
+ *   - the relation's number: 1 in the first line, and one more in each line after it;
+ *   - how many columns it has, 1 to 4;
+ *   - its key columns, fewer than its columns, 0 for none: rows of a log that are alike in the first so many are alike in all;
+ *   - its parent, 0 for none: a relation of a line before, with as many columns and no parent of its own, that has each row of this one.
+ *
+ * The library's own table has ten lines, which figdawesa_own_table writes. Number, name and columns, and below them keys and parents:
  *
  *   1 Rower(rower, crew)            6 Noise(strap, tick)
  *   2 Strap(strap)                  7 Pulse(strap, tick, rate)
  *   3 Worn(strap, session, rower)   8 Coach(coach, crew)
  *   4 Sig(strap, tick)              9 Seat(rower, session, boat, seat)
  *   5 Beat(strap, tick)            10 Pause(session)
+ *
+ * 3 (Worn) and 7 (Pulse) have two key columns, 5 (Beat) and 6 (Noise) have the parent 4 (Sig).
+ *
+ * Texts, and what is said in words, call relations 1 to 10 by these names, whatever the table; a text gives each of them the columns that stand here. A
+ * relation beyond the ten goes by its number: R11.
  */
 
 /* ---- Refusals, by number; the line that is returned stands behind the colon.
  *
  * Of a set 14 comes before everything else and 13 follows it; each sheet of a set that is taken then has its own.
- * The first that holds is returned, in this order: 1; words not by sevens; for one line after the other 2 to 7, then 9; a question or a
- * list that is missing; 8, head by head; 10; the facts' word count; fact by fact 11, then 12; 13. */
+ * Where a table is given, 15 comes before all else of a sheet, a number form or a text; each sheet of a set that is taken has it then.
+ * After it the first that holds is returned, in this order: 1; words not by sevens; for one line after the other 2 to 7, then 9; a question or a
+ * list that is missing; 8, head by head; 10; the facts' word count; fact by fact 11, then 12; 13. The table decides on 4 and 11. */
 
 enum {
     FIGDAWESA_DONE = 0,          /* nothing is refused */
@@ -70,7 +90,8 @@ enum {
     FIGDAWESA_WRONG_FACT = 11,   /* fact words not by fives; a fact that is none by its relation, values or filling: line 0 */
     FIGDAWESA_FACT_ORDER = 12,   /* more than 256 facts, or facts that do not ascend: line 0 */
     FIGDAWESA_NO_ROOM = 13,      /* `out` or `page` is too short: line 0 */
-    FIGDAWESA_WRONG_ENDS = 14    /* more than 16 sheets, an end below the one before, a last end that is not the byte count: line 0 */
+    FIGDAWESA_WRONG_ENDS = 14,   /* more than 16 sheets, an end below the one before, a last end that is not the byte count: line 0 */
+    FIGDAWESA_WRONG_TABLE = 15   /* a line that no table has there, unclosed or a 33rd: the table's line; a table without bytes: line 0 */
 };
 
 /* How a call ended. Nothing refused: number and line are 0. Refused: the number, the line from 1, or 0 where none is named, and count 0. */
@@ -123,7 +144,7 @@ struct figdawesa_day_outcome {
 
 /* What became of a text. Its sheet has `bytes` bytes, and everything else is 0. Or it was not understood: `expected` says by one of README's numbers what was
  * expected in line `text_line` of the text, and `relation` in which relation, 0 where none is meant. Or its sheet is refused: the number and the line of the sheet, and
- * the line of the text in which that one begins, 0 where none is named. */
+ * the line of the text in which that one begins, 0 where none is named. Or the table is: 15, the table's line, and 0 for the text's. */
 struct figdawesa_text_outcome {
     size_t expected;
     size_t relation;
@@ -133,7 +154,7 @@ struct figdawesa_text_outcome {
     size_t bytes;
 };
 
-/* ---- The calls */
+/* ---- The calls, by the library's own table */
 
 /* A sheet's bytes to its number form: `count` lines of seven words at the front of `out`. At most 749 words are written.
  * Refused by 1 to 9, and then by 13 where out_words is below 749, however short the sheet is. */
@@ -156,9 +177,10 @@ struct figdawesa_ended figdawesa_evaluate(const uint8_t *sheet, size_t sheet_byt
 /* Whether the sheet's lists, one to four, together cover its question. Verdicts 0 and 2 write nothing. Verdict 1 writes `count` facts of
  * five words at the front of `out`, ascending, each once: a log that gives exactly the listed rows, shows that the lists do not cover, and
  * has no fact to spare.
- * Only logs count in which relation 4 (Sig) has each row of relations 5 (Beat) and 6 (Noise), and in which rows of relation 3 (Worn), and of
- * relation 7 (Pulse), that are alike in the first two columns are alike in the third; figdawesa_evaluate asks for neither.
- * There are at most 252 of them, so at most 1,260 words are written; their values are numbers of the sheet, or made up from 10,000,000 to
+ * Which logs count goes by the table's keys and parents. By the own table relation 4 (Sig) has each row of relations 5 (Beat) and 6 (Noise), and
+ * rows of relation 3 (Worn), and of relation 7 (Pulse), that are alike in the first two columns are alike in the third. figdawesa_evaluate asks
+ * for neither.
+ * There are at most 252 facts, by any table, so at most 1,260 words are written; their values are numbers of the sheet, or made up from 10,000,000 to
  * 10,000,999.
  * Verdict 9: refused by 1 to 9, and then by 13 where out_words is below 1,260, whatever the verdict would be. */
 struct figdawesa_outcome figdawesa_judge(const uint8_t *sheet, size_t sheet_bytes, int32_t *out, size_t out_words);
@@ -188,6 +210,48 @@ struct figdawesa_ended figdawesa_text_of(const uint8_t *sheet, size_t sheet_byte
 /* What comes of a sheet or a text, in words: its verdict, with the missing answer and the case, or why there is none. How many bytes stand at the front of `out`;
  * 0, and nothing is written, where out_bytes is below 16,384. */
 size_t figdawesa_answer(const uint8_t *given, size_t given_bytes, uint8_t *out, size_t out_bytes);
+
+/* The own table's bytes: `count` is 330, and they stand at the front of `out`. Refused by 13 where out_bytes is below 330. */
+struct figdawesa_ended figdawesa_own_table(uint8_t *out, size_t out_bytes);
+
+/* ---- The same by a table's bytes. With those of the own table each call gives what it gives above. */
+
+/* figdawesa_read by a table: refused by 15 first. */
+struct figdawesa_ended figdawesa_read_by_table(const uint8_t *table, size_t table_bytes, const uint8_t *sheet, size_t sheet_bytes, int32_t *out,
+                                               size_t out_words);
+
+/* figdawesa_write by a table: refused by 15 first. */
+struct figdawesa_ended figdawesa_write_by_table(const uint8_t *table, size_t table_bytes, const int32_t *words, size_t word_count, uint8_t *out,
+                                                size_t out_bytes);
+
+/* figdawesa_evaluate by a table: refused by 15 first. */
+struct figdawesa_ended figdawesa_evaluate_by_table(const uint8_t *table, size_t table_bytes, const uint8_t *sheet, size_t sheet_bytes,
+                                                   size_t block, const int32_t *facts, size_t fact_words, int32_t *out, size_t out_words);
+
+/* figdawesa_judge by a table: verdict 9 by 15 first. */
+struct figdawesa_outcome figdawesa_judge_by_table(const uint8_t *table, size_t table_bytes, const uint8_t *sheet, size_t sheet_bytes,
+                                                  int32_t *out, size_t out_words);
+
+/* figdawesa_judge_set by a table. The set is refused by 14 and 13 alone; in one that is taken, each sheet has verdict 9 by 15 where the table is refused. */
+struct figdawesa_set_outcome figdawesa_judge_set_by_table(const uint8_t *table, size_t table_bytes, const uint8_t *bytes, size_t byte_count,
+                                                          const size_t *ends, size_t sheets, int32_t *out, size_t out_words);
+
+/* figdawesa_judge_day by a table. As above; the page of a set that is taken is written, and shows 9 and 15 for each sheet where the table is refused. */
+struct figdawesa_day_outcome figdawesa_judge_day_by_table(const uint8_t *table, size_t table_bytes, const uint8_t *bytes, size_t byte_count,
+                                                          const size_t *ends, size_t sheets, int32_t *out, size_t out_words, uint8_t *page,
+                                                          size_t page_bytes);
+
+/* figdawesa_sheet_of by a table: refused by 15 before the text is looked at. */
+struct figdawesa_text_outcome figdawesa_sheet_of_by_table(const uint8_t *table, size_t table_bytes, const uint8_t *text, size_t text_bytes,
+                                                          uint8_t *out, size_t out_bytes);
+
+/* figdawesa_text_of by a table: refused by 15 first. */
+struct figdawesa_ended figdawesa_text_of_by_table(const uint8_t *table, size_t table_bytes, const uint8_t *sheet, size_t sheet_bytes,
+                                                  uint8_t *out, size_t out_bytes);
+
+/* figdawesa_answer by a table: that a table is refused is said in words too. */
+size_t figdawesa_answer_by_table(const uint8_t *table, size_t table_bytes, const uint8_t *given, size_t given_bytes, uint8_t *out,
+                                 size_t out_bytes);
 
 #ifdef __cplusplus
 }

@@ -19,9 +19,10 @@ import tempfile
 
 from cover_cases import LENT_WORDS, NO_ROOM, page
 from evaluate_cases import raised_lines
-from set_cases import (COVERED_ONE, MOST_SHEETS, NO_LIST, NO_LOG_ONE, NO_RELATION, ONE_ROWER, OTHER_LENGTH, OUT_OF_RANGE, ROWS_DESCEND, SETTLED, SEVENTH_ATOM,
-                       SMALL, TOO_LONG, TWO_RATES, TWO_TICKS, UNCLOSED, UNSAFE, WORKED, WRONG_ENDS, ends_of, judged_alone, judged_set, refused, some_set, some_sheet)
-from sheet_cases import MOST_WORDS, Dice, noted, read, sheet_of
+from set_cases import (CLUB_CASE, CLUB_COVERED, CLUB_NO_LOG, CLUB_NO_RELATION, COVERED_ONE, LAST_CASE, MOST_SHEETS, NO_LIST, NO_LOG_ONE, NO_RELATION, ONE_ROWER,
+                       OTHER_LENGTH, OUT_OF_RANGE, ROWS_DESCEND, SETTLED, SEVENTH_ATOM, SMALL, TOO_LONG, TWO_RATES, TWO_TICKS, UNCLOSED, UNSAFE, WORKED, WRONG_ENDS,
+                       ends_of, judged_alone, judged_set, refused, some_set, some_sheet, some_table, written)
+from sheet_cases import BROKEN_TABLES, CLUB, FULL_TABLE, MOST_WORDS, OWN_TABLE, Dice, noted, read, sheet_of
 
 # --- The page -------------------------------------------------------------------------------------------------------
 
@@ -39,9 +40,9 @@ def page_of(sheets):
     return b"".join(lines) + line_of(*had, sum(len(one.facts) for one in sheets))
 
 
-def judged_day(data, ends, words, room):
+def judged_day(data, ends, words, room, table=None):
     """The number, how many sheets were judged, and the page."""
-    number, sheets = judged_set(data, ends, words)
+    number, sheets = judged_set(data, ends, words, table)
     if number == 0 and room < PAGE_ROOM:
         number = NO_ROOM
     return (number, 0, b"") if number else (0, len(sheets), page_of(sheets))
@@ -69,23 +70,23 @@ def heading(text):
     wanted.append("# " + text)
 
 
-def keep(name, data, ends, want, words=None, room=PAGE_ROOM):
+def keep(name, data, ends, want, words=None, room=PAGE_ROOM, table=None):
     """A set by its bytes and ends. What is wanted is the number, or the page, its fields by single blanks and its lines by " / "."""
     words = LENT_WORDS * len(ends) if words is None else words
     assert name not in names and "|" not in name and words <= HELD_WORDS and room <= HELD_PAGE and len(ends) <= HELD_ENDS and len(data) <= HELD_BYTES, name
     names.add(name)
-    number, count, paper = judged_day(data, ends, words, room)
+    number, count, paper = judged_day(data, ends, words, room, table)
     got = number if number else " / ".join(" ".join(line.split()) for line in paper.decode().splitlines())
     if want is not None and got != want:
         sys.exit(f"the page is {got} and not {want}: {name}")
-    given.append(f"{name}|{' '.join(map(str, [words, room] + ends))}|{noted(data)}")
+    given.append(f"{name}|{' '.join(map(str, [words, room] + ends))}|{written(data, table)}")
     wanted.append(f"{name}: {number} 0 {count} {len(paper)} =|{paper.decode().replace(chr(10), '/')}{'~' * (room - len(paper))}")
-    tally[f"refused by {number}" if number else f"{count} sheets"] += 1
+    tally[(f"refused by {number}" if number else f"{count} sheets") + " by a table" * (table is not None)] += 1
 
 
-def taken(name, sheets, want, words=None, room=PAGE_ROOM):
+def taken(name, sheets, want, words=None, room=PAGE_ROOM, table=None):
     """A set of sheets, with ends that are right."""
-    keep(name, b"".join(sheets), ends_of(sheets), want, words, room)
+    keep(name, b"".join(sheets), ends_of(sheets), want, words, room, table)
 
 
 # A sheet whose only case has 252 facts, as many as a case can have: 126 beats and noises that have nothing in common, and their signals.
@@ -138,6 +139,59 @@ def rooms():
         keep(f"a last end that is short, {room} bytes", WORKED, [len(WORKED) - 1], WRONG_ENDS, LENT_WORDS, room)
         keep(f"an end that falls back, {room} bytes", WORKED, [len(WORKED), 3, len(WORKED)], WRONG_ENDS, 0, room)
         keep(f"no sheets, with a byte, {room} bytes", b"\n", [], WRONG_ENDS, LENT_WORDS, room)
+
+
+def club():
+    heading("pages by a club's table")
+    taken("club: each verdict", [CLUB_COVERED, CLUB_CASE, CLUB_NO_LOG, CLUB_NO_RELATION], "1 0 0 0 / 2 1 0 3 / 3 2 0 0 / 4 9 4 0 / 1 1 1 1 3", table=CLUB)
+    taken("club: the ten's sheets beside the club's", [WORKED, CLUB_CASE, NO_LOG_ONE, CLUB_COVERED, TWO_TICKS],
+          "1 1 0 2 / 2 1 0 3 / 3 2 0 0 / 4 0 0 0 / 5 1 0 4 / 1 3 1 0 9", table=CLUB)
+    taken("club: sixteen cases", [CLUB_CASE] * 16, " / ".join(f"{place} 1 0 3" for place in range(1, 17)) + " / 0 16 0 0 48", table=CLUB)
+    taken("club: without its table", [CLUB_COVERED, WORKED, CLUB_CASE], "1 9 4 0 / 2 1 0 2 / 3 9 4 0 / 0 1 0 2 2")
+    taken("club: by the own ten in bytes", [CLUB_COVERED, WORKED, CLUB_CASE], "1 9 4 0 / 2 1 0 2 / 3 9 4 0 / 0 1 0 2 2", table=OWN_TABLE)
+    for number, sheet in REFUSALS.items():
+        taken(f"club: a sheet that is refused by {number}", [CLUB_COVERED, sheet], f"1 0 0 0 / 2 9 {number} 0 / 1 0 0 1 0", table=CLUB)
+    taken("relation 32 of 32", [LAST_CASE, LAST_CASE], "1 1 0 3 / 2 1 0 3 / 0 2 0 0 6", table=FULL_TABLE)
+    keep("club: no sheets", b"", [], "0 0 0 0 0", table=CLUB)
+    taken("club: bytes and words to spare", [CLUB_CASE], "1 1 0 3 / 0 1 0 0 3", LENT_WORDS + 64, HELD_PAGE, CLUB)
+    taken("club: one byte short", [CLUB_CASE], NO_ROOM, None, 568, CLUB)
+    taken("club: one word short", [CLUB_CASE], NO_ROOM, LENT_WORDS - 1, 569, CLUB)
+
+
+def tables_sent_back():
+    heading("a table that is sent back: 14 first, then 13, then 15 on each line of the page")
+    for table, line in BROKEN_TABLES:
+        name = f"a table sent back at line {line}"
+        sheets = [WORKED, b"", TWO_TICKS, UNCLOSED]
+        taken(f"{name}: four sheets", sheets, "1 9 15 0 / 2 9 15 0 / 3 9 15 0 / 4 9 15 0 / 0 0 0 4 0", table=table)
+        taken(f"{name}: one sheet", [WORKED], "1 9 15 0 / 0 0 0 1 0", LENT_WORDS + 64, HELD_PAGE, table)
+        keep(f"{name}: no sheets", b"", [], "0 0 0 0 0", table=table)
+        taken(f"{name}: one byte short", sheets, NO_ROOM, None, 568, table)
+        taken(f"{name}: one word short", sheets, NO_ROOM, 4 * LENT_WORDS - 1, 569, table)
+        taken(f"{name}: no words and no bytes", [WORKED], NO_ROOM, 0, 0, table)
+        keep(f"{name}: seventeen sheets", b"", [0] * 17, WRONG_ENDS, HELD_WORDS, 569, table)
+        keep(f"{name}: a last end that is short, and no bytes", WORKED, [len(WORKED) - 1], WRONG_ENDS, LENT_WORDS, 0, table)
+        keep(f"{name}: an end that falls back, and no words", WORKED, [len(WORKED), 3, len(WORKED)], WRONG_ENDS, 0, 569, table)
+    table, _ = BROKEN_TABLES[1]
+    sixteen = " / ".join(f"{place} 9 15 0" for place in range(1, 17)) + " / 0 0 0 16 0"
+    keep("a table sent back and sixteen sheets without bytes", b"", [0] * 16, sixteen, table=table)
+    taken("a table sent back and sixteen sheets", [SMALL, WORKED] * 8, sixteen, table=table)
+    for number, sheet in REFUSALS.items():
+        taken(f"a table sent back beside a sheet by {number}", [sheet, SMALL], "1 9 15 0 / 2 9 15 0 / 0 0 0 2 0", table=table)
+
+
+def generated_by_tables():
+    """Sets of small sheets by small tables, both drawn; some tables have a field changed."""
+    heading("generated: pages by tables")
+    dice = Dice(82)
+    for at in range(1, 21):
+        table, pool = some_table(dice, 8, 400)
+        sheets = some_set(dice, pool, 2 + dice.below(MOST_SHEETS - 1), table)
+        if dice.below(5) == 0:
+            place = dice.below(len(table) // 33) * 33 + 8
+            table = table[:place] + b"%8d" % dice.below(6) + table[place + 8:]
+        if len(written(b"".join(sheets), table)) < 7000 and judged_set(b"".join(sheets), ends_of(sheets), HELD_WORDS, table)[1].count(None) == 0:
+            taken(f"set by a table {at}", sheets, None, None, dice.one((569, 569, 569, 600, 568)), table)
 
 
 def generated():
@@ -215,10 +269,13 @@ def main():
     pages()
     rooms()
     generated()
+    club()
+    tables_sent_back()
+    generated_by_tables()
     texts = ["".join(line + "\n" for line in lines).encode("ascii") for lines in (given, wanted)]
     assert all(0 < len(line) < HELD_LINE and ("|" in line) != line.startswith("#") for line in given)
     for kind, count in sorted(tally.items()):
-        print(f"{kind:<14} {count:>4}")
+        print(f"{kind:<25} {count:>4}")
     print(f"{sum(tally.values())} cases, {len(texts[0])} bytes of input, {len(texts[1])} bytes of output")
     for path, text in [(STDIN, texts[0]), (STDOUT, texts[1]), *program_files().items()]:
         if "--check" in sys.argv[1:]:

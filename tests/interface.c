@@ -27,6 +27,33 @@
 /* A view with no columns has its one row, and another says that there are no beats. */
 #define CONTRARY QUESTION LIST "       3\n" BEATS "       5\n       3      -1      -2\n" BEATS
 
+/* Tables: the library's own by hand; two relations beyond it, of which 11 has two key columns and 12 has the parent 11; the same two without; a
+ * club that has only two; and one whose second relation's key has all its columns. */
+#define OWN \
+    "       1       2       0       0\n       2       1       0       0\n       3       3       2       0\n" \
+    "       4       2       0       0\n       5       2       0       4\n       6       2       0       4\n" \
+    "       7       3       2       0\n       8       2       0       0\n       9       4       0       0\n" \
+    "      10       1       0       0\n"
+#define CLUB OWN "      11       3       2       0\n      12       3       0      11\n"
+#define LOOSE OWN "      11       3       0       0\n      12       3       0       0\n"
+#define SMALL "       1       3       2       0\n       2       3       0       1\n"
+#define BROKEN "       1       3       2       0\n       2       3       3       0\n"
+
+/* Sheets by the club's table. MEASURED asks for the first two columns of 11, all of which is listed, and has a list of 12. TWICE asks for the values
+ * that 11 has behind 7 and 1, two of which are listed. CHECKED asks for 12, all of which is listed, and has a list of 11, WORN one of 3. */
+#define ALL_11 "       4      11      -1      -2      -3\n"
+#define ALL_12 "       4      12      -1      -2      -3\n"
+#define ROW_714 "       5       7       1       4\n"
+#define MEASURED "       1      -1      -2\n" ALL_11 "       2      -1      -2\n" ALL_12 "       3      -1      -2      -3\n" ALL_11 ROW_714
+#define TWICE \
+    "       1      -1\n       4      11       7       1      -1\n       2      -1\n       4      12       7       1      -1\n" \
+    "       3      -1\n       4      11       7       1      -1\n       5       4\n       5       5\n"
+#define CHECKED "       1      -1      -2      -3\n" ALL_12 "       2      -1      -2      -3\n" ALL_11 "       3      -1      -2      -3\n" ALL_12 ROW_714
+#define WORN \
+    "       1      -1      -2      -3\n" ALL_12 "       2      -1      -2      -3\n       4       3      -1      -2      -3\n" \
+    "       3      -1      -2      -3\n" ALL_12 ROW_714
+#define MEASURED_TEXT "q(a,b): R11(a,b,c)\nl(a,b): R12(a,b,c)\nv(a,b,c): R11(a,b,c) = (7,1,4)\n"
+
 /* What is lent stands between margins, and all of it holds a mark before each call. */
 #define MARGIN 16
 #define ROOM 12000
@@ -369,6 +396,256 @@ static void texts(void)
     CHECK(figdawesa_answer(NULL, 0, NULL, 0) == 0);
 }
 
+/* The calls by a table. */
+
+static void own_table(void)
+{
+    mark();
+    CHECK(ended(figdawesa_own_table(lent_bytes, FIGDAWESA_OWN_TABLE_BYTES - 1), FIGDAWESA_NO_ROOM, 0, 0) && bytes_kept(0));
+    CHECK(ended(figdawesa_own_table(NULL, 0), FIGDAWESA_NO_ROOM, 0, 0));
+    CHECK(ended(figdawesa_own_table(lent_bytes, FIGDAWESA_OWN_TABLE_BYTES), FIGDAWESA_DONE, 0, 330));
+    CHECK(strlen(OWN) == 330 && memcmp(lent_bytes, OWN, 330) == 0 && bytes_kept(330));
+}
+
+static struct figdawesa_ended read_by(const char *table, const char *sheet, size_t room)
+{
+    mark();
+    return figdawesa_read_by_table(of(table), strlen(table), of(sheet), strlen(sheet), lent_words, room);
+}
+
+static void tables(void)
+{
+    static char most[FIGDAWESA_TABLE_BYTES + 34];
+    for (int n = 1; n <= FIGDAWESA_RELATIONS + 1; n++)
+        snprintf(most + 33 * (n - 1), 34, "%8d       2       0       0\n", n);
+    CHECK(ended(read_by(most, SHEET, ROOM), FIGDAWESA_WRONG_TABLE, 33, 0) && words_kept(0));
+    most[FIGDAWESA_TABLE_BYTES + 1] = 0;
+    CHECK(ended(read_by(most, SHEET, ROOM), FIGDAWESA_WRONG_TABLE, 33, 0) && words_kept(0));
+    most[FIGDAWESA_TABLE_BYTES] = 0;
+    CHECK(ended(read_by(most, SHEET, ROOM), FIGDAWESA_DONE, 0, 8) && words_kept(56));
+    most[FIGDAWESA_TABLE_BYTES - 1] = 0;
+    CHECK(ended(read_by(most, SHEET, ROOM), FIGDAWESA_WRONG_TABLE, 32, 0) && words_kept(0));
+    CHECK(ended(read_by("", SHEET, ROOM), FIGDAWESA_WRONG_TABLE, 0, 0) && words_kept(0));
+    CHECK(ended(read_by("\n", SHEET, ROOM), FIGDAWESA_WRONG_TABLE, 1, 0) && words_kept(0));
+    CHECK(ended(read_by("       1       2       0\n", SHEET, ROOM), FIGDAWESA_WRONG_TABLE, 1, 0) && words_kept(0));
+    CHECK(ended(read_by("       1       2       0      +0\n", SHEET, ROOM), FIGDAWESA_WRONG_TABLE, 1, 0) && words_kept(0));
+    CHECK(ended(read_by("       1       5       0       0\n", SHEET, ROOM), FIGDAWESA_WRONG_TABLE, 1, 0) && words_kept(0));
+    CHECK(ended(read_by("       1       2       0       1\n", SHEET, ROOM), FIGDAWESA_WRONG_TABLE, 1, 0) && words_kept(0));
+    CHECK(ended(read_by(SMALL "       4       3       0       0\n", SHEET, ROOM), FIGDAWESA_WRONG_TABLE, 3, 0) && words_kept(0));
+    CHECK(ended(read_by(SMALL "       3       2       0       1\n", SHEET, ROOM), FIGDAWESA_WRONG_TABLE, 3, 0) && words_kept(0));
+    CHECK(ended(read_by(SMALL "       3       3       0       2\n", SHEET, ROOM), FIGDAWESA_WRONG_TABLE, 3, 0) && words_kept(0));
+    mark();
+    CHECK(ended(figdawesa_read_by_table(NULL, 0, NULL, 0, NULL, 0), FIGDAWESA_WRONG_TABLE, 0, 0));
+}
+
+static struct figdawesa_ended write_by(const char *table, const int32_t *form, size_t n, size_t room)
+{
+    mark();
+    return figdawesa_write_by_table(of(table), strlen(table), form, n, lent_bytes, room);
+}
+
+static void reading_and_writing_by_tables(void)
+{
+    static const int32_t form[] = {3, 1, -1, -2, 0, 0, 0, 5, 4, 11, -1, -2, -3, 0, 3, 2, -1, -2, 0, 0, 0, 5, 4, 12, -1,
+                                   -2, -3, 0, 4, 3, -1, -2, -3, 0, 0, 5, 4, 11, -1, -2, -3, 0, 4, 5, 7, 1, 4, 0, 0};
+    CHECK(ended(read_by(CLUB, MEASURED, FIGDAWESA_READ_WORDS), FIGDAWESA_DONE, 0, 7) && are(form, 49) && words_kept(49));
+    CHECK(ended(read_by(CLUB, MEASURED, FIGDAWESA_READ_WORDS - 1), FIGDAWESA_NO_ROOM, 0, 0) && words_kept(0));
+    CHECK(ended(read_by(BROKEN, MEASURED, ROOM), FIGDAWESA_WRONG_TABLE, 2, 0) && words_kept(0));
+    CHECK(ended(read_by(BROKEN, NO_LIST, 0), FIGDAWESA_WRONG_TABLE, 2, 0) && words_kept(0));
+    CHECK(ended(read_by(OWN, MEASURED, ROOM), FIGDAWESA_WRONG_COLUMNS, 2, 0) && words_kept(0));
+    CHECK(ended(read_by(SMALL, SHEET, ROOM), FIGDAWESA_WRONG_COLUMNS, 2, 0) && words_kept(0));
+    CHECK(ended(read_by(CLUB, NO_SUCH_RELATION, ROOM), FIGDAWESA_WRONG_COLUMNS, 6, 0) && words_kept(0));
+    CHECK(ended(write_by(CLUB, form, 49, FIGDAWESA_WRITE_BYTES), FIGDAWESA_DONE, 0, strlen(MEASURED)));
+    CHECK(memcmp(lent_bytes, MEASURED, strlen(MEASURED)) == 0 && bytes_kept(strlen(MEASURED)));
+    CHECK(ended(write_by(CLUB, form, 49, FIGDAWESA_WRITE_BYTES - 1), FIGDAWESA_NO_ROOM, 0, 0) && bytes_kept(0));
+    CHECK(ended(write_by(BROKEN, form, 49, ROOM), FIGDAWESA_WRONG_TABLE, 2, 0) && bytes_kept(0));
+    CHECK(ended(write_by(BROKEN, form, 48, 0), FIGDAWESA_WRONG_TABLE, 2, 0) && bytes_kept(0));
+    CHECK(ended(write_by(OWN, form, 49, ROOM), FIGDAWESA_WRONG_COLUMNS, 2, 0) && bytes_kept(0));
+}
+
+static struct figdawesa_ended evaluate_by(const char *table, const char *sheet, size_t block, const int32_t *facts, size_t n, size_t room)
+{
+    mark();
+    return figdawesa_evaluate_by_table(of(table), strlen(table), of(sheet), strlen(sheet), block, facts, n, lent_words, room);
+}
+
+/* Keys and parents are not asked for. */
+static void evaluation_by_tables(void)
+{
+    static const int32_t facts[] = {11, 7, 1, 4, 0, 11, 7, 1, 5, 0, 12, 8, 2, 3, 0};
+    static const int32_t beyond[] = {13, 7, 1, 4, 0}, unfilled[] = {12, 7, 1, 4, 1};
+    static const int32_t measured[] = {7, 1, 0, 0}, checked[] = {8, 2, 0, 0}, listed[] = {7, 1, 4, 0, 7, 1, 5, 0};
+    CHECK(ended(evaluate_by(CLUB, MEASURED, 1, facts, 15, 4), FIGDAWESA_DONE, 0, 1) && are(measured, 4) && words_kept(4));
+    CHECK(ended(evaluate_by(CLUB, MEASURED, 2, facts, 15, ROOM), FIGDAWESA_DONE, 0, 1) && are(checked, 4) && words_kept(4));
+    CHECK(ended(evaluate_by(CLUB, MEASURED, 3, facts, 15, ROOM), FIGDAWESA_DONE, 0, 2) && are(listed, 8) && words_kept(8));
+    CHECK(ended(evaluate_by(CLUB, MEASURED, 3, facts, 15, 7), FIGDAWESA_NO_ROOM, 0, 0) && words_kept(0));
+    CHECK(ended(evaluate_by(CLUB, MEASURED, 4, facts, 15, ROOM), FIGDAWESA_NO_BLOCK, 0, 0) && words_kept(0));
+    CHECK(ended(evaluate_by(CLUB, MEASURED, 1, beyond, 5, ROOM), FIGDAWESA_WRONG_FACT, 0, 0) && words_kept(0));
+    CHECK(ended(evaluate_by(CLUB, MEASURED, 1, unfilled, 5, ROOM), FIGDAWESA_WRONG_FACT, 0, 0) && words_kept(0));
+    CHECK(ended(evaluate_by(OWN, SHEET, 1, facts, 15, ROOM), FIGDAWESA_WRONG_FACT, 0, 0) && words_kept(0));
+    CHECK(ended(evaluate_by(BROKEN, MEASURED, 1, facts, 15, ROOM), FIGDAWESA_WRONG_TABLE, 2, 0) && words_kept(0));
+    CHECK(ended(evaluate_by(BROKEN, NO_LIST, 9, facts, 14, 0), FIGDAWESA_WRONG_TABLE, 2, 0) && words_kept(0));
+}
+
+static struct figdawesa_outcome judge_by(const char *table, const char *sheet, size_t room)
+{
+    mark();
+    return figdawesa_judge_by_table(of(table), strlen(table), of(sheet), strlen(sheet), lent_words, room);
+}
+
+static int missing_714(struct figdawesa_outcome r, size_t count)
+{
+    return r.verdict == FIGDAWESA_NOT_COVERED && r.number == 0 && r.line == 0 && r.count == count && r.missing[0] == 7 && r.missing[1] == 1
+        && r.missing[2] == 4 && r.missing[3] == 0;
+}
+
+static void judging_by_tables(void)
+{
+    static const int32_t measured[] = {11, 7, 1, 4, 0}, checked[] = {12, 7, 1, 4, 0};
+    static const int32_t both[] = {11, 7, 1, 4, 0, 12, 7, 1, 4, 0}, twice[] = {11, 7, 1, 4, 0, 11, 7, 1, 5, 0};
+    CHECK(outcome(judge_by(CLUB, MEASURED, FIGDAWESA_JUDGE_WORDS), FIGDAWESA_NOT_COVERED, 0, 0, 1, 7, 1) && are(measured, 5) && words_kept(5));
+    CHECK(missing_714(judge_by(CLUB, WORN, ROOM), 2) && are(both, 10) && words_kept(10));
+    CHECK(outcome(judge_by(CLUB, TWICE, ROOM), FIGDAWESA_NO_LOG, 0, 0, 0, 0, 0) && words_kept(0));
+    CHECK(outcome(judge_by(LOOSE, TWICE, ROOM), FIGDAWESA_NOT_COVERED, 0, 0, 2, 4, 0) && are(twice, 10) && words_kept(10));
+    CHECK(outcome(judge_by(CLUB, CHECKED, ROOM), FIGDAWESA_COVERED, 0, 0, 0, 0, 0) && words_kept(0));
+    CHECK(missing_714(judge_by(LOOSE, CHECKED, ROOM), 1) && are(checked, 5) && words_kept(5));
+    CHECK(outcome(judge_by(CLUB, MEASURED, FIGDAWESA_JUDGE_WORDS - 1), FIGDAWESA_REFUSED, FIGDAWESA_NO_ROOM, 0, 0, 0, 0) && words_kept(0));
+    CHECK(outcome(judge_by(OWN, MEASURED, ROOM), FIGDAWESA_REFUSED, FIGDAWESA_WRONG_COLUMNS, 2, 0, 0, 0) && words_kept(0));
+    CHECK(outcome(judge_by(BROKEN, MEASURED, ROOM), FIGDAWESA_REFUSED, FIGDAWESA_WRONG_TABLE, 2, 0, 0, 0) && words_kept(0));
+    CHECK(outcome(judge_by("", NO_LIST, 0), FIGDAWESA_REFUSED, FIGDAWESA_WRONG_TABLE, 0, 0, 0, 0) && words_kept(0));
+}
+
+static int taken(const struct figdawesa_set_outcome *r, size_t count)
+{
+    return r->number == FIGDAWESA_DONE && r->line == 0 && r->count == count && empty_from(r, count, FIGDAWESA_DONE);
+}
+
+/* Whether each of the four sheets below is what the club's table, or the broken one, makes of it. */
+static int four_judged(const struct figdawesa_set_outcome *r)
+{
+    return taken(r, 4) && outcome(r->sheets[0], FIGDAWESA_COVERED, 0, 0, 0, 0, 0)
+        && outcome(r->sheets[1], FIGDAWESA_REFUSED, FIGDAWESA_WRONG_COLUMNS, 4, 0, 0, 0)
+        && outcome(r->sheets[2], FIGDAWESA_NOT_COVERED, 0, 0, 1, 7, 1) && outcome(r->sheets[3], FIGDAWESA_NO_LOG, 0, 0, 0, 0, 0);
+}
+
+static int four_refused(const struct figdawesa_set_outcome *r)
+{
+    for (size_t k = 0; k < 4; k++)
+        if (!outcome(r->sheets[k], FIGDAWESA_REFUSED, FIGDAWESA_WRONG_TABLE, 2, 0, 0, 0))
+            return 0;
+    return taken(r, 4);
+}
+
+/* The one fact of the four stands in the third stretch; nothing else is changed. */
+static int fact_alone(void)
+{
+    static const int32_t measured[] = {11, 7, 1, 4, 0};
+    int32_t *const third = lent_words + 2 * FIGDAWESA_JUDGE_WORDS;
+    if (memcmp(third, measured, sizeof measured) != 0)
+        return 0;
+    for (size_t i = 0; i < 5; i++)
+        third[i] = MARK;
+    return words_kept(0);
+}
+
+static void judging_sets_and_days_by_tables(void)
+{
+    static const char no_13[] = QUESTION "       2      -1      -2\n       4      13      -1      -2\n";
+    static const char page[] = "       1       0       0       0\n       2       9       4       0\n       3       1       0       1\n"
+                               "       4       2       0       0\n       1       1       1       1       1\n";
+    static const char refused_page[] = "       1       9      15       0\n       2       9      15       0\n       3       9      15       0\n"
+                                       "       4       9      15       0\n       0       0       0       4       0\n";
+    static char sheets[2048];
+    const size_t covered = strlen(CHECKED), bad = covered + strlen(no_13), measured = bad + strlen(MEASURED), n = measured + strlen(TWICE);
+    const size_t ends[] = {covered, bad, measured, n}, room = 4 * FIGDAWESA_JUDGE_WORDS;
+    snprintf(sheets, sizeof sheets, "%s%s%s%s", CHECKED, no_13, MEASURED, TWICE);
+    const uint8_t *const club = of(CLUB), *const broken = of(BROKEN), *const all = of(sheets);
+    mark();
+    struct figdawesa_set_outcome r = figdawesa_judge_set_by_table(club, strlen(CLUB), all, n, ends, 4, lent_words, room);
+    CHECK(four_judged(&r) && fact_alone());
+    mark();
+    r = figdawesa_judge_set_by_table(broken, strlen(BROKEN), all, n, ends, 4, lent_words, room);
+    CHECK(four_refused(&r) && words_kept(0));
+    CHECK(sent_back(figdawesa_judge_set_by_table(broken, strlen(BROKEN), all, n, ends, 4, lent_words, room - 1), FIGDAWESA_NO_ROOM));
+    CHECK(sent_back(figdawesa_judge_set_by_table(broken, strlen(BROKEN), all, n, ends, 3, lent_words, 0), FIGDAWESA_WRONG_ENDS));
+    r = figdawesa_judge_set_by_table(NULL, 0, NULL, 0, NULL, 0, NULL, 0);
+    CHECK(taken(&r, 0));
+    struct figdawesa_day_outcome d;
+    d = figdawesa_judge_day_by_table(club, strlen(CLUB), all, n, ends, 4, lent_words, room, lent_bytes, FIGDAWESA_PAGE_BYTES);
+    CHECK(four_judged(&d.set) && fact_alone());
+    CHECK(d.bytes == strlen(page) && memcmp(lent_bytes, page, strlen(page)) == 0 && bytes_kept(strlen(page)));
+    mark();
+    d = figdawesa_judge_day_by_table(broken, strlen(BROKEN), all, n, ends, 4, lent_words, room, lent_bytes, FIGDAWESA_PAGE_BYTES);
+    CHECK(four_refused(&d.set) && words_kept(0));
+    CHECK(d.bytes == strlen(refused_page) && memcmp(lent_bytes, refused_page, d.bytes) == 0 && bytes_kept(d.bytes));
+    mark();
+    d = figdawesa_judge_day_by_table(broken, strlen(BROKEN), all, n, ends, 4, lent_words, room, lent_bytes, FIGDAWESA_PAGE_BYTES - 1);
+    CHECK(day_sent_back(d, FIGDAWESA_NO_ROOM));
+    d = figdawesa_judge_day_by_table(broken, strlen(BROKEN), all, n, ends, 3, lent_words, room, lent_bytes, 0);
+    CHECK(day_sent_back(d, FIGDAWESA_WRONG_ENDS));
+}
+
+static int made(struct figdawesa_text_outcome r, size_t number, size_t line, size_t text_line, size_t count)
+{
+    return r.expected == 0 && r.relation == 0 && r.number == number && r.line == line && r.text_line == text_line && r.bytes == count;
+}
+
+static struct figdawesa_text_outcome sheet_by(const char *table, const char *text, size_t room)
+{
+    mark();
+    return figdawesa_sheet_of_by_table(of(table), strlen(table), of(text), strlen(text), lent_bytes, room);
+}
+
+/* Room for words, and whether they are these and all behind them is as it was. */
+static uint8_t said[FIGDAWESA_TEXT_BYTES + 1];
+
+static int says(const char *wanted, size_t n)
+{
+    if (n != strlen(wanted) || memcmp(said, wanted, n) != 0)
+        return 0;
+    for (size_t i = n; i < sizeof said; i++)
+        if (said[i] != MARK)
+            return 0;
+    return 1;
+}
+
+static struct figdawesa_ended text_by(const char *table, const char *sheet, size_t room)
+{
+    memset(said, MARK, sizeof said);
+    return figdawesa_text_of_by_table(of(table), strlen(table), of(sheet), strlen(sheet), said, room);
+}
+
+static size_t answer_by(const char *table, const char *given, size_t room)
+{
+    memset(said, MARK, sizeof said);
+    return figdawesa_answer_by_table(of(table), strlen(table), of(given), strlen(given), said, room);
+}
+
+static void texts_by_tables(void)
+{
+    static const char case_said[] = "not covered: (7,1) is missing. Log: R11(7,1,4)\n";
+    static const char refusal[] = "refused: cause 15 at line 2: a line of the table is not right, or the table has none\n";
+    static const char none[] = "refused: cause 15: a line of the table is not right, or the table has none\n";
+    const size_t room = FIGDAWESA_TEXT_BYTES;
+    CHECK(made(sheet_by(CLUB, MEASURED_TEXT, FIGDAWESA_WRITE_BYTES), FIGDAWESA_DONE, 0, 0, strlen(MEASURED)));
+    CHECK(memcmp(lent_bytes, MEASURED, strlen(MEASURED)) == 0 && bytes_kept(strlen(MEASURED)));
+    CHECK(made(sheet_by(CLUB, MEASURED_TEXT, FIGDAWESA_WRITE_BYTES - 1), FIGDAWESA_NO_ROOM, 0, 0, 0) && bytes_kept(0));
+    CHECK(made(sheet_by(OWN, MEASURED_TEXT, ROOM), FIGDAWESA_WRONG_COLUMNS, 2, 1, 0) && bytes_kept(0));
+    CHECK(made(sheet_by(BROKEN, MEASURED_TEXT, ROOM), FIGDAWESA_WRONG_TABLE, 2, 0, 0) && bytes_kept(0));
+    CHECK(made(sheet_by(BROKEN, "q(", 0), FIGDAWESA_WRONG_TABLE, 2, 0, 0) && bytes_kept(0));
+    CHECK(ended(text_by(CLUB, MEASURED, room), FIGDAWESA_DONE, 0, strlen(MEASURED_TEXT)) && says(MEASURED_TEXT, strlen(MEASURED_TEXT)));
+    CHECK(ended(text_by(CLUB, MEASURED, room - 1), FIGDAWESA_NO_ROOM, 0, 0) && says("", 0));
+    CHECK(ended(text_by(OWN, MEASURED, room), FIGDAWESA_WRONG_COLUMNS, 2, 0) && says("", 0));
+    CHECK(ended(text_by(BROKEN, MEASURED, room), FIGDAWESA_WRONG_TABLE, 2, 0) && says("", 0));
+    CHECK(ended(text_by(BROKEN, NO_LIST, 0), FIGDAWESA_WRONG_TABLE, 2, 0) && says("", 0));
+    CHECK(says(case_said, answer_by(CLUB, MEASURED_TEXT, room)));
+    CHECK(says(case_said, answer_by(CLUB, MEASURED, room)));
+    CHECK(says(refusal, answer_by(BROKEN, MEASURED_TEXT, room)));
+    CHECK(says(refusal, answer_by(BROKEN, MEASURED, room)));
+    CHECK(says(none, answer_by("", MEASURED, room)));
+    CHECK(says("", answer_by(CLUB, MEASURED, room - 1)) && says("", answer_by(BROKEN, MEASURED, room - 1)));
+}
+
 int main(void)
 {
     reading();
@@ -380,6 +657,13 @@ int main(void)
     judging_sets();
     judging_days();
     texts();
+    own_table();
+    tables();
+    reading_and_writing_by_tables();
+    evaluation_by_tables();
+    judging_by_tables();
+    judging_sets_and_days_by_tables();
+    texts_by_tables();
     printf("C: %d checks, %d failed\n", checks, failures);
     return failures == 0 ? EXIT_SUCCESS : EXIT_FAILURE;
 }

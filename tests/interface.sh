@@ -17,14 +17,18 @@ rt staticlib figdawesa >"$made/staticlib.out" 2>&1 || {
     exit 1
 }
 
-# The archive defines the ten calls, and no other name that a program could meet.
+# The archive defines the twenty calls, and no other name that a program could meet.
 nm -g --defined-only "$archive" | awk 'NF == 3 { print $3 }' | sort >"$made/calls"
-printf 'figdawesa_%s\n' answer evaluate judge judge_day judge_set line read sheet_of text_of write | diff - "$made/calls"
+both="answer evaluate judge judge_day judge_set read sheet_of text_of write"
+{
+    printf 'figdawesa_%s\n' line own_table $both
+    printf 'figdawesa_%s_by_table\n' $both
+} | sort | diff - "$made/calls"
 
 # What it leaves to the program that links it is what the header says, and no more.
 nm -u "$archive" | awk 'NF == 2 { print $2 }' | sort -u >"$made/needs"
 printf '%s\n' memcpy memmove memset | diff - "$made/needs"
-echo "interface: the archive defines the ten calls, and needs memcpy, memmove and memset alone"
+echo "interface: the archive defines the twenty calls, and needs memcpy, memmove and memset alone"
 
 # The examples.
 $cc $flags examples/cover.c "$archive" -o "$made/cover"

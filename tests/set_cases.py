@@ -17,9 +17,10 @@ import collections
 import pathlib
 import sys
 
-from cover_cases import LENT_WORDS, NO_ROOM, NOT_COVERED, REFUSED, facts_in, judged, page, parts_of, some_sheet, told
+import table_cases
+from cover_cases import (LENT_WORDS, NO_ROOM, NOT_COVERED, OWN, REFUSED, facts_in, judged, law_by, law_of, lawful, page, parts_of, some_relations, some_sheet, told)
 from evaluate_cases import fact, raised_lines, shown_answers
-from sheet_cases import MOST_WORDS, Dice, lines_in, noted, read, sheet_of
+from sheet_cases import BROKEN_TABLES, CLUB, FULL_TABLE, MOST_WORDS, OWN_TABLE, WRONG_TABLE, Dice, field_of, lines_in, noted, read, read_by, sheet_of
 
 # --- Judging a set --------------------------------------------------------------------------------------------------
 
@@ -34,12 +35,12 @@ def refused(number, line=0):
     return Judgement(REFUSED, number, line, (0,) * 4, [])
 
 
-def judged_alone(sheet, most=4000):
-    """What a sheet gets with words enough; None where it has a case and that is not the only one."""
-    number, line, lines = read(sheet, MOST_WORDS)
+def judged_alone(sheet, table=None, most=4000):
+    """What a sheet gets with words enough, by the own table or another; None where it has a case and that is not the only one."""
+    number, line, lines = read(sheet, MOST_WORDS) if table is None else read_by(table, sheet, MOST_WORDS)
     if number:
         return refused(number, line)
-    parts = parts_of(lines)
+    parts = parts_of(lines, OWN if table is None else law_by(table))
     found = judged(parts, most)
     if found.number != NOT_COVERED:
         return Judgement(found.number, 0, 0, (0,) * 4, [])
@@ -58,12 +59,12 @@ def refusal_of(count, ends, room):
     return NO_ROOM if room < LENT_WORDS * len(ends) else 0
 
 
-def judged_set(data, ends, room):
-    """The number, and the judgement of each sheet of a set that is taken."""
+def judged_set(data, ends, room, table=None):
+    """The number, and the judgement of each sheet of a set that is taken. A table that is sent back is each sheet's matter, not the set's."""
     number = refusal_of(len(data), ends, room)
     if number:
         return number, []
-    return 0, [judged_alone(data[start:end]) for start, end in zip([0] + ends, ends)]
+    return 0, [judged_alone(data[start:end], table) for start, end in zip([0] + ends, ends)]
 
 
 # --- The cases ------------------------------------------------------------------------------------------------------
@@ -93,27 +94,33 @@ def shown(judgement):
     return "|" + " ".join(map(str, numbers)) + f" {len(judgement.facts)}|{facts}=="
 
 
-def keep(name, data, ends, want, room=None):
+def keep(name, data, ends, want, room=None, table=None):
     """A set by its bytes and ends. What is wanted is the number, or the verdict of each sheet and the numbers of those refused."""
     room = LENT_WORDS * len(ends) if room is None else room
     assert name not in names and "|" not in name and room <= HELD_WORDS and len(ends) <= HELD_ENDS and len(data) <= HELD_BYTES, name
     names.add(name)
-    number, sheets = judged_set(data, ends, room)
+    number, sheets = judged_set(data, ends, room, table)
     got = number if number else [(one.verdict, one.number) if one.number else one.verdict for one in sheets]
     if want is not None and got != want:
         sys.exit(f"the judge gives {got} and not {want}: {name}")
-    given.append(f"{name}|{' '.join(map(str, [room] + ends))}|{noted(data)}")
+    given.append(f"{name}|{' '.join(map(str, [room] + ends))}|{written(data, table)}")
     wanted.append(f"{name}: {number} 0 {len(sheets)} ==" + "".join(map(shown, sheets)))
-    tally[f"refused by {number}" if number else f"{len(sheets)} sheets"] += 1
+    tally[(f"refused by {number}" if number else f"{len(sheets)} sheets") + " by a table" * (table is not None)] += 1
+
+
+def written(data, table):
+    """The bytes of a set as a case writes them, and its table as one field more where it has one."""
+    text = noted(data)
+    return text if table is None else field_of(text, table)
 
 
 def ends_of(sheets):
     return [len(b"".join(sheets[:at + 1])) for at in range(len(sheets))]
 
 
-def taken(name, sheets, want, room=None):
+def taken(name, sheets, want, room=None, table=None):
     """A set of sheets, with ends that are right."""
-    keep(name, b"".join(sheets), ends_of(sheets), want, room)
+    keep(name, b"".join(sheets), ends_of(sheets), want, room, table)
 
 
 WORKED = sheet_of(lines_in("1 -1 -2 / 4 4 -1 -2 / 2 -1 -2 / 4 5 -1 -2 / 3 -1 -2 / 4 4 -1 -2 / 5 7 1 / 5 7 2"))
@@ -247,7 +254,62 @@ def keys():
     assert judged_alone(SETTLED).facts == facts_in("Strap(90) Pulse(7,1,90)") and judged_alone(SETTLED).missing[0] == 90
 
 
-def some_set(dice, pool, count):
+# Sheets of a club with lactate meters.
+LEVELS, RETESTS = "(r,s,v): Lactate(r,s,v)", "(r,s,v): Retest(r,s,v)"
+CLUB_COVERED = page(RETESTS, LEVELS)
+CLUB_CASE = page(LEVELS, RETESTS, LEVELS + " = (7,1,90) (7,2,91)", RETESTS + " = (7,1,90)")
+CLUB_NO_LOG = page("(): Ill(1)", "(): Ill(1)", "(v): Retest(7,1,v) = (90) (91)")
+CLUB_NO_RELATION = page("(): Ill(1)", "(): R19(1)")
+LAST_CASE = page("(): R32(1,1,1,1), R30(1,1)", "(): R29(1)")
+
+
+def club():
+    heading("sets by a club's table")
+    taken("club: each verdict", [CLUB_COVERED, CLUB_CASE, CLUB_NO_LOG], [0, 1, 2], table=CLUB)
+    taken("club: each verdict, the other way round", [CLUB_NO_LOG, CLUB_CASE, CLUB_COVERED], [2, 1, 0], table=CLUB)
+    taken("club: the ten's sheets beside the club's", [WORKED, CLUB_COVERED, COVERED_ONE, CLUB_CASE, NO_LOG_ONE, TWO_TICKS, CLUB_NO_LOG, SETTLED, TWO_RATES],
+          [1, 0, 0, 1, 2, 1, 2, 1, 2], table=CLUB)
+    taken("club: refusals between", [CLUB_CASE, UNCLOSED, NO_LIST, CLUB_NO_RELATION, CLUB_COVERED, NO_RELATION, OUT_OF_RANGE, SEVENTH_ATOM, OTHER_LENGTH, UNSAFE, ROWS_DESCEND,
+                                     CLUB_NO_LOG],
+          [1, (9, 2), (9, 3), (9, 4), 0, (9, 4), (9, 5), (9, 6), (9, 7), (9, 8), (9, 9), 2], table=CLUB)
+    taken("club: a sheet over 8,192 bytes", [CLUB_COVERED, TOO_LONG], [0, (9, 1)], table=CLUB)
+    taken("club: sixteen sheets", [CLUB_CASE, CLUB_COVERED, CLUB_NO_LOG, SMALL] * 4, [1, 0, 2, 0] * 4, table=CLUB)
+    taken("club: without its table", [CLUB_COVERED, WORKED, CLUB_CASE, CLUB_NO_LOG], [(9, 4), 1, (9, 4), (9, 4)])
+    taken("club: by the own ten in bytes", [CLUB_COVERED, WORKED, CLUB_CASE, CLUB_NO_LOG], [(9, 4), 1, (9, 4), (9, 4)], table=OWN_TABLE)
+    taken("club: by a table without keys and parents", [CLUB_NO_LOG, page(RETESTS, LEVELS, RETESTS + " = (7,1,90) (7,1,91)", LEVELS)], [0, 1],
+          table=table_cases.table([(columns, 0, 0) for columns, _, _ in table_cases.read(CLUB)[0]]))
+    taken("club: no sheets", [], [], table=CLUB)
+    taken("club: words to spare", [CLUB_CASE, CLUB_CASE], [1, 1], 2 * LENT_WORDS + 64, CLUB)
+    taken("relation 32 of 32", [LAST_CASE, page("(a,b,c,d): R32(a,b,c,d)", "(a,b,c,d): R16(a,b,c,d)"), page("(): R1(1)", "(): R1(1)", "(c,d): R32(1,2,c,d) = (3,4) (5,4)")],
+          [1, 0, 2], table=FULL_TABLE)
+    one = table_cases.table([(2, 1, 0)])
+    taken("a table of one line", [page("(a,b): R1(a,b)", "(a,7): R1(a,7)", "(a,b): R1(a,b) = (1,7) (2,8)"), page("(a,b): R1(x,a), R1(x,b)", "(a,a): R1(x,a)"),
+                                  page("(): R1(1,1)", "(): R1(1,1)", "(b): R1(3,b) = (7) (8)"), WORKED], [1, 0, 2, (9, 4)], table=one)
+    assert judged_alone(CLUB_CASE, CLUB).facts == facts_in("Lactate(7,1,90) Lactate(7,2,91) Retest(7,1,90)")
+    assert judged_alone(LAST_CASE, FULL_TABLE).facts == facts_in("R16(1,1,1,1) R30(1,1) R32(1,1,1,1)")
+
+
+def tables_sent_back():
+    heading("a table that is sent back: 14 first, then 13, then 15 for each sheet")
+    for table, line in BROKEN_TABLES:
+        name = f"a table sent back at line {line}"
+        sheets = [WORKED, UNCLOSED, b"", NO_RELATION, CLUB_COVERED]
+        assert all(one == refused(WRONG_TABLE, line) for one in judged_set(b"".join(sheets), ends_of(sheets), 5 * LENT_WORDS, table)[1])
+        taken(f"{name}: five sheets", sheets, [(9, WRONG_TABLE)] * 5, table=table)
+        taken(f"{name}: one sheet", [WORKED], [(9, WRONG_TABLE)], HELD_WORDS, table)
+        taken(f"{name}: no sheets", [], [], table=table)
+        taken(f"{name}: words short", sheets, NO_ROOM, 5 * LENT_WORDS - 1, table)
+        taken(f"{name}: no words", [WORKED], NO_ROOM, 0, table)
+        keep(f"{name}: a last end that is short", WORKED, [len(WORKED) - 1], WRONG_ENDS, None, table)
+        keep(f"{name}: an end that falls back, and no words", WORKED, [len(WORKED), 3, len(WORKED)], WRONG_ENDS, 0, table)
+        keep(f"{name}: seventeen sheets", b"", [0] * 17, WRONG_ENDS, HELD_WORDS, table)
+    table, line = BROKEN_TABLES[1]
+    for number, sheet in ((1, TOO_LONG), (2, UNCLOSED), (3, NO_LIST), (4, NO_RELATION), (5, OUT_OF_RANGE), (6, SEVENTH_ATOM), (7, OTHER_LENGTH), (8, UNSAFE), (9, ROWS_DESCEND)):
+        taken(f"a table sent back beside a sheet by {number}", [sheet, SMALL], [(9, WRONG_TABLE)] * 2, table=table)
+    keep("a table sent back and sixteen sheets without bytes", b"", [0] * 16, [(9, WRONG_TABLE)] * 16, None, table)
+
+
+def some_set(dice, pool, count, table=None):
     sheets = []
     for _ in range(count):
         sheet = dice.one(pool)
@@ -257,9 +319,23 @@ def some_set(dice, pool, count):
             sheet = bytes(data)
         if dice.below(8) == 0:
             sheet = b""
-        if judged_alone(sheet) is not None:
+        if judged_alone(sheet, table) is not None:
             sheets.append(sheet)
     return sheets
+
+
+def some_table(dice, count, longest):
+    """A small table, and so many sheets for it of which it is known what they get."""
+    while True:
+        relations = some_relations(dice)
+        law, table, pool = law_of(relations), table_cases.table(relations), []
+        often = sorted(set(law.keys) | set(law.parents) | set(law.parents.values()) | {len(relations)})
+        for _ in range(3 * count):
+            sheet = sheet_of(some_sheet(dice, 1 + dice.below(2), often, law, lawful))
+            if len(sheet) < longest and judged_alone(sheet, table, 1000) is not None:
+                pool.append(sheet)
+        if len(pool) >= count and len({judged_alone(sheet, table, 1000).verdict for sheet in pool}) > 2:
+            return table, pool
 
 
 def generated(title, name, dice, count, most_lists, longest):
@@ -281,6 +357,24 @@ def generated(title, name, dice, count, most_lists, longest):
             keep(f"{name} {at}", b"".join(sheets), marks, None, max(0, room))
 
 
+def generated_by_tables(dice, count):
+    """Sets of small sheets by small tables, both drawn; some tables have a field changed, and some sets one end moved."""
+    heading("generated: sets by tables")
+    for at in range(1, count + 1):
+        table, pool = some_table(dice, 8, 400)
+        sheets = some_set(dice, pool, 2 + dice.below(MOST_SHEETS - 1), table)
+        marks = ends_of(sheets)
+        if dice.below(5) == 0:
+            place = dice.below(len(marks))
+            marks[place] = max(0, marks[place] + dice.one((-1, 1, -25, 25)))
+        if dice.below(5) == 0:
+            place = dice.below(len(table) // 33) * 33 + 8
+            table = table[:place] + b"%8d" % dice.below(6) + table[place + 8:]
+        room = LENT_WORDS * len(sheets) + dice.one((0, 0, 0, 1, 63)) - dice.one((0, 0, 0, 0, 0, 1))
+        if len(written(b"".join(sheets), table)) < 7000 and judged_set(b"".join(sheets), marks, room, table)[1].count(None) == 0:
+            keep(f"set by a table {at}", b"".join(sheets), marks, None, max(0, room), table)
+
+
 def main():
     counts()
     ends()
@@ -291,10 +385,13 @@ def main():
     several_lists()
     generated("generated: sheets with one to four lists", "set with lists", Dice(20), 20, 4, 500)
     keys()
+    club()
+    tables_sent_back()
+    generated_by_tables(Dice(81), 30)
     texts = ["".join(line + "\n" for line in lines).encode("ascii") for lines in (given, wanted)]
     assert all(0 < len(line) < HELD_LINE and ("|" in line) != line.startswith("#") for line in given)
     for kind, count in sorted(tally.items()):
-        print(f"{kind:<14} {count:>4}")
+        print(f"{kind:<25} {count:>4}")
     print(f"{sum(tally.values())} cases, {len(texts[0])} bytes of input, {len(texts[1])} bytes of output")
     for path, text in zip((STDIN, STDOUT), texts):
         if "--check" in sys.argv[1:]:

@@ -2,7 +2,8 @@
 """Cases for the calls that read a sheet, write one and hand back a line, with the results they must give.
 
 This is an independent reading of the format: it is written from the format's description in words alone, and shares
-nothing with the library. The stored results (crates/test_sheet/stdout) come from it and not from the library.
+nothing with the library. A club's table of relations it reads with tests/table_cases.py, which was made in the same way. The stored
+results (crates/test_sheet/stdout) come from it and not from the library.
 
     python3 tests/sheet_cases.py            writes crates/test_sheet/stdin and crates/test_sheet/stdout
     python3 tests/sheet_cases.py --check    only says whether those two files are what it would write
@@ -17,9 +18,11 @@ import collections
 import pathlib
 import sys
 
+import table_cases
+
 # --- The format -----------------------------------------------------------------------------------------------------
 
-# The relations by number, and how many columns each has.
+# The library's own relations by number, and how many columns each has.
 COLUMNS = {
     1: 2,   # Rower
     2: 1,   # Strap
@@ -41,6 +44,8 @@ MOST_LISTS = 4
 MOST_VIEWS = 8
 MOST_ROWS = 40
 MOST_CONSTANT = 9_999_999
+
+WRONG_TABLE = 15
 
 # The numbers that eight bytes can hold.
 WIDEST = 99_999_999
@@ -91,8 +96,8 @@ def in_place(kind, before, blocks):
     return bool(blocks) and blocks[-1].kind == 3 and before in (4, 5)
 
 
-def judge_line(fields, before, blocks):
-    """The first of 2, 3, 4, 5, 6, 7 and 9 that holds of a line after these blocks, and 0 where none does."""
+def judge_line(fields, before, blocks, columns=COLUMNS):
+    """The first of 2, 3, 4, 5, 6, 7 and 9 that holds of a line after these blocks, and 0 where none does; by the columns of relations."""
     if fields is None:
         return 2
     kind, count = fields[0], len(fields)
@@ -103,7 +108,7 @@ def judge_line(fields, before, blocks):
     terms = fields[1:]
     if kind == 4:
         relation, terms = fields[1], fields[2:]
-        if COLUMNS.get(relation) != len(terms):
+        if columns.get(relation) != len(terms):
             return 4
     least = 0 if kind == 5 else -12
     if any(not least <= term <= MOST_CONSTANT for term in terms):
@@ -125,11 +130,11 @@ def judge_line(fields, before, blocks):
     return 0
 
 
-def judge(lines):
+def judge(lines, columns=COLUMNS):
     """(number, line) of what a sheet is sent back for by its lines, and (0, 0) where it is taken."""
     blocks, before = [], 0
     for at, fields in enumerate(lines, 1):
-        number = judge_line(fields, before, blocks)
+        number = judge_line(fields, before, blocks, columns)
         if number:
             return number, at
         before = fields[0]
@@ -154,29 +159,47 @@ def closed_lines(sheet):
     return lines, rest
 
 
-def read(sheet, room):
-    """(number, line, lines of numbers) of reading a sheet into so many lent words."""
+def read(sheet, room, columns=COLUMNS):
+    """(number, line, lines of numbers) of reading a sheet into so many lent words, by the columns of relations."""
     if len(sheet) > MOST_BYTES:
         return 1, 0, []
     closed, rest = closed_lines(sheet)
     lines = [fields_of(line) for line in closed] + ([None] if rest else [])
-    number, line = judge(lines)
+    number, line = judge(lines, columns)
     if number == 0 and room < MOST_WORDS:
         number = 13
     return number, line, [] if number else lines
 
 
-def write(words, room):
-    """(number, line, bytes) of writing a number form into so many lent bytes."""
+def write(words, room, columns=COLUMNS):
+    """(number, line, bytes) of writing a number form into so many lent bytes, by the own relations or others."""
     if len(words) > MOST_WORDS:
         return 1, 0, b""
     if len(words) % 7:
         return 2, 0, b""
     lines = [fields_in(words[at:at + 7]) for at in range(0, len(words), 7)]
-    number, line = judge(lines)
+    number, line = judge(lines, columns)
     if number == 0 and room < LENT_BYTES:
         number = 13
     return number, line, b"" if number else sheet_of(lines)
+
+
+def columns_by(table):
+    """The columns of each relation of a club's table and None, or None and the line that the table is sent back with."""
+    relations, line = table_cases.read(table)
+    return (None, line) if relations is None else ({number: relation[0] for number, relation in enumerate(relations, 1)}, None)
+
+
+def read_by(table, sheet, room):
+    """The same as reading, by a club's table, which is looked at first."""
+    columns, line = columns_by(table)
+    return (WRONG_TABLE, line, []) if columns is None else read(sheet, room, columns)
+
+
+def write_by(table, words, room):
+    """The same as writing, by a club's table, which is looked at first."""
+    columns, line = columns_by(table)
+    return (WRONG_TABLE, line, b"") if columns is None else write(words, room, columns)
 
 
 def line_of(sheet, number):
@@ -203,6 +226,7 @@ STDOUT = pathlib.Path("crates/test_sheet/stdout")
 # What the program has room for.
 ROOM = {"r": MOST_WORDS + 64, "w": LENT_BYTES + 64}
 HELD_BYTES = 8704
+HELD_TABLE = 2048
 HELD_WORDS = MOST_WORDS + 64
 HELD_LINE = 4096
 
@@ -238,8 +262,16 @@ def noted_words(words):
     return "".join(lines)
 
 
-def add(call, number, data, result, cause):
-    """Keeps a case, and counts it by its call and cause."""
+def field_of(data, table):
+    """What a case has written so far, and its table as one field more."""
+    assert "|" not in data and b"|" not in table and len(table) <= HELD_TABLE
+    return f"{data}|{noted(table)}"
+
+
+def add(call, number, data, result, cause, table=None):
+    """Keeps a case, and counts it by its call and cause. One with a table has a field more, and its call is a large letter."""
+    if table is not None:
+        call, data = call.upper(), field_of(data, table)
     given.append(f"{call} {number}|{data}")
     wanted.append(result)
     tally[call, cause] += 1
@@ -256,18 +288,18 @@ def agree(want, number, line, what):
         sys.exit(f"the reading gives {(number, line)} and not {want}: {what}")
 
 
-def read_case(sheet, want=None, room=MOST_WORDS):
+def read_case(sheet, want=None, room=MOST_WORDS, table=None):
     assert room <= ROOM["r"] and len(sheet) <= HELD_BYTES
-    number, line, lines = read(sheet, room)
+    number, line, lines = read(sheet, room) if table is None else read_by(table, sheet, room)
     agree(want, number, line, sheet)
-    add("r", room, noted(sheet), f"{number} {line} {len(lines)} =|{shown_words(words_of(lines))}", number)
+    add("r", room, noted(sheet), f"{number} {line} {len(lines)} =|{shown_words(words_of(lines))}", number, table)
 
 
-def write_case(words, want=None, room=LENT_BYTES):
+def write_case(words, want=None, room=LENT_BYTES, table=None):
     assert room <= ROOM["w"] and len(words) <= HELD_WORDS
-    number, line, sheet = write(words, room)
+    number, line, sheet = write(words, room) if table is None else write_by(table, words, room)
     agree(want, number, line, words)
-    add("w", room, noted_words(words), f"{number} {line} {len(sheet)} =|{shown(sheet)}", number)
+    add("w", room, noted_words(words), f"{number} {line} {len(sheet)} =|{shown(sheet)}", number, table)
 
 
 def line_case(sheet, number, want=None):
@@ -278,13 +310,13 @@ def line_case(sheet, number, want=None):
     add("l", number, noted(sheet), f"{len(line)}|{shown(line)}", "some" if line else "none")
 
 
-def round_case(sheet, room=LENT_BYTES):
+def round_case(sheet, room=LENT_BYTES, table=None):
     """A sheet that is taken: what is read is written again."""
     assert len(sheet) <= HELD_BYTES and room <= ROOM["w"]
-    refused, line, lines = read(sheet, MOST_WORDS)
-    number, place, written = write(words_of(lines), room)
+    refused, line, lines = read(sheet, MOST_WORDS) if table is None else read_by(table, sheet, MOST_WORDS)
+    number, place, written = write(words_of(lines), room) if table is None else write_by(table, words_of(lines), room)
     assert (refused, number, written) == (0, 0, sheet), sheet
-    add("b", room, noted(sheet), f"0 0 {len(lines)} =|{shown_words(words_of(lines))}0 0 {len(sheet)} =|{shown(sheet)}", 0)
+    add("b", room, noted(sheet), f"0 0 {len(lines)} =|{shown_words(words_of(lines))}0 0 {len(sheet)} =|{shown(sheet)}", 0, table)
 
 
 def lines_in(text):
@@ -300,10 +332,10 @@ def words(text):
     return words_of(lines_in(text))
 
 
-def both(text, want):
+def both(text, want, table=None):
     """The same sheet as bytes and as words: the two forms are sent back for the same things."""
-    read_case(sheet(text), want)
-    write_case(words(text), want)
+    read_case(sheet(text), want, table=table)
+    write_case(words(text), want, table=table)
 
 
 def joined(*parts):
@@ -788,6 +820,15 @@ BAD = {
 }
 
 
+def bad_forms(number):
+    """Of the sheet for a number: its bytes, its words and its line. Refusal 2 has a malformed field, and a wrong field count."""
+    text, line = BAD[number]
+    page, form = sheet(text), words(text)
+    if number == 2:
+        page, form = page.replace(b"2       1\n", b"2      01\n", 1), form[:7] + [9] + form[8:]
+    return page, form, line
+
+
 def lent():
     heading("13: reading is lent 749 words or more, whatever the sheet needs")
     for room in (0, 1, 6, 7, 27, 28, 29, 600, 601, 602, 704, 747, 748):
@@ -806,11 +847,9 @@ def lent():
     for largest in (FULL, LARGEST, FULL_OF_ONE):
         write_case(words_of(largest), (13, 0), 5242)
     heading("13 comes last")
-    for number, (text, line) in BAD.items():
+    for number in BAD:
         for words_lent, bytes_lent in ((0, 0), (748, 5242), (749, 5243), (813, 5307)):
-            page, form = sheet(text), words(text)
-            if number == 2:
-                page, form = page.replace(b"2       1\n", b"2      01\n", 1), form[:7] + [9] + form[8:]
+            page, form, line = bad_forms(number)
             read_case(page, (number, line), words_lent)
             write_case(form, (number, line), bytes_lent)
     for room in (0, 748):
@@ -992,6 +1031,165 @@ def lines_handed_back():
     line_case(b" " * 8190 + b"\nlate\n", 2, b"late")
 
 
+# --- By a club's table ----------------------------------------------------------------------------------------------
+
+# A club with lactate meters: columns, key and parent of each relation that it has after the library's own ten.
+LACTATE = [
+    (3, 2, 0),      # 11 Lactate(rower, step, level): one level for a rower at a step
+    (3, 0, 11),     # 12 Retest: each row is one of Lactate
+    (3, 1, 11),     # 13 Peak: the same, and one for a rower
+    (2, 1, 0),      # 14 Meter(meter, strip): one strip for a meter
+    (4, 3, 0),      # 15 Drop(rower, session, finger, level): one level for a rower, a session and a finger
+    (4, 1, 15),     # 16 Last: each row is one of Drop, and one for a rower
+    (1, 0, 0),      # 17 Fasted(rower)
+    (1, 0, 17),     # 18 Ill(rower): each is one of Fasted
+]
+
+# As many relations as a table may have, with columns, keys and parents of all kinds. The last has four columns, a key of two and a parent, whose key is of three.
+MOST = [(columns, (number // 5) % columns, number - 16 if number > 16 and number % 3 else 0) for number in range(1, 33) for columns in [4 - (32 - number) % 4]]
+assert MOST[31] == (4, 2, 16) and MOST[15] == (4, 3, 0)
+
+OWN_TABLE = table_cases.table(table_cases.OWN)
+CLUB = table_cases.table(table_cases.OWN + LACTATE)
+FULL_TABLE = table_cases.table(MOST)
+
+# The own ten with other columns each: 5 less what they were.
+TURNED = table_cases.table([(5 - columns, 0, 0) for columns, _, _ in table_cases.OWN])
+
+# Tables that are sent back, with the line.
+BROKEN_TABLES = [
+    (b"", 0),
+    (table_cases.changed(table_cases.OWN, 1, 2, 2, 0, 0), 1),                               # its number
+    (table_cases.changed(table_cases.OWN + LACTATE, 13, 13, 3, 1, 12), 13),                 # its parent has one
+    (CLUB[:-1], 18),
+    (table_cases.table(MOST + [(1, 0, 0)]), 33),
+]
+
+
+def tables_first():
+    heading("15: a table is looked at before everything else")
+    for table, at in BROKEN_TABLES:
+        for room in (0, MOST_WORDS, ROOM["r"]):
+            read_case(sheet(SIGNALS), (WRONG_TABLE, at), room, table)
+        for room in (0, LENT_BYTES, ROOM["w"]):
+            write_case(words(SIGNALS), (WRONG_TABLE, at), room, table)
+        read_case(b" " * 8193, (WRONG_TABLE, at), 0, table)
+        read_case(b"", (WRONG_TABLE, at), 0, table)
+        write_case([], (WRONG_TABLE, at), 0, table)
+        write_case([0] * 756, (WRONG_TABLE, at), 0, table)
+        write_case([1], (WRONG_TABLE, at), 0, table)
+        for number in BAD:
+            page, form, _ = bad_forms(number)
+            read_case(page, (WRONG_TABLE, at), table=table)
+            write_case(form, (WRONG_TABLE, at), table=table)
+    heading("a table that passes, and then the sheet's causes, and 13 last")
+    for table in (OWN_TABLE, CLUB):
+        read_case(b" " * 8193, (1, 0), 0, table)
+        write_case([0] * 756, (1, 0), 0, table)
+        write_case([1], (2, 0), 0, table)
+        for number in BAD:
+            page, form, line = bad_forms(number)
+            read_case(page, (number, line), 748, table)
+            write_case(form, (number, line), 5242, table)
+        for room in (0, 748):
+            read_case(sheet(SIGNALS), (13, 0), room, table)
+        for room in (0, 5242):
+            write_case(words(SIGNALS), (13, 0), room, table)
+        for room in (749, 750, 813):
+            read_case(sheet(SIGNALS), TAKEN, room, table)
+        for room in (5243, 5244, 5307):
+            write_case(words(SIGNALS), TAKEN, room, table)
+    lactate = "1 -1 / 4 11 -1 -2 -3 / 2 -1 / 4 13 -1 -2 -3 / 3 -1 / 4 16 -1 -2 -3 -4 / 5 7"
+    for room in (748, 749, 813):
+        read_case(sheet(lactate), TAKEN if room > 748 else (13, 0), room, CLUB)
+    for room in (5242, 5243, 5307):
+        write_case(words(lactate), TAKEN if room > 5242 else (13, 0), room, CLUB)
+
+
+def ones(count):
+    return " ".join(["1"] * count)
+
+
+def relations_of_tables():
+    heading("4: a table of one relation")
+    for columns in range(1, 5):
+        table = table_cases.table([(columns, columns - 1, 0)])
+        for relation in (0, 1, 2, 4, 10):
+            for count in range(1, 5):
+                both(f"1 / 4 {relation} {ones(count)} / 2 / 4 1 {ones(columns)}", TAKEN if (relation, count) == (1, columns) else (4, 2), table)
+    heading("4: the relations of a club with lactate meters")
+    for relation in range(10, 20):
+        for count in range(1, 5):
+            fits = relation <= 18 and (table_cases.OWN + LACTATE)[relation - 1][0] == count
+            read_case(sheet(f"1 / 4 {relation} {ones(count)} / 2 / 4 2 1"), TAKEN if fits else (4, 2), table=CLUB)
+            if fits:
+                write_case(words(f"1 / 4 {relation} {ones(count)} / 2 / 4 2 1"), TAKEN, table=CLUB)
+                write_case(words(f"1 / 4 {relation} {ones(count % 4 + 1)} / 2 / 4 2 1"), (4, 2), table=CLUB)
+    heading("4: as many relations as a table may have")
+    for relation, (columns, _, _) in enumerate(MOST, 1):
+        other = columns % 4 + 1
+        read_case(sheet(f"1 / 4 {relation} {ones(columns)} / 2 / 4 1 1"), TAKEN, table=FULL_TABLE)
+        if relation > 22:
+            write_case(words(f"1 / 4 {relation} {ones(other)} / 2 / 4 1 1"), (4, 2), table=FULL_TABLE)
+    for relation in (0, 33, 34, 64, 99, 256 + 32, -32):
+        read_case(sheet(f"1 / 4 {relation} {ones(4)} / 2 / 4 1 1"), (4, 2), table=FULL_TABLE)
+    for relation in (31, 32):
+        columns = MOST[relation - 1][0]
+        both(f"1 / 4 {relation} {ones(columns)} / 2 / 4 1 1", TAKEN if relation < 32 else (4, 2), table_cases.table(MOST[:31]))
+    heading("4: the own relations with other columns, both ways")
+    for relation, columns in COLUMNS.items():
+        for text, own in ((f"1 / 4 {relation} {ones(columns)} / 2 / 4 10 1", TAKEN), (f"1 / 4 {relation} {ones(5 - columns)} / 2 / 4 10 1 1 1 1", (4, 2))):
+            both(text, own)
+            both(text, own, OWN_TABLE)
+            both(text, (4, 2) if own == TAKEN else TAKEN, TURNED)
+    heading("4: in the list, in a view and in a later atom, by a table")
+    both("1 / 4 11 1 1 1 / 2 / 4 19 1", (4, 4), CLUB)
+    both("1 / 4 11 1 1 1 / 2 / 4 18 1 / 4 14 1", (4, 5), CLUB)
+    both("1 / 4 11 1 1 1 / 2 / 4 18 1 / 3 / 4 16 1 1 1", (4, 6), CLUB)
+    both("1 / 4 11 1 1 1 / 2 / 4 18 1 / 3 / 4 16 1 1 1 1 / 4 15 1 1 1 1 / 4 12 1 1", (4, 8), CLUB)
+    heading("4 after 2 and 3 and before 5, 6 and 7, by a table")
+    six = joined("1", *["4 11 1 1 1"] * 6)
+    read_case(sheet("1") + b"       4      19      0x\n" + sheet("2 / 4 2 1"), (2, 2), table=CLUB)
+    write_case(words("1") + [3, 4, 19, 100_000_000, 0, 0, 0] + words("2 / 4 2 1"), (2, 2), table=CLUB)
+    both("1 / 4 19 / 2 / 4 2 1", (3, 2), CLUB)
+    both("4 19 1 / 2 / 4 2 1", (3, 1), CLUB)
+    both("1 / 4 19 -13 / 2 / 4 2 1", (4, 2), CLUB)
+    both("1 / 4 18 -13 / 2 / 4 2 1", (5, 2), CLUB)
+    both(joined(six, "4 19 1"), (4, 8), CLUB)
+    both(joined(six, "4 18 1 1"), (4, 8), CLUB)
+    both(joined(six, "4 18 1"), (6, 8), CLUB)
+    heading("8 by the columns of a table")
+    both("1 -4 / 4 16 -1 -2 -3 -4 / 2 -4 / 4 15 -1 -2 -3 -4", TAKEN, CLUB)
+    both("1 -4 / 4 16 -1 -2 -3 -4 / 2 -4 / 4 11 -1 -2 -3", (8, 3), CLUB)
+
+
+def tables_and_back():
+    heading("relations 11 to 32, read and written again")
+    for relation in range(11, 33):
+        terms = " ".join(str(-1 - at) for at in range(MOST[relation - 1][0]))
+        round_case(sheet(f"1 -1 / 4 {relation} {terms} / 2 -1 / 4 {relation} {terms} / 3 -1 / 4 {relation} {terms} / 5 {relation} / 5 9999999"), table=FULL_TABLE)
+    heading("all 32 relations in one sheet")
+    atoms = [[4, relation] + [7] * columns for relation, (columns, _, _) in enumerate(MOST, 1)]
+    lines = [[1]] + atoms[:6]
+    for at in (6, 12, 18, 24):
+        lines += [[2]] + atoms[at:at + 6]
+    lines += [[3]] + atoms[30:] + [[5]]
+    round_case(sheet_of(lines), table=FULL_TABLE)
+    read_case(sheet_of(lines), TAKEN, table=FULL_TABLE)
+    write_case(words_of(lines), TAKEN, table=FULL_TABLE)
+    heading("the largest sheets, of relation 32")
+    head, atom, rows = WIDE
+    largest = full(4, head, [4, 32] + atom[2:], rows)
+    assert MOST[31][0] == 4 and len(largest) == 107 and len(sheet_of(largest)) == len(sheet_of(LARGEST))
+    round_case(sheet_of(largest), ROOM["w"], FULL_TABLE)
+    read_case(sheet_of(largest), (13, 0), 748, FULL_TABLE)
+    write_case(words_of(largest), (13, 0), 5242, FULL_TABLE)
+    heading("by the library's own table in bytes it is as without")
+    for text in (LEAST, VIEW, ROWS, SIGNALS):
+        round_case(sheet(text), table=OWN_TABLE)
+        both(text, TAKEN, OWN_TABLE)
+
+
 # --- Generated cases ------------------------------------------------------------------------------------------------
 
 
@@ -1015,36 +1213,36 @@ CONSTANTS = (0, 1, 2, 7, 7, 8, 10, 42, 500, 9999, 1_000_000, 9_999_998, 9_999_99
 SEVEN_DIGITS = (1_000_000, 1_000_001, 1_234_567, 4_194_304, 7_654_321, 8_388_608, 9_999_998, 9_999_999)
 
 
-def some_atoms(dice, count, constants):
-    """Atoms of a block, over few variables."""
+def some_atoms(dice, count, constants, relations):
+    """Atoms of a block, over few variables, of relations with these columns."""
     names = [-1 - dice.below(12) for _ in range(1 + dice.below(4))]
     atoms = []
     for _ in range(count):
-        relation = 1 + dice.below(10)
-        terms = [dice.one(names) if dice.below(3) else dice.one(constants) for _ in range(COLUMNS[relation])]
+        relation = 1 + dice.below(len(relations))
+        terms = [dice.one(names) if dice.below(3) else dice.one(constants) for _ in range(relations[relation])]
         atoms.append([4, relation] + terms)
     return atoms
 
 
-def some_block(dice, kind, columns, count, constants):
+def some_block(dice, kind, columns, count, constants, relations):
     """A head and atoms: each head variable stands in an atom."""
-    atoms = some_atoms(dice, count, constants)
+    atoms = some_atoms(dice, count, constants, relations)
     held = [term for atom in atoms for term in atom[2:] if term < 0]
     head = [dice.one(held) if held and dice.below(4) else dice.one(constants) for _ in range(columns)]
     return [[kind] + head] + atoms
 
 
-def some_sheet(dice, size, constants=CONSTANTS, lists=1):
+def some_sheet(dice, size, constants=CONSTANTS, lists=1, relations=COLUMNS):
     """Lines of a sheet that is taken, with so many lists: small at size 1, up to every limit at size 6."""
     most = {1: 2, 2: 3, 6: 6}[size]
     columns = dice.below(5)
-    lines = some_block(dice, 1, columns, 1 + dice.below(most), constants)
+    lines = some_block(dice, 1, columns, 1 + dice.below(most), constants, relations)
     for _ in range(lists):
-        lines += some_block(dice, 2, columns, 1 + dice.below(most), constants)
+        lines += some_block(dice, 2, columns, 1 + dice.below(most), constants, relations)
     left = MOST_ROWS
     for _ in range(dice.below({1: 2, 2: 4, 6: 9}[size])):
         columns = dice.below(5)
-        lines += some_block(dice, 3, columns, 1 + dice.below(min(most, 3)), constants)
+        lines += some_block(dice, 3, columns, 1 + dice.below(min(most, 3)), constants, relations)
         rows = {tuple(dice.one(constants) for _ in range(columns)) for _ in range(dice.below({1: 3, 2: 5, 6: 9}[size]))}
         rows = sorted(rows)[:left]
         left -= len(rows)
@@ -1213,6 +1411,65 @@ def generated_lists():
     spread(lambda: words_of(one_list_more()), keep_write, 50, 12)
 
 
+def some_table(dice, count):
+    """So many relations of a table that passes."""
+    relations = []
+    for _ in range(count):
+        columns = 1 + dice.below(4)
+        parents = [place for place, (its, _, parent) in enumerate(relations, 1) if its == columns and parent == 0]
+        parent = dice.one(parents) if parents and dice.below(2) else 0
+        relations.append((columns, dice.below(columns), parent))
+    return relations
+
+
+def generated_tables():
+    """Sheets by tables, both drawn by dice of their own."""
+    dice = Dice(80)
+
+    def drawn(size):
+        table = table_cases.table(some_table(dice, dice.one((1, 2, 3, 5, 8, 12))))
+        return table, some_sheet(dice, size, lists=1 + dice.below(2), relations=columns_by(table)[0])
+
+    def keep_read_by(case, really):
+        if really:
+            read_case(case[1], table=case[0])
+        return read_by(*case, MOST_WORDS)[0]
+
+    def keep_write_by(case, really):
+        if really:
+            write_case(case[1], table=case[0])
+        return write_by(*case, LENT_BYTES)[0]
+
+    def one_field():
+        """A table with a field of one line changed: often it still passes."""
+        table, lines = drawn(1)
+        at = dice.below(len(table) // 33 * 4) * 8
+        at += at // 32
+        return table[:at] + b"%8d" % dice.below(5) + table[at + 8:], sheet_of(lines)
+
+    heading("generated: sheets by tables, read and written again")
+    for at in range(36):
+        table, lines = drawn(6 if at % 18 == 0 else 2 if at % 4 == 0 else 1)
+        round_case(sheet_of(lines), dice.one((5243, 5307)), table)
+    heading("generated: sheets by tables, damaged in one line")
+
+    def one_line(form):
+        table, lines = drawn(1)
+        return table, form(damaged_lines(dice, lines))
+
+    spread(lambda: one_line(sheet_of), keep_read_by, 60, 12)
+    spread(lambda: one_line(words_of), keep_write_by, 60, 12)
+    heading("generated: sheets by tables that they were not made for")
+
+    def another():
+        return table_cases.table(some_table(dice, dice.one((1, 2, 3, 5, 8, 12)))), drawn(1)[1]
+
+    spread(lambda: (lambda table, lines: (table, sheet_of(lines)))(*another()), keep_read_by, 30, 20)
+    spread(lambda: (lambda table, lines: (table, words_of(lines)))(*another()), keep_write_by, 30, 20)
+    heading("generated: tables with one field changed")
+    spread(one_field, keep_read_by, 60, 25)
+
+
 def main():
     worked_sheets()
     sizes()
@@ -1233,11 +1490,15 @@ def main():
     lines_handed_back()
     generated()
     generated_lists()
+    tables_first()
+    relations_of_tables()
+    tables_and_back()
+    generated_tables()
     texts = ["".join(line + "\n" for line in lines).encode("ascii") for lines in (given, wanted)]
     assert all(0 < len(line) < HELD_LINE and ("|" in line) != line.startswith("#") for line in given)
     calls = {"r": "read", "w": "write", "l": "line", "b": "round trip"}
     for (call, cause), count in sorted(tally.items(), key=lambda item: (item[0][0], str(item[0][1]).rjust(4))):
-        print(f"{calls[call]:>10} {cause:>4} {count:>5}")
+        print(f"{calls[call.lower()] + ' by a table' * call.isupper():>21} {cause:>4} {count:>5}")
     print(f"{sum(tally.values())} cases, {len(texts[0])} bytes of input, {len(texts[1])} bytes of output")
     for path, text in zip((STDIN, STDOUT), texts):
         if "--check" in sys.argv[1:]:

@@ -1,5 +1,6 @@
 //! Whether saved lists cover a question, judged from the rows of lists alone, for one sheet or a page's whole set, with the page to print
-//! for it; sheets read and written, their lines, and evaluation; sheets as texts, and what comes of them in words.
+//! for it; sheets read and written, their lines, and evaluation; sheets as texts, and what comes of them in words. All go by the
+//! library's own table of relations; those with a name in `by_table` go by a club's, whose bytes come first.
 //!
 //! Each function is a call of the proved library, over slices that the caller lends. `docs/PROMISES.md` says what is proved of it. Every
 //! input is answered: what cannot be taken is [`Refused`], and then nothing lent is changed. Otherwise the results stand at the front
@@ -32,7 +33,14 @@ pub const FACT_WORDS: usize = 5;
 /// An answer: its values, filled up with 0 to four.
 pub const ANSWER_WORDS: usize = 4;
 
-/// The relations' names and columns, from relation 1 on.
+/// A table's bytes, at most: 32 lines of 33.
+pub const TABLE_BYTES: usize = 1056;
+/// The own table's bytes, and those that [`own_table`] wants.
+pub const OWN_TABLE_BYTES: usize = 330;
+/// The relations of a table, at most.
+pub const MOST_RELATIONS: usize = 32;
+
+/// The own table's relations, their names and columns, from relation 1 on.
 pub const RELATIONS: [(&str, usize); 10] = [
     ("Rower", 2),
     ("Strap", 1),
@@ -129,6 +137,88 @@ mod c {
             page: *mut u8,
             page_bytes: usize,
         ) -> DayOutcome;
+        pub fn figdawesa_own_table(out: *mut u8, out_bytes: usize) -> Ended;
+        pub fn figdawesa_read_by_table(
+            table: *const u8,
+            table_bytes: usize,
+            sheet: *const u8,
+            sheet_bytes: usize,
+            out: *mut i32,
+            out_words: usize,
+        ) -> Ended;
+        pub fn figdawesa_write_by_table(
+            table: *const u8,
+            table_bytes: usize,
+            words: *const i32,
+            word_count: usize,
+            out: *mut u8,
+            out_bytes: usize,
+        ) -> Ended;
+        pub fn figdawesa_evaluate_by_table(
+            table: *const u8,
+            table_bytes: usize,
+            sheet: *const u8,
+            sheet_bytes: usize,
+            block: usize,
+            facts: *const i32,
+            fact_words: usize,
+            out: *mut i32,
+            out_words: usize,
+        ) -> Ended;
+        pub fn figdawesa_judge_by_table(
+            table: *const u8,
+            table_bytes: usize,
+            sheet: *const u8,
+            sheet_bytes: usize,
+            out: *mut i32,
+            out_words: usize,
+        ) -> Outcome;
+        pub fn figdawesa_judge_set_by_table(
+            table: *const u8,
+            table_bytes: usize,
+            bytes: *const u8,
+            byte_count: usize,
+            ends: *const usize,
+            sheets: usize,
+            out: *mut i32,
+            out_words: usize,
+        ) -> SetOutcome;
+        pub fn figdawesa_judge_day_by_table(
+            table: *const u8,
+            table_bytes: usize,
+            bytes: *const u8,
+            byte_count: usize,
+            ends: *const usize,
+            sheets: usize,
+            out: *mut i32,
+            out_words: usize,
+            page: *mut u8,
+            page_bytes: usize,
+        ) -> DayOutcome;
+        pub fn figdawesa_sheet_of_by_table(
+            table: *const u8,
+            table_bytes: usize,
+            text: *const u8,
+            text_bytes: usize,
+            out: *mut u8,
+            out_bytes: usize,
+        ) -> TextOutcome;
+        pub fn figdawesa_text_of_by_table(
+            table: *const u8,
+            table_bytes: usize,
+            sheet: *const u8,
+            sheet_bytes: usize,
+            out: *mut u8,
+            out_bytes: usize,
+        ) -> Ended;
+        pub fn figdawesa_answer_by_table(
+            table: *const u8,
+            table_bytes: usize,
+            given: *const u8,
+            given_bytes: usize,
+            out: *mut u8,
+            out_bytes: usize,
+        ) -> usize;
     }
 }
 
@@ -163,11 +253,13 @@ pub enum Cause {
     NoRoom = 13,
     /// More than 16 sheets, an end below the one before, a last end that is not the byte count.
     WrongEnds = 14,
+    /// A line that no table has there, unclosed or a 33rd; a table without bytes.
+    WrongTable = 15,
 }
 
 impl Cause {
     /// Every cause, by its number from 1 on.
-    pub const ALL: [Cause; 14] = [
+    pub const ALL: [Cause; 15] = [
         Cause::TooLong,
         Cause::Malformed,
         Cause::Misplaced,
@@ -182,6 +274,7 @@ impl Cause {
         Cause::FactOrder,
         Cause::NoRoom,
         Cause::WrongEnds,
+        Cause::WrongTable,
     ];
 
     pub fn number(self) -> usize {
@@ -204,11 +297,12 @@ impl Cause {
             Cause::FactOrder => "too many facts, or not ascending",
             Cause::NoRoom => "too little room",
             Cause::WrongEnds => "too many sheets, or ends that do not part the bytes",
+            Cause::WrongTable => "a line of the table that is not right, or a table without lines",
         }
     }
 }
 
-/// What is sent back: the cause, and the line, counted from 1, or 0 where none is named.
+/// What is sent back: the cause, and the line, counted from 1, or 0 where none is named. By 15 it is a line of the table.
 #[derive(Clone, Copy, Debug, PartialEq, Eq, Hash)]
 pub struct Refused {
     pub cause: Cause,
@@ -264,12 +358,53 @@ pub fn read<'a>(sheet: &[u8], out: &'a mut [i32]) -> Result<&'a [i32], Refused> 
     Ok(&out[..counted(ended)? * LINE_WORDS])
 }
 
+/// The same by a table's bytes. Refused by 15 first.
+pub fn read_by_table<'a>(table: &[u8], sheet: &[u8], out: &'a mut [i32]) -> Result<&'a [i32], Refused> {
+    // SAFETY: each pointer is valid for its length, and the lent one is not shared.
+    let ended = unsafe {
+        c::figdawesa_read_by_table(
+            table.as_ptr(),
+            table.len(),
+            sheet.as_ptr(),
+            sheet.len(),
+            out.as_mut_ptr(),
+            out.len(),
+        )
+    };
+    Ok(&out[..counted(ended)? * LINE_WORDS])
+}
+
 /// A number form to its sheet's bytes.
 ///
 /// Refused by 1 to 9, and then by 13 where fewer than [`WRITE_BYTES`] are lent, however short the form is.
 pub fn write<'a>(words: &[i32], out: &'a mut [u8]) -> Result<&'a [u8], Refused> {
     // SAFETY: both pointers are valid for their lengths, and the lent one is not shared.
     let ended = unsafe { c::figdawesa_write(words.as_ptr(), words.len(), out.as_mut_ptr(), out.len()) };
+    Ok(&out[..counted(ended)?])
+}
+
+/// The same by a table's bytes. Refused by 15 first.
+pub fn write_by_table<'a>(table: &[u8], words: &[i32], out: &'a mut [u8]) -> Result<&'a [u8], Refused> {
+    // SAFETY: each pointer is valid for its length, and the lent one is not shared.
+    let ended = unsafe {
+        c::figdawesa_write_by_table(
+            table.as_ptr(),
+            table.len(),
+            words.as_ptr(),
+            words.len(),
+            out.as_mut_ptr(),
+            out.len(),
+        )
+    };
+    Ok(&out[..counted(ended)?])
+}
+
+/// The bytes of the library's own table.
+///
+/// Refused by 13 where fewer than [`OWN_TABLE_BYTES`] are lent.
+pub fn own_table(out: &mut [u8]) -> Result<&[u8], Refused> {
+    // SAFETY: the pointer is valid for its length, and is not shared.
+    let ended = unsafe { c::figdawesa_own_table(out.as_mut_ptr(), out.len()) };
     Ok(&out[..counted(ended)?])
 }
 
@@ -288,6 +423,25 @@ pub fn evaluate<'a>(sheet: &[u8], block: usize, facts: &[i32], out: &'a mut [i32
     // SAFETY: each pointer is valid for its length, and the lent one is not shared.
     let ended = unsafe {
         c::figdawesa_evaluate(
+            sheet.as_ptr(),
+            sheet.len(),
+            block,
+            facts.as_ptr(),
+            facts.len(),
+            out.as_mut_ptr(),
+            out.len(),
+        )
+    };
+    Ok(&out[..counted(ended)? * ANSWER_WORDS])
+}
+
+/// The same by a table's bytes. Refused by 15 first.
+pub fn evaluate_by_table<'a>(table: &[u8], sheet: &[u8], block: usize, facts: &[i32], out: &'a mut [i32]) -> Result<&'a [i32], Refused> {
+    // SAFETY: each pointer is valid for its length, and the lent one is not shared.
+    let ended = unsafe {
+        c::figdawesa_evaluate_by_table(
+            table.as_ptr(),
+            table.len(),
             sheet.as_ptr(),
             sheet.len(),
             block,
@@ -323,19 +477,56 @@ pub fn judge<'a>(sheet: &[u8], out: &'a mut [i32]) -> Result<Verdict<'a>, Refuse
     judged(outcome, out)
 }
 
+/// The same by a table's bytes; only logs count that its keys and parents allow. Refused by 15 first.
+pub fn judge_by_table<'a>(table: &[u8], sheet: &[u8], out: &'a mut [i32]) -> Result<Verdict<'a>, Refused> {
+    // SAFETY: each pointer is valid for its length, and the lent one is not shared.
+    let outcome = unsafe {
+        c::figdawesa_judge_by_table(
+            table.as_ptr(),
+            table.len(),
+            sheet.as_ptr(),
+            sheet.len(),
+            out.as_mut_ptr(),
+            out.len(),
+        )
+    };
+    judged(outcome, out)
+}
+
+/// The judgements of a set, in the sheets' order.
+pub type Judged<'a> = Vec<Result<Verdict<'a>, Refused>>;
+
 /// The judgement of each sheet of a page's set, in their order: the sheets stand one after the other in `bytes`, and `ends` says where each
 /// ends. Each gets what [`judge`] gives it alone, a refusal included, and its facts stand in [`JUDGE_WORDS`] words of its own: those from its
 /// place, counted from 0, times [`JUDGE_WORDS`].
 ///
 /// The whole set is refused by 14, and then by 13 where fewer than [`JUDGE_WORDS`] are lent for each sheet.
-pub fn judge_set<'a>(bytes: &[u8], ends: &[usize], out: &'a mut [i32]) -> Result<Vec<Result<Verdict<'a>, Refused>>, Refused> {
+pub fn judge_set<'a>(bytes: &[u8], ends: &[usize], out: &'a mut [i32]) -> Result<Judged<'a>, Refused> {
     // SAFETY: each pointer is valid for its length, and the lent one is not shared.
     let set = unsafe { c::figdawesa_judge_set(bytes.as_ptr(), bytes.len(), ends.as_ptr(), ends.len(), out.as_mut_ptr(), out.len()) };
     set_judged(set, out)
 }
 
+/// The same by a table's bytes. Where the table is refused, each sheet of a set that is taken is refused by 15.
+pub fn judge_set_by_table<'a>(table: &[u8], bytes: &[u8], ends: &[usize], out: &'a mut [i32]) -> Result<Judged<'a>, Refused> {
+    // SAFETY: each pointer is valid for its length, and the lent one is not shared.
+    let set = unsafe {
+        c::figdawesa_judge_set_by_table(
+            table.as_ptr(),
+            table.len(),
+            bytes.as_ptr(),
+            bytes.len(),
+            ends.as_ptr(),
+            ends.len(),
+            out.as_mut_ptr(),
+            out.len(),
+        )
+    };
+    set_judged(set, out)
+}
+
 /// The judgements of a set as C has them, with the words that were lent for it.
-fn set_judged(set: c::SetOutcome, lent: &[i32]) -> Result<Vec<Result<Verdict<'_>, Refused>>, Refused> {
+fn set_judged(set: c::SetOutcome, lent: &[i32]) -> Result<Judged<'_>, Refused> {
     if set.number != 0 {
         return Err(refused(set.number, set.line));
     }
@@ -350,7 +541,7 @@ fn set_judged(set: c::SetOutcome, lent: &[i32]) -> Result<Vec<Result<Verdict<'_>
 }
 
 /// A set's judgements, and the page to print for it.
-pub type Day<'a> = (Vec<Result<Verdict<'a>, Refused>>, &'a [u8]);
+pub type Day<'a> = (Judged<'a>, &'a [u8]);
 
 /// The judgement of each sheet as [`judge_set`] gives it, and the page to print for the set: a line for each sheet, with its place from 1, its
 /// verdict or 9, its refusal's number or 0, and its fact count; and a closing line, with how many had 0, 1, 2 and 9, and the sum of the fact
@@ -375,12 +566,38 @@ pub fn judge_day<'a>(bytes: &[u8], ends: &[usize], out: &'a mut [i32], page: &'a
     Ok((set_judged(day.set, out)?, &page[..day.bytes]))
 }
 
+/// The same by a table's bytes. Where the table is refused, each sheet of a set that is taken is refused by 15, and the page is written.
+pub fn judge_day_by_table<'a>(
+    table: &[u8],
+    bytes: &[u8],
+    ends: &[usize],
+    out: &'a mut [i32],
+    page: &'a mut [u8],
+) -> Result<Day<'a>, Refused> {
+    // SAFETY: each pointer is valid for its length, and the lent ones are not shared.
+    let day = unsafe {
+        c::figdawesa_judge_day_by_table(
+            table.as_ptr(),
+            table.len(),
+            bytes.as_ptr(),
+            bytes.len(),
+            ends.as_ptr(),
+            ends.len(),
+            out.as_mut_ptr(),
+            out.len(),
+            page.as_mut_ptr(),
+            page.len(),
+        )
+    };
+    Ok((set_judged(day.set, out)?, &page[..day.bytes]))
+}
+
 /// Why a text has no sheet.
 #[derive(Clone, Copy, Debug, PartialEq, Eq, Hash)]
 pub enum NoSheet {
     /// In this line of the text something else was expected, by one of the numbers that the README lists; in a relation, 0 where none is meant.
     Expected { line: usize, what: usize, relation: usize },
-    /// Its sheet is refused; the line of the text in which the refused line begins, 0 where none is named.
+    /// Its sheet is refused, or the table; the line of the text in which the sheet's refused line begins, 0 where none is named.
     Refused { refused: Refused, line: usize },
 }
 
@@ -389,11 +606,31 @@ pub enum NoSheet {
 /// What is expected comes first; a sheet is refused as [`write`] refuses it, by 13 where fewer than [`WRITE_BYTES`] are lent.
 pub fn sheet_of<'a>(text: &[u8], out: &'a mut [u8]) -> Result<&'a [u8], NoSheet> {
     // SAFETY: both pointers are valid for their lengths, and the lent one is not shared.
-    let made = unsafe { c::figdawesa_sheet_of(text.as_ptr(), text.len(), out.as_mut_ptr(), out.len()) };
-    match (made.expected, made.number) {
-        (0, 0) => Ok(&out[..made.bytes]),
-        (0, number) => Err(NoSheet::Refused { refused: refused(number, made.line), line: made.text_line }),
-        (what, _) => Err(NoSheet::Expected { line: made.text_line, what, relation: made.relation }),
+    let outcome = unsafe { c::figdawesa_sheet_of(text.as_ptr(), text.len(), out.as_mut_ptr(), out.len()) };
+    made(outcome, out)
+}
+
+/// The same by a table's bytes. Refused by 15 before the text is looked at.
+pub fn sheet_of_by_table<'a>(table: &[u8], text: &[u8], out: &'a mut [u8]) -> Result<&'a [u8], NoSheet> {
+    // SAFETY: each pointer is valid for its length, and the lent one is not shared.
+    let outcome =
+        unsafe { c::figdawesa_sheet_of_by_table(table.as_ptr(), table.len(), text.as_ptr(), text.len(), out.as_mut_ptr(), out.len()) };
+    made(outcome, out)
+}
+
+/// What became of a text as C has it, with the bytes that were lent for its sheet.
+fn made(outcome: c::TextOutcome, lent: &[u8]) -> Result<&[u8], NoSheet> {
+    match (outcome.expected, outcome.number) {
+        (0, 0) => Ok(&lent[..outcome.bytes]),
+        (0, number) => Err(NoSheet::Refused {
+            refused: refused(number, outcome.line),
+            line: outcome.text_line,
+        }),
+        (what, _) => Err(NoSheet::Expected {
+            line: outcome.text_line,
+            what,
+            relation: outcome.relation,
+        }),
     }
 }
 
@@ -406,9 +643,41 @@ pub fn text_of<'a>(sheet: &[u8], out: &'a mut [u8]) -> Result<&'a [u8], Refused>
     Ok(&out[..counted(ended)?])
 }
 
+/// The same by a table's bytes. Refused by 15 first.
+pub fn text_of_by_table<'a>(table: &[u8], sheet: &[u8], out: &'a mut [u8]) -> Result<&'a [u8], Refused> {
+    // SAFETY: each pointer is valid for its length, and the lent one is not shared.
+    let ended = unsafe {
+        c::figdawesa_text_of_by_table(
+            table.as_ptr(),
+            table.len(),
+            sheet.as_ptr(),
+            sheet.len(),
+            out.as_mut_ptr(),
+            out.len(),
+        )
+    };
+    Ok(&out[..counted(ended)?])
+}
+
 /// What comes of a sheet or a text, in words; nothing where fewer than [`TEXT_BYTES`] are lent.
 pub fn answer<'a>(given: &[u8], out: &'a mut [u8]) -> &'a [u8] {
     // SAFETY: both pointers are valid for their lengths, and the lent one is not shared.
     let bytes = unsafe { c::figdawesa_answer(given.as_ptr(), given.len(), out.as_mut_ptr(), out.len()) };
+    &out[..bytes]
+}
+
+/// The same by a table's bytes; that a table is refused is said in words too.
+pub fn answer_by_table<'a>(table: &[u8], given: &[u8], out: &'a mut [u8]) -> &'a [u8] {
+    // SAFETY: each pointer is valid for its length, and the lent one is not shared.
+    let bytes = unsafe {
+        c::figdawesa_answer_by_table(
+            table.as_ptr(),
+            table.len(),
+            given.as_ptr(),
+            given.len(),
+            out.as_mut_ptr(),
+            out.len(),
+        )
+    };
     &out[..bytes]
 }

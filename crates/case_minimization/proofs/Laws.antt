@@ -3,6 +3,7 @@ use mathlib.Core.Path.{_≡_, refl, sym, ap, _∙_, subst}
 use mathlib.Core.Bool.{Bool, true, false, cond, not}
 use mathlib.Core.List.{List}
 use Prim.Native.Nat.{ℕ, zero, suc, _+_, _-_, _*_, _/_, _<_, _≤_, min}
+use native.Mathlib.Numerals.{add-one}
 use native.Mathlib.Omega.{arith}
 use native.Mathlib.Decide.{decLt}
 use borrow.Author.Count.{below-more}
@@ -10,13 +11,13 @@ use borrow.Author.Tests.{lt-ltb, le-ltb}
 use lib.Dec.{ltb}
 use lib.ListN.{length, getD, take, drop, length-append, length-drop, List·getD-append, List·getD-eq-default}
 use lib.Seq.{ext-getD, getD-take, getD-drop, getD-append-add, length-take-le}
-use Rattle.tableau_layout.specs.Layout.{view-block}
-use Rattle.sheet_format.specs.Limits.{most-atoms}
+use Rattle.tableau_layout.specs.Layout.{plan-numbers, table-at, view-block}
+use Rattle.sheet_format.specs.Limits.{most-atoms, most-relations}
 use Rattle.list_laws.specs.Kept.{Filled}
 use Rattle.query_join.specs.Joins.{AtomMet, Given}
-use Rattle.tableau_plan.specs.Plan.{rowCount, blockNumbers, blockSize}
+use Rattle.tableau_plan.specs.Plan.{parentIn, rowCount, blockNumbers, blockSize}
 use Rattle.tableau_parts.specs.Views.{NoStray, Missing, MissingBy}
-use Rattle.sheet_format.specs.Relations.{parentNumbers, parentOf}
+use Rattle.sheet_format.specs.Table.{relation}
 use Rattle.tableau_parts.specs.Walks.{GivenTo, SameBy, fourOf}
 use Rattle.case_minimization.specs.Minimization.{IsFact, Parented, IsCase, CaseBy, without, SubFacts, Shrunk}
 use Rattle.case_minimization.specs.Parts.{relationBy, LikeBy, SomeLike, FindsBy, OwedBy, TriedFact}
@@ -26,11 +27,11 @@ use Rattle.case_minimization.specs.Parts.{relationBy, LikeBy, SomeLike, 
 pub left-not : (p ns : List ℕ) → (GivenTo p ns (rowCount p) → ⊥) → IsCase p ns → ⊥
 left-not p ns f c = f (record { all = c .0 .0 })
 
-pub left-by : (b : Bool) (p ns u : List ℕ) → GivenTo p ns (rowCount p) → NoStray p ns → Parented ns → MissingBy b p ns u → CaseBy b p ns
+pub left-by : (b : Bool) (p ns u : List ℕ) → GivenTo p ns (rowCount p) → NoStray p ns → Parented p ns → MissingBy b p ns u → CaseBy b p ns
 left-by true p ns u g s o m = ((g .all, s), (u, m .missing), o)
 left-by false p ns u g s o m = λ c. m (c .1 .0) (c .1 .1)
 
-pub left-seen : (p ns u : List ℕ) → GivenTo p ns (rowCount p) → NoStray p ns → Parented ns → Missing p ns u → IsCase p ns
+pub left-seen : (p ns u : List ℕ) → GivenTo p ns (rowCount p) → NoStray p ns → Parented p ns → Missing p ns u → IsCase p ns
 left-seen p ns u g s o m = ((g .all, s), (u, m), o)
 
 -- ---- the numbers without a fact
@@ -152,27 +153,27 @@ four-at ns i (suc (suc zero)) h = refl
 four-at ns i (suc (suc (suc zero))) h = refl
 four-at ns i (suc (suc (suc (suc c)))) h = absurd (omega arith)
 
-pub like-by : (b owing : Bool) (ns : List ℕ) (k relation : ℕ) (row : List ℕ) → relationBy owing (getD ns (k * 5) 0) ≡ relation → SameBy b (fourOf ns (k * 5 + 1)) row → LikeBy b owing ns k relation row
-like-by true owing ns k relation row e s = (e, s)
-like-by false owing ns k relation row e s = λ l. s (l .1)
+pub like-by : (p : List ℕ) (b owing : Bool) (ns : List ℕ) (k relation : ℕ) (row : List ℕ) → relationBy p owing (getD ns (k * 5) 0) ≡ relation → SameBy b (fourOf ns (k * 5 + 1)) row → LikeBy p b owing ns k relation row
+like-by p true owing ns k relation row e s = (e, s)
+like-by p false owing ns k relation row e s = λ l. s (l .1)
 
-pub owed-by : (b : Bool) (ns : List ℕ) (i : ℕ) (rest : List ℕ) → 0 < getD ns (i * 5) 0 → SomeLike true rest (getD ns (i * 5) 0) (fourOf ns (i * 5 + 1)) → FindsBy b false rest (getD ns (i * 5) 0) (fourOf ns (i * 5 + 1)) → OwedBy (not b) ns i rest
-owed-by true ns i rest lt s f = λ _ _. f
-owed-by false ns i rest lt s f = (lt, s, f)
+pub owed-by : (p : List ℕ) (b : Bool) (ns : List ℕ) (i : ℕ) (rest : List ℕ) → 0 < getD ns (i * 5) 0 → SomeLike p true rest (getD ns (i * 5) 0) (fourOf ns (i * 5 + 1)) → FindsBy p b false rest (getD ns (i * 5) 0) (fourOf ns (i * 5 + 1)) → OwedBy p (not b) ns i rest
+owed-by p true ns i rest lt s f = λ _ _. f
+owed-by p false ns i rest lt s f = (lt, s, f)
 
--- a relation that is no parent in the table is owed nothing
-pub no-parent : (k relation : ℕ) → 10 ≤ k → ((j : ℕ) → j < k → getD parentNumbers j 0 ≡ relation → ⊥) → (n : ℕ) → parentOf n ≡ relation → relation ≡ 0
-unfolding parentOf
-no-parent k relation all none zero e = sym e
-no-parent k relation all none (suc n) e = go (decLt n 10)
+-- a relation that is no parent of those that a table can have is owed nothing
+pub no-parent : (p : List ℕ) (k relation : ℕ) → length p ≡ plan-numbers → most-relations ≤ k → ((j : ℕ) → j < k → parentIn p (j + 1) ≡ relation → ⊥) → (n : ℕ) → parentIn p n ≡ relation → relation ≡ 0
+unfolding relation
+no-parent p k r long all none zero e = sym e
+no-parent p k r long all none (suc n) e = go (decLt n most-relations)
   where
-    go : Dec (n < 10) → relation ≡ 0
-    go (yes b) = absurd (none n (omega arith) e)
-    go (no b) = let l : 10 ≤ n = omega arith in sym e ∙ List·getD-eq-default parentNumbers 0 l
+    go : Dec (n < most-relations) → r ≡ 0
+    go (yes b) = absurd (none n (omega arith) (ap (parentIn p) (add-one n) ∙ e))
+    go (no b) = sym e ∙ List·getD-eq-default (drop table-at p) 0 (let d = length-drop table-at p in omega arith)
 
 -- a fact that is owed must stay
-pub owed-stays : (ns : List ℕ) (i : ℕ) (rest : List ℕ) → OwedBy true ns i rest → Parented rest → ⊥
-owed-stays ns i rest (some, (j, lj, (e, f)), none) parented =
+pub owed-stays : (p : List ℕ) (ns : List ℕ) (i : ℕ) (rest : List ℕ) → OwedBy p true ns i rest → Parented p rest → ⊥
+owed-stays p ns i rest (some, (j, lj, (e, f)), none) parented =
     let (k, lk, q) = parented j lj (subst (λ r. 0 < r) (sym e) some) in
     none (k, lk, (q .0 ∙ e, q .1 ∙ f))
 
@@ -187,7 +188,7 @@ module _ {ns : List ℕ} {n : ℕ} {ms : List ℕ} {m : ℕ} (q : SubFacts ns n 
   part-values : (j : ℕ) → j < m → fourOf ms (j * 5 + 1) ≡ fourOf ns (q .from j * 5 + 1)
   part-values j lt = four-same ms ns (j * 5 + 1) (q .from j * 5 + 1) (λ c h. part-at j (1 + c) _ _ lt (omega arith) (omega arith) (omega arith))
 
-module _ (ns : List ℕ) (n i : ℕ) (l : length ns ≡ n * 5) (lt : i < n) where
+module _ (p : List ℕ) (ns : List ℕ) (n i : ℕ) (l : length ns ≡ n * 5) (lt : i < n) where
   abbrev others : List ℕ
   others = without ns i
 
@@ -207,7 +208,7 @@ module _ (ns : List ℕ) (n i : ℕ) (l : length ns ≡ n * 5) (lt : i < n) wher
       go (no b) (no d) = absurd (ne (omega arith))
 
   -- one that is not owed can go
-  pub unowed-goes : Parented ns → OwedBy false ns i others → Parented others
+  pub unowed-goes : Parented p ns → OwedBy p false ns i others → Parented p others
   unowed-goes parented owed j lj some =
       let few = length-without ns n i l lt in
       let part = part-without ns n i l lt in
@@ -215,24 +216,24 @@ module _ (ns : List ℕ) (n i : ℕ) (l : length ns ≡ n * 5) (lt : i < n) wher
       let r = part-relation part j h in
       let v = part-values part j h in
       let inside = part .inside j h in
-      let (k, lk, q) = parented (part .from j) (omega arith) (subst (λ z. 0 < parentOf z) r some) in
-      go (q .0 ∙ ap parentOf (sym r)) (q .1 ∙ sym v) (omega arith) (decLt k i) (decLt i k)
+      let (k, lk, q) = parented (part .from j) (omega arith) (subst (λ z. 0 < parentIn p z) r some) in
+      go (q .0 ∙ ap (parentIn p) (sym r)) (q .1 ∙ sym v) (omega arith) (decLt k i) (decLt i k)
     where
       Found : Type 0
-      Found = (k : ℕ) × (k < length others / 5) × IsFact others k (parentOf (getD others (j * 5) 0)) (fourOf others (j * 5 + 1))
+      Found = (k : ℕ) × (k < length others / 5) × IsFact others k (parentIn p (getD others (j * 5) 0)) (fourOf others (j * 5 + 1))
 
-      other : {k : ℕ} → getD ns (k * 5) 0 ≡ parentOf (getD others (j * 5) 0) → fourOf ns (k * 5 + 1) ≡ fourOf others (j * 5 + 1) → k < n → (k ≡ i → ⊥) → Found
+      other : {k : ℕ} → getD ns (k * 5) 0 ≡ parentIn p (getD others (j * 5) 0) → fourOf ns (k * 5 + 1) ≡ fourOf others (j * 5 + 1) → k < n → (k ≡ i → ⊥) → Found
       other {k} e f lk ne =
           let (m, lm, q) = still-there k lk ne in
           let few = length-without ns n i l lt in
           (m, omega arith, (q .0 ∙ e, q .1 ∙ f))
 
-      own : getD ns (i * 5) 0 ≡ parentOf (getD others (j * 5) 0) → fourOf ns (i * 5 + 1) ≡ fourOf others (j * 5 + 1) → Found
+      own : getD ns (i * 5) 0 ≡ parentIn p (getD others (j * 5) 0) → fourOf ns (i * 5 + 1) ≡ fourOf others (j * 5 + 1) → Found
       own e f =
           let (m, lm, q) = owed (subst (λ z. 0 < z) (sym e) some) (j, lj, (sym e, sym f)) in
           (m, lm, (q .0 ∙ e, q .1 ∙ f))
 
-      go : {k : ℕ} → getD ns (k * 5) 0 ≡ parentOf (getD others (j * 5) 0) → fourOf ns (k * 5 + 1) ≡ fourOf others (j * 5 + 1) → k < n → Dec (k < i) → Dec (i < k) → Found
+      go : {k : ℕ} → getD ns (k * 5) 0 ≡ parentIn p (getD others (j * 5) 0) → fourOf ns (k * 5 + 1) ≡ fourOf others (j * 5 + 1) → k < n → Dec (k < i) → Dec (i < k) → Found
       go {k} e f lk (yes b) d = other e f lk (λ z. omega arith)
       go {k} e f lk (no b) (yes d) = other e f lk (λ z. omega arith)
       go {k} e f lk (no b) (no d) =

@@ -4,7 +4,7 @@ use mathlib.Core.Bool.{Bool, true, false}
 use mathlib.Core.List.{List, _++_}
 use Prim.Native.Nat.{ℕ, _+_, _*_, _/_, _<_}
 use lib.ListN.{length, getD, take, drop}
-use Rattle.sheet_format.specs.Relations.{parentOf}
+use Rattle.tableau_plan.specs.Plan.{parentIn}
 use Rattle.tableau_parts.specs.Views.{Agree, Missing}
 use Rattle.tableau_parts.specs.Walks.{fourOf}
 
@@ -12,13 +12,13 @@ use Rattle.tableau_parts.specs.Walks.{fourOf}
 abbrev pub IsFact : List ℕ → ℕ → ℕ → List ℕ → Type 0
 IsFact ns k relation row = (getD ns (k * 5) 0 ≡ relation) × (fourOf ns (k * 5 + 1) ≡ row)
 
--- the facts have each row that one of them owes to its relation's parent
-abbrev pub Parented : List ℕ → Type 0
-Parented ns = (i : ℕ) → i < length ns / 5 → 0 < parentOf (getD ns (i * 5) 0) → (k : ℕ) × (k < length ns / 5) × IsFact ns k (parentOf (getD ns (i * 5) 0)) (fourOf ns (i * 5 + 1))
+-- the facts have each row that one of them owes to its relation's parent, by a plan's table
+abbrev pub Parented : List ℕ → List ℕ → Type 0
+Parented p ns = (i : ℕ) → i < length ns / 5 → 0 < parentIn p (getD ns (i * 5) 0) → (k : ℕ) × (k < length ns / 5) × IsFact ns k (parentIn p (getD ns (i * 5) 0)) (fourOf ns (i * 5 + 1))
 
 -- facts that agree with the listed rows, give the question a row that they give no list, and owe none that they lack
 abbrev pub IsCase : List ℕ → List ℕ → Type 0
-IsCase p ns = Agree p ns × ((u : List ℕ) × Missing p ns u) × Parented ns
+IsCase p ns = Agree p ns × ((u : List ℕ) × Missing p ns u) × Parented p ns
 
 abbrev pub CaseBy : Bool → List ℕ → List ℕ → Type 0
 CaseBy true p ns = IsCase p ns

@@ -2,8 +2,8 @@
 use query_layout::FACT_NUMBERS;
 use sheet_format::MOST_ATOMS;
 use sheet_format::MOST_LISTS;
+use sheet_format::MOST_RELATIONS;
 use sheet_format::MOST_ROWS;
-use sheet_format::PARENTS;
 use tableau_layout::PLAN_NUMBERS;
 use tableau_layout::TABLEAU_ATOMS;
 use tableau_layout::TABLEAU_NUMBERS;
@@ -11,10 +11,9 @@ ghost use mathlib.Core.Path.{_≡_};
 ghost use mathlib.Core.Bool.{true, false};
 ghost use Prim.Native.Nat.{ℕ, _+_, _-_, _*_, _<_, _≤_};
 ghost use lib.ListN.{length, take};
-ghost use Rattle.tableau_layout.specs.Layout.{tableau-atoms};
+ghost use Rattle.tableau_layout.specs.Layout.{plan-numbers, tableau-atoms};
 ghost use Rattle.sheet_format.specs.Limits.{most-rows};
-ghost use Rattle.sheet_format.specs.Relations.{parentOf};
-ghost use Rattle.tableau_plan.specs.Plan.{rowCount};
+ghost use Rattle.tableau_plan.specs.Plan.{parentIn, rowCount};
 ghost use Rattle.tableau_parts.specs.Walks as walks;
 ghost use Rattle.tableau_parts.specs.Views.{NoStray, Missing};
 ghost use Rattle.tableau_parts.specs.Walks.{fourOf};
@@ -176,11 +175,11 @@ fn lacks(p: &[usize; PLAN_NUMBERS], facts: &[usize], row: [usize; 4]) -> bool
 }
 
 // A relation, or its parent.
-fn relation_by(relation: usize, owing: bool) -> usize
-    ensures { λ r. ⌜ r ≡ relationBy owing relation ⌝ }
+fn relation_by(p: &[usize; PLAN_NUMBERS], relation: usize, owing: bool) -> usize
+    ensures { λ r. ⌜ r ≡ relationBy (now (p .entry)) owing relation ⌝ }
 {
     if owing {
-        return sheet_terms::parent(relation);
+        return tableau_parts::parent_of(p, relation);
     }
     relation
 }
@@ -195,24 +194,37 @@ fn values(facts: &[usize], k: usize) -> [usize; 4]
 }
 
 // Whether fact k is a row of a relation; or where `owing`, whether it owes the relation this row.
-fn is_like(facts: &[usize], k: usize, relation: usize, row: [usize; 4], owing: bool) -> bool
+fn is_like(
+    p: &[usize; PLAN_NUMBERS],
+    facts: &[usize],
+    k: usize,
+    relation: usize,
+    row: [usize; 4],
+    owing: bool,
+) -> bool
     requires { ⌜ (k * 5 + 5 ≤ length (now facts)) ⌝ }
-    ensures { λ r. ⌜ LikeBy r owing (now (facts .entry)) k relation row ⌝ }
+    ensures { λ r. ⌜ LikeBy (now (p .entry)) r owing (now (facts .entry)) k relation row ⌝ }
 {
-    if relation_by(facts[k * FACT_NUMBERS], owing) != relation {
+    if relation_by(p, facts[k * FACT_NUMBERS], owing) != relation {
         return false;
     }
     tableau_parts::same(values(facts, k), row)
 }
 
 // Whether one of the facts is so.
-fn finds(facts: &[usize], relation: usize, row: [usize; 4], owing: bool) -> bool
-    ensures { λ r. ⌜ FindsBy r owing (now (facts .entry)) relation row ⌝ }
+fn finds(
+    p: &[usize; PLAN_NUMBERS],
+    facts: &[usize],
+    relation: usize,
+    row: [usize; 4],
+    owing: bool,
+) -> bool
+    ensures { λ r. ⌜ FindsBy (now (p .entry)) r owing (now (facts .entry)) relation row ⌝ }
 {
     let n = facts.len() / FACT_NUMBERS;
     let mut k = 0;
     while k < n {
-        if is_like(facts, k, relation, row, owing) {
+        if is_like(p, facts, k, relation, row, owing) {
             return true;
         }
         k += 1;
@@ -221,12 +233,12 @@ fn finds(facts: &[usize], relation: usize, row: [usize; 4], owing: bool) -> bool
 }
 
 // Whether a relation is the parent of another.
-fn is_parent(relation: usize) -> bool
-    ensures { λ r. ⌜ (r ≡ false → (n : ℕ) → parentOf n ≡ relation → relation ≡ 0) ⌝ }
+fn is_parent(p: &[usize; PLAN_NUMBERS], relation: usize) -> bool
+    ensures { λ r. ⌜ (length (now (p .entry)) ≡ plan-numbers → r ≡ false → (n : ℕ) → parentIn (now (p .entry)) n ≡ relation → relation ≡ 0) ⌝ }
 {
     let mut k = 0;
-    while k < PARENTS.len() {
-        if PARENTS[k] == relation {
+    while k < MOST_RELATIONS {
+        if tableau_parts::parent_of(p, k + 1) == relation {
             return true;
         }
         k += 1;
@@ -235,22 +247,22 @@ fn is_parent(relation: usize) -> bool
 }
 
 // Whether one of the rest owes fact i, and none of them is that fact.
-fn is_owed(facts: &[usize], i: usize, rest: &[usize]) -> bool
+fn is_owed(p: &[usize; PLAN_NUMBERS], facts: &[usize], i: usize, rest: &[usize]) -> bool
     requires { ⌜ (i * 5 + 5 ≤ length (now facts)) ⌝ }
-    ensures { λ r. ⌜ OwedBy r (now (facts .entry)) i (now (rest .entry)) ⌝ }
+    ensures { λ r. ⌜ (length (now (p .entry)) ≡ plan-numbers → OwedBy (now (p .entry)) r (now (facts .entry)) i (now (rest .entry))) ⌝ }
 {
     let relation = facts[i * FACT_NUMBERS];
     if relation == 0 {
         return false;
     }
-    if !is_parent(relation) {
+    if !is_parent(p, relation) {
         return false;
     }
     let row = values(facts, i);
-    if !finds(rest, relation, row, true) {
+    if !finds(p, rest, relation, row, true) {
         return false;
     }
-    !finds(rest, relation, row, false)
+    !finds(p, rest, relation, row, false)
 }
 
 // Whether facts without fact i that give no stray row, and owe none that they lack, are a case, and then an answer that the lists lack. The
@@ -262,7 +274,7 @@ fn is_left(
     i: usize,
     seen: [usize; 4],
 ) -> query_rows::Row
-    ensures { λ r. ⌜ (walks.FormedPlan (now (p .entry)) → NoStray (now (p .entry)) (now (facts .entry)) → Parented (now (facts .entry)) → CaseBy (r .some) (now (p .entry)) (now (facts .entry))) ⌝ }
+    ensures { λ r. ⌜ (walks.FormedPlan (now (p .entry)) → NoStray (now (p .entry)) (now (facts .entry)) → Parented (now (p .entry)) (now (facts .entry)) → CaseBy (r .some) (now (p .entry)) (now (facts .entry))) ⌝ }
 {
     if !all_given(p, facts, by, i) {
         return query_rows::Row {
@@ -347,10 +359,11 @@ fn drops(
     seen: [usize; 4],
 ) -> query_rows::Row
     requires { ⌜ (i < n) × (n ≤ tableau-atoms) × (n * 5 ≤ length (now facts)) × (n * 5 ≤ length (now room)) ⌝ }
-    ensures { λ r. ⌜ (walks.FormedPlan (now (p .entry)) → Parented (take (n * 5) (now (facts .entry))) → take ((n - 1) * 5) (now (room .entry)) ≡ without (take (n * 5) (now (facts .entry))) i
+    ensures { λ r. ⌜ (walks.FormedPlan (now (p .entry)) → Parented (now (p .entry)) (take (n * 5) (now (facts .entry))) → take ((n - 1) * 5) (now (room .entry)) ≡ without (take (n * 5) (now (facts .entry))) i
         → NoStray (now (p .entry)) (take ((n - 1) * 5) (now (room .entry))) → CaseBy (r .some) (now (p .entry)) (take ((n - 1) * 5) (now (room .entry)))) ⌝ }
 {
     if is_owed(
+        p,
         &facts[..n * FACT_NUMBERS],
         i,
         &room[..(n - 1) * FACT_NUMBERS],

@@ -10,7 +10,7 @@ use lib.ListN.{length}
 use Rattle.tableau_layout.specs.Layout.{question-block, list-block, view-block}
 use Rattle.sheet_format.specs.Limits.{most-atoms}
 use Rattle.list_laws.specs.Order.{_⊏_}
-use Rattle.sheet_format.specs.Relations.{columnsOf}
+use Rattle.sheet_format.specs.Table.{columnsOf}
 use Rattle.query_meaning.specs.Meaning.{Fact, Log, Block, In, Answer}
 use Rattle.query_meaning.specs.Blocks.{View, nth}
 use Rattle.query_meaning.specs.Evaluate.{_≺_}
@@ -18,7 +18,7 @@ use Rattle.query_join.specs.Joins.{Given}
 use Rattle.query_encoding.specs.Encoding.{BlockNumbers, FactNumbers, Shaped, ShapedLog, padded}
 use Rattle.query_encoding.proofs.Bridge.{answer-given, given-answer, head-length}
 use Rattle.query_encoding.proofs.Order.{pad-more, pad-same}
-use Rattle.case_verdicts.specs.Table.{Table, relation, SameKey, Lawful}
+use Rattle.case_verdicts.specs.Table.{Table, SameKey, Lawful}
 use Rattle.case_verdicts.specs.Verdict.{Sheet, Agreeing, Case}
 use Rattle.tableau_plan.specs.Plan.{rowAt, rowValues, listAt, viewCount, blockNumbers, blockSize}
 use Rattle.tableau_parts.specs.Views.{GivenAt, NoStray, AllGiven, Agree, Missing, LeastMissing}
@@ -31,9 +31,9 @@ use Rattle.search_task.proofs.NodeLaws.{list-in, list-index, list-shaped}
 use Rattle.search_task.specs.declared.Goal.the-variants.{Counterexample}
 use Rattle.case_promise.proofs.Owed.{parented-numbers, numbers-parented}
 
--- each relation is one of the ten
-abbrev pub KnownLog : Log → Type 0
-KnownLog log = (f : Fact) → In f log → 0 < columnsOf (pos (f .rel))
+-- each relation is one of the table's
+abbrev pub KnownLog : Table → Log → Type 0
+KnownLog table log = (f : Fact) → In f log → 0 < columnsOf table (pos (f .rel))
 
 -- rows alike in a key are alike: dropping facts cannot change it
 abbrev pub KeyedLog : Table → Log → Type 0
@@ -41,22 +41,22 @@ KeyedLog table log = (f g : Fact) → In f log → In g log → SameKey table f 
 
 -- ---- a block's answers and the rows that it is given
 
-module _ (p : List ℕ) (b : ℕ) {blk : Block} (bn : BlockNumbers (blockNumbers p b) (blockSize p b) blk) (sb : Shaped blk) {ns : List ℕ} {log : Log} (fn : FactNumbers ns log) where
+module _ (p : List ℕ) (b : ℕ) {table : Table} {blk : Block} (bn : BlockNumbers (blockNumbers p b) (blockSize p b) blk) (sb : Shaped table blk) {ns : List ℕ} {log : Log} (fn : FactNumbers ns log) where
   six : min (blockSize p b) most-atoms ≡ blockSize p b
   six = let f = bn .few in omega arith
 
   given-at : (t : List ℕ) → Answer log blk t → GivenAt p b ns (padded t)
   given-at t a = subst (λ n. Given (blockNumbers p b) n ns (padded t)) (sym six) (answer-given bn sb fn a)
 
-  answer-at : ShapedLog log → (u : List ℕ) → GivenAt p b ns u → (t : List ℕ) × (u ≡ padded t) × Answer log blk t
+  answer-at : ShapedLog table log → (u : List ℕ) → GivenAt p b ns u → (t : List ℕ) × (u ≡ padded t) × Answer log blk t
   answer-at sl u g = given-answer bn sb fn sl (subst (λ n. Given (blockNumbers p b) n ns u) six g)
 
-  answer-of : ShapedLog log → (t : List ℕ) → length t ≡ length (blk .head) → GivenAt p b ns (padded t) → Answer log blk t
+  answer-of : ShapedLog table log → (t : List ℕ) → length t ≡ length (blk .head) → GivenAt p b ns (padded t) → Answer log blk t
   answer-of sl t len g =
       let (s, e, a) = answer-at sl (padded t) g in
       subst (Answer log blk) (sym (pad-same t s (len ∙ sym (head-length a)) e)) a
 
-module _ (p : List ℕ) (x : Sheet) (r : ReadyPlan p x) {ns : List ℕ} {log : Log} (fn : FactNumbers ns log) (sh : ShapedLog log) where
+module _ (p : List ℕ) (x : Sheet) (r : ReadyPlan p x) {ns : List ℕ} {log : Log} (fn : FactNumbers ns log) (sh : ShapedLog (x .table) log) where
   -- ---- agreeing
 
   agree : Agreeing x log → Agree p ns
@@ -79,17 +79,15 @@ module _ (p : List ℕ) (x : Sheet) (r : ReadyPlan p x) {ns : List ℕ} {log : L
           let (i, li, f, q) = r .plan .every-row v lt t (a .agrees (nth (x .views) v) (view-in v lt) .none-more t b) in
           (i, li, f, q ∙ sym e)
 
-  lawful : KnownLog log → KeyedLog (x .table) log → Parented ns → Lawful (x .table) log
+  lawful : KnownLog (x .table) log → KeyedLog (x .table) log → Parented p ns → Lawful (x .table) log
+  unfolding columnsOf
   lawful known keyed owed = record {
-    formed = λ f m. record { known = subst (λ k. 0 < k) (sym (columns f)) (known f m); full = sh f m .0 ∙ sym (columns f) };
-    parented = numbers-parented (r .plain) fn (r .accepted .table) sh owed;
+    formed = λ f m. record { known = known f m; full = sh f m .0 };
+    parented = numbers-parented p (r .plan .table) fn (r .accepted .table) sh owed;
     keyed = keyed;
   }
-    where
-      columns : (f : Fact) → relation (x .table) (f .rel) .columns ≡ columnsOf (pos (f .rel))
-      columns f = r .plain .columns (f .rel)
 
-  agreeing : KnownLog log → KeyedLog (x .table) log → Parented ns → Agree p ns → Agreeing x log
+  agreeing : KnownLog (x .table) log → KeyedLog (x .table) log → Parented p ns → Agree p ns → Agreeing x log
   agreeing known keyed owed (all, none) = record {
     lawful = lawful known keyed owed;
     agrees = λ w m. record { none-more = none-stray p x x (r .plan) (ready-task p x r Counterexample) log ns fn none w m; none-missing = given w m };
@@ -121,10 +119,10 @@ module _ (p : List ℕ) (x : Sheet) (r : ReadyPlan p x) {ns : List ℕ} {log : L
 
   -- the numbers of a case
   pub case-numbers : (a : List ℕ) → Case x log a → IsCase p ns
-  case-numbers a c = (agree (c .agreeing), (padded a, missing a c), parented-numbers (r .plain) fn (c .agreeing .lawful .parented))
+  case-numbers a c = (agree (c .agreeing), (padded a, missing a c), parented-numbers p (r .plan .table) fn (c .agreeing .lawful .parented))
 
-  module _ (known : KnownLog log) (keyed : KeyedLog (x .table) log) where
-    case-of : Agree p ns → Parented ns → (u : List ℕ) → Missing p ns u → (a : List ℕ) × (u ≡ padded a) × Case x log a
+  module _ (known : KnownLog (x .table) log) (keyed : KeyedLog (x .table) log) where
+    case-of : Agree p ns → Parented p ns → (u : List ℕ) → Missing p ns u → (a : List ℕ) × (u ≡ padded a) × Case x log a
     case-of ag owed u m =
         let (a, e, b) = answer-at p 0 (r .plan .question) (r .question) fn sh u (m .asked) in (
           a,
@@ -143,7 +141,7 @@ module _ (p : List ℕ) (x : Sheet) (r : ReadyPlan p x) {ns : List ℕ} {log : L
     numbers-case (ag, (u, m), owed) = let (a, e, c) = case-of ag owed u m in (a, c)
 
     -- the least missing row is the least answer that the log is a case for
-    pub least-case : Agree p ns → Parented ns → (u : List ℕ) → LeastMissing p ns u → (a : List ℕ) × (u ≡ padded a) × Case x log a × ((b : List ℕ) → Case x log b → (a ≡ b) ⊎ (a ≺ b))
+    pub least-case : Agree p ns → Parented p ns → (u : List ℕ) → LeastMissing p ns u → (a : List ℕ) × (u ≡ padded a) × Case x log a × ((b : List ℕ) → Case x log b → (a ≡ b) ⊎ (a ≺ b))
     least-case ag owed u m =
         let (a, e, c) = case-of ag owed u (m .missing) in (
           a,

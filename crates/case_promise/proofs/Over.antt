@@ -6,11 +6,15 @@ use Prim.Native.Nat.{ℕ, zero, suc, _+_, _*_, _/_, _%_, _<_, _≤_}
 use native.Mathlib.Nat.{add-zero}
 use native.Mathlib.Omega.{arith}
 use lib.IntN.{pos}
-use lib.ListN.{length, getD, take, drop}
+use lib.ListN.{length, getD, take, drop, length-drop, List·getD-eq-default}
 use lib.Seq.{getD-take, length-take-le}
-use Rattle.tableau_layout.specs.Layout.{tableau-atoms}
+use Rattle.tableau_layout.specs.Layout.{plan-numbers, table-at, tableau-atoms}
 use Rattle.list_laws.specs.Order.{_⊏_}
-use Rattle.sheet_format.specs.Relations.{relations, columnsOf}
+use Rattle.list_laws.proofs.Order.{less?}
+use Rattle.sheet_format.specs.Limits.{most-relations}
+use Rattle.sheet_format.specs.Table.{Table, relation, columnsOf}
+use Rattle.sheet_terms.proofs.Laws.{columns-most}
+use Rattle.sheet_format.proofs.TableLaws.{Narrow}
 use Rattle.query_meaning.specs.Meaning.{Fact, Log, In, fact}
 use Rattle.query_meaning.specs.Facts.{factsRefusal, logOf, value-end, most-facts}
 use Rattle.query_encoding.specs.Encoding as numbers
@@ -25,6 +29,7 @@ use Rattle.case_verdicts.proofs.Known.{stands-small}
 use Rattle.case_verdicts.proofs.Shrink.{same-facts}
 use Rattle.case_verdicts.proofs.Check as check
 use Rattle.case_verdicts.proofs.Check.{MadeUp}
+use Rattle.tableau_plan.specs.Plan.{planTable}
 use Rattle.tableau_parts.specs.Views.{LeastMissing}
 use Rattle.case_order.specs.Order.{fiveAt, Rising, Among, Ordered}
 use Rattle.case_minimization.specs.Minimization.{IsCase, SubFacts, Shrunk}
@@ -35,8 +40,8 @@ use Rattle.case_promise.proofs.Cases.{KnownLog, KeyedLog, case-numbers,
 -- a case and its missing answer, in plain numbers: k facts and a row
 pub record HandedNumbers (x : Sheet) (ks : List ℕ) (k : ℕ) (u : List ℕ) : Type 0 where
   pub handed : Handed top value-end x
-  pub log-is : handed .log ≡ logOf (map pos ks)
-  pub accepted : factsRefusal (map pos ks) .number ≡ 0
+  pub log-is : handed .log ≡ logOf (x .table) (map pos ks)
+  pub accepted : factsRefusal (x .table) (map pos ks) .number ≡ 0
   pub count : length ks ≡ k * 5
   pub facts : length (handed .log) ≡ k
   pub answer-is : u ≡ padded (handed .answer)
@@ -106,69 +111,67 @@ picked-part {ns} {n} {ms} {m} {ks} {k} q t size = record {
 
 -- ---- numbers that fit words
 
-listed-place : (l : List ℕ) (n : ℕ) → 0 < getD l n 0 → n < length l
-listed-place [] n h = absurd (omega arith)
-listed-place (m ∷ l) zero h = omega arith
-listed-place (m ∷ l) (suc n) h = let r = listed-place l n h in omega arith
+-- a relation that a plan's table has has one of the numbers that a table can have
+known-small : (p : List ℕ) → length p ≡ plan-numbers → (n : ℕ) → 0 < columnsOf (planTable p) (pos n) → n ≤ most-relations
+unfolding columnsOf relation
+known-small p long zero h = omega arith
+known-small p long (suc n) h = ⊎-elim (λ l. omega arith)
+    (λ l. let d = length-drop table-at p in let z : getD (drop table-at p) (n * 3) 0 ≡ 0 = List·getD-eq-default (drop table-at p) 0 (omega arith) in absurd (omega arith))
+    (less? n most-relations)
 
-known-small : (n : ℕ) → 0 < columnsOf (pos n) → n ≤ 10
-unfolding columnsOf
-known-small zero h = omega arith
-known-small (suc n) h = let r = listed-place relations n h in omega arith
-
-fine-small : (ks : List ℕ) (k : ℕ) → length ks ≡ k * 5 → ((i : ℕ) → i < k → FineFact ks i) → (j : ℕ) → j < length ks → getD ks j 0 < 2147483648
-fine-small ks k size fine j h = go (j / 5) (j % 5) (omega arith) (omega arith) (omega arith)
+fine-small : (table : Table) → ((n : ℕ) → 0 < columnsOf table (pos n) → n ≤ most-relations) → (ks : List ℕ) (k : ℕ) → length ks ≡ k * 5 → ((i : ℕ) → i < k → FineFact table ks i) → (j : ℕ) → j < length ks → getD ks j 0 < 2147483648
+fine-small table short ks k size fine j h = go (j / 5) (j % 5) (omega arith) (omega arith) (omega arith)
   where
     go : (i c : ℕ) → j ≡ i * 5 + c → c < 5 → i < k → getD ks j 0 < 2147483648
-    go i zero e l lt = let f = known-small _ (fine i lt .known) in let q : getD ks j 0 ≡ getD ks (i * 5) 0 = ap (λ n. getD ks n 0) (omega arith) in omega arith
+    go i zero e l lt = let f = short _ (fine i lt .known) in let q : getD ks j 0 ≡ getD ks (i * 5) 0 = ap (λ n. getD ks n 0) (omega arith) in omega arith
     go i (suc c) e l lt = let f = fine i lt .small c (omega arith) in let q : getD ks j 0 ≡ getD ks (i * 5 + 1 + c) 0 = ap (λ n. getD ks n 0) (omega arith) in omega arith
 
 -- ---- the log of picked facts
 
-module _ {ns : List ℕ} {log : Log} (fn : FactNumbers ns log) (sh : ShapedLog log) (fine : (i : ℕ) → i < length log → FineFact ns i)
+module _ (table : Table) (narrow : Narrow table) {ns : List ℕ} {log : Log} (fn : FactNumbers ns log) (sh : ShapedLog table log) (fine : (i : ℕ) → i < length log → FineFact table ns i)
     {ks : List ℕ} {k : ℕ} (q : Picked ns (length log) ks k) where
-  picked-fine : (i : ℕ) → i < k → FineFact ks i
-  picked-fine i h = let (j, lt, e) = q .only i h in fine-same ns ks j i e (fine j lt)
+  picked-fine : (i : ℕ) → i < k → FineFact table ks i
+  picked-fine i h = let (j, lt, e) = q .only i h in fine-same table ns ks j i e (fine j lt)
 
   most : k ≤ most-facts
   most = let f = q .few in omega arith
 
-  picked-accepted : factsRefusal (map pos ks) .number ≡ 0
-  picked-accepted = words-accepted ks k (q .count) most picked-fine (q .rising)
+  picked-accepted : factsRefusal table (map pos ks) .number ≡ 0
+  picked-accepted = words-accepted table ks k (q .count) most picked-fine (q .rising)
 
-  picked-numbers : FactNumbers ks (logOf (map pos ks))
-  picked-numbers = words-numbers ks k (q .count) most picked-fine (q .rising)
+  picked-numbers : FactNumbers ks (logOf table (map pos ks))
+  picked-numbers = words-numbers table ks k (q .count) most picked-fine (q .rising)
 
-  picked-count : length (logOf (map pos ks)) ≡ k
-  picked-count = words-count ks k (q .count) most picked-fine (q .rising)
+  picked-count : length (logOf table (map pos ks)) ≡ k
+  picked-count = words-count table ks k (q .count) most picked-fine (q .rising)
 
-  picked-distinct : Distinct (logOf (map pos ks))
-  picked-distinct = words-distinct ks k (q .count) most picked-fine (q .rising)
+  picked-distinct : Distinct (logOf table (map pos ks))
+  picked-distinct = words-distinct table ks k (q .count) most picked-fine (q .rising)
 
-  picked-shaped : ShapedLog (logOf (map pos ks))
-  picked-shaped = shaped-log (map pos ks) picked-accepted
+  picked-shaped : ShapedLog table (logOf table (map pos ks))
+  picked-shaped = shaped-log table narrow (map pos ks) picked-accepted
 
   -- equal numbers, one fact
-  picked-same : (i j : ℕ) → i < length log → j < k → fiveAt ns i ≡ fiveAt ks j → numbers.factAt log i ≡ numbers.factAt (logOf (map pos ks)) j
-  picked-same i j h g e = let n = picked-count in same-fact fn picked-numbers sh picked-shaped i j h (omega arith) e
+  picked-same : (i j : ℕ) → i < length log → j < k → fiveAt ns i ≡ fiveAt ks j → numbers.factAt log i ≡ numbers.factAt (logOf table (map pos ks)) j
+  picked-same i j h g e = let n = picked-count in same-fact table fn picked-numbers sh picked-shaped i j h (omega arith) e
 
-  picked-within : SubLog (logOf (map pos ks)) log
+  picked-within : SubLog (logOf table (map pos ks)) log
   picked-within = record {
     at = λ f m.
         let n = picked-count in
-        let (i, lt, e) = in-at (fact 0 []) f (logOf (map pos ks)) m in
+        let (i, lt, e) = in-at (fact 0 []) f (logOf table (map pos ks)) m in
         let (j, lj, s) = q .only i (omega arith) in
         subst (λ g. In g log) (picked-same j i lj (omega arith) s ∙ e) (at-in (fact 0 []) log j lj);
   }
 
   -- all are picked
-  picked-all : ((i : ℕ) → i < length log → Among ks k (fiveAt ns i)) → SubLog log (logOf (map pos ks))
+  picked-all : ((i : ℕ) → i < length log → Among ks k (fiveAt ns i)) → SubLog log (logOf table (map pos ks))
   picked-all every = record {
     at = λ f m.
         let n = picked-count in
         let (i, lt, e) = in-at (fact 0 []) f log m in
         let (j, lj, s) = every i lt in
-        subst (λ g. In g (logOf (map pos ks))) (sym (picked-same i j lt lj (sym s)) ∙ e) (at-in (fact 0 []) (logOf (map pos ks)) j (omega arith));
+        subst (λ g. In g (logOf table (map pos ks))) (sym (picked-same i j lt lj (sym s)) ∙ e) (at-in (fact 0 []) (logOf table (map pos ks)) j (omega arith));
   }
 
 -- ---- a log without its i-th fact
@@ -196,10 +199,13 @@ spare-free-places x l d none f m rest z t c =
 
 -- ---- in order, and shrunk
 
-module _ (p : List ℕ) (x : Sheet) (r : ReadyPlan p x) {ns : List ℕ} {log : Log} (fn : FactNumbers ns log) (sh : ShapedLog log) (known : KnownLog log) (keyed : KeyedLog (x .table) log)
+module _ (p : List ℕ) (x : Sheet) (r : ReadyPlan p x) {ns : List ℕ} {log : Log} (fn : FactNumbers ns log) (sh : ShapedLog (x .table) log) (known : KnownLog (x .table) log) (keyed : KeyedLog (x .table) log)
     (few : length log ≤ tableau-atoms) (made : MadeUp top value-end x log) {ms : List ℕ} {m : ℕ} (o : Ordered ns (length log) ms m) (room : m * 5 ≤ length ms) where
-  fine : (i : ℕ) → i < length log → FineFact ns i
-  fine = fine-fact fn sh known (λ f i n j. ⊎-elim (λ s. let h = stands-small x (r .accepted) n s in omega arith) (λ s. s .1) (made f i n j))
+  narrow : Narrow (x .table)
+  narrow = subst Narrow (sym (r .plan .table)) (columns-most (drop table-at p))
+
+  fine : (i : ℕ) → i < length log → FineFact (x .table) ns i
+  fine = fine-fact (x .table) fn sh known (λ f i n j. ⊎-elim (λ s. let h = stands-small x (r .accepted) n s in omega arith) (λ s. s .1) (made f i n j))
 
   ordered : Picked ns (length log) (take (m * 5) ms) m
   ordered = picked-ordered few o room
@@ -207,10 +213,10 @@ module _ (p : List ℕ) (x : Sheet) (r : ReadyPlan p x) {ns : List ℕ} {log : L
   -- in order it is a case still
   pub ordered-case : (a : List ℕ) → Case x log a → IsCase p (take (m * 5) ms)
   ordered-case a c =
-      case-numbers p x r (picked-numbers fn sh fine ordered) (picked-shaped fn sh fine ordered) a
-      (same-facts x log (logOf (map pos (take (m * 5) ms))) a
-      (picked-all fn sh fine ordered (λ i h. let (j, lt, e) = o .every i h in (j, lt, taken-fact ms m j lt ∙ e)))
-      (picked-within fn sh fine ordered) c)
+      case-numbers p x r (picked-numbers (x .table) narrow fn sh fine ordered) (picked-shaped (x .table) narrow fn sh fine ordered) a
+      (same-facts x log (logOf (x .table) (map pos (take (m * 5) ms))) a
+      (picked-all (x .table) narrow fn sh fine ordered (λ i h. let (j, lt, e) = o .every i h in (j, lt, taken-fact ms m j lt ∙ e)))
+      (picked-within (x .table) narrow fn sh fine ordered) c)
 
   -- shrunk it can be handed over
   pub handed-numbers : {ks : List ℕ} {k : ℕ} → Shrunk p (take (m * 5) ms) m ks k → (u : List ℕ) → LeastMissing p ks u → HandedNumbers x ks k u
@@ -219,34 +225,34 @@ module _ (p : List ℕ) (x : Sheet) (r : ReadyPlan p x) {ns : List ℕ} {log : L
       record {
         handed = check.handed x (r .accepted) rest a c l spare-free distinct (λ f i. made f (within .at f i));
         log-is = refl;
-        accepted = picked-accepted fn sh fine picked;
+        accepted = picked-accepted (x .table) narrow fn sh fine picked;
         count = s .count;
         facts = size;
         answer-is = e;
         few = picked .few;
-        small = fine-small ks k (s .count) (picked-fine fn sh fine picked);
+        small = fine-small (x .table) (λ n h. known-small p (r .plan .size) n (subst (λ t. 0 < columnsOf t (pos n)) (r .plan .table) h)) ks k (s .count) (picked-fine (x .table) narrow fn sh fine picked);
       }
     where
       picked : Picked ns (length log) ks k
       picked = picked-part ordered (s .part) (s .count)
 
       rest : Log
-      rest = logOf (map pos ks)
+      rest = logOf (x .table) (map pos ks)
 
       told : FactNumbers ks rest
-      told = picked-numbers fn sh fine picked
+      told = picked-numbers (x .table) narrow fn sh fine picked
 
-      shaped : ShapedLog rest
-      shaped = picked-shaped fn sh fine picked
+      shaped : ShapedLog (x .table) rest
+      shaped = picked-shaped (x .table) narrow fn sh fine picked
 
       within : SubLog rest log
-      within = picked-within fn sh fine picked
+      within = picked-within (x .table) narrow fn sh fine picked
 
       size : length rest ≡ k
-      size = picked-count fn sh fine picked
+      size = picked-count (x .table) narrow fn sh fine picked
 
       distinct : Distinct rest
-      distinct = picked-distinct fn sh fine picked
+      distinct = picked-distinct (x .table) narrow fn sh fine picked
 
       spare-free : SpareFree x rest
       spare-free = spare-free-places x rest distinct (λ i lt t c.

@@ -18,7 +18,7 @@ use Rattle.list_laws.specs.Order.{_⊏_}
 use Rattle.sheet_format.proofs.Lists.{all-index}
 use Rattle.sheet_format.specs.Cause.{above, none}
 use Rattle.sheet_format.specs.Line.{all, isZero, natural, null}
-use Rattle.sheet_format.specs.Relations.{columnsOf}
+use Rattle.sheet_format.specs.Table.{Table, columnsOf}
 use Rattle.sheet_format.specs.declared.Refusal.{Refusal}
 use Rattle.query_meaning.specs.Meaning.{Fact, Log, In, fact}
 use Rattle.query_meaning.specs.Facts.{factByFact, factsIn, factsRefusal, isValue, logOf, value-end, wrongFact, most-facts}
@@ -32,10 +32,10 @@ use Rattle.case_order.specs.Order.{fiveAt}
 use Rattle.case_minimization.specs.Minimization.{without}
 
 -- a fact that words can hold
-pub record FineFact (ns : List ℕ) (i : ℕ) : Type 0 where
-  pub known : 0 < columnsOf (pos (getD ns (i * 5) 0))
+pub record FineFact (table : Table) (ns : List ℕ) (i : ℕ) : Type 0 where
+  pub known : 0 < columnsOf table (pos (getD ns (i * 5) 0))
   pub small : (c : ℕ) → c < 4 → getD ns (i * 5 + 1 + c) 0 < value-end
-  pub rest : (c : ℕ) → columnsOf (pos (getD ns (i * 5) 0)) ≤ c → c < 4 → getD ns (i * 5 + 1 + c) 0 ≡ 0
+  pub rest : (c : ℕ) → columnsOf table (pos (getD ns (i * 5) 0)) ≤ c → c < 4 → getD ns (i * 5 + 1 + c) 0 ≡ 0
 
 -- ---- the five numbers by their places
 
@@ -54,12 +54,12 @@ same-five ns ms i j r v = ext-getD 0 (fiveAt ns i) (fiveAt ms j) refl go
 fact-same : (f g : Fact) → f .rel ≡ g .rel → f .row ≡ g .row → f ≡ g
 fact-same f g r v = ap (λ n. fact n (f .row)) r ∙ ap (fact (g .rel)) v
 
-module _ {ns ms : List ℕ} {l k : Log} (a : FactNumbers ns l) (b : FactNumbers ms k) where
+module _ (table : Table) {ns ms : List ℕ} {l k : Log} (a : FactNumbers ns l) (b : FactNumbers ms k) where
   -- equal numbers, equal facts
-  pub same-fact : ShapedLog l → ShapedLog k → (i j : ℕ) → i < length l → j < length k → fiveAt ns i ≡ fiveAt ms j → numbers.factAt l i ≡ numbers.factAt k j
+  pub same-fact : ShapedLog table l → ShapedLog table k → (i j : ℕ) → i < length l → j < length k → fiveAt ns i ≡ fiveAt ms j → numbers.factAt l i ≡ numbers.factAt k j
   same-fact s t i j h g e =
       fact-same f f′ rel
-      (ext-getD 0 (f .row) (f′ .row) (short .0 ∙ ap (λ n. columnsOf (pos n)) rel ∙ sym (t f′ (at-in (fact 0 []) k j g) .0)) at)
+      (ext-getD 0 (f .row) (f′ .row) (short .0 ∙ ap (λ n. columnsOf table (pos n)) rel ∙ sym (t f′ (at-in (fact 0 []) k j g) .0)) at)
     where
       f : Fact
       f = numbers.factAt l i
@@ -70,7 +70,7 @@ module _ {ns ms : List ℕ} {l k : Log} (a : FactNumbers ns l) (b : FactNumbers 
       rel : f .rel ≡ f′ .rel
       rel = sym (a .relation i h) ∙ ap (λ n. getD n 0 0) e ∙ b .relation j g
 
-      short : (length (f .row) ≡ columnsOf (pos (f .rel))) × (length (f .row) ≤ 4)
+      short : (length (f .row) ≡ columnsOf table (pos (f .rel))) × (length (f .row) ≤ 4)
       short = s f (at-in (fact 0 []) l i h)
 
       at : (c : ℕ) → c < length (f .row) → getD (f .row) c 0 ≡ getD (f′ .row) c 0
@@ -91,9 +91,9 @@ module _ {ns ms : List ℕ} {l k : Log} (a : FactNumbers ns l) (b : FactNumbers 
       (λ c o. a .values i h c o ∙ ap (λ f. getD (f .row) c 0) e ∙ sym (b .values j g c o))
 
 -- shaped facts of known relations and small values have fine numbers
-pub fine-fact : {ns : List ℕ} {l : Log} → FactNumbers ns l → ShapedLog l → ((f : Fact) → In f l → 0 < columnsOf (pos (f .rel)))
-    → ((f : Fact) → In f l → (n : ℕ) → In n (f .row) → n < value-end) → (i : ℕ) → i < length l → FineFact ns i
-fine-fact {ns} {l} a s known small i h = record {
+pub fine-fact : (table : Table) {ns : List ℕ} {l : Log} → FactNumbers ns l → ShapedLog table l → ((f : Fact) → In f l → 0 < columnsOf table (pos (f .rel)))
+    → ((f : Fact) → In f l → (n : ℕ) → In n (f .row) → n < value-end) → (i : ℕ) → i < length l → FineFact table ns i
+fine-fact table {ns} {l} a s known small i h = record {
   known = rw (a .relation i h) (known f m);
   small = λ c o. rw (a .values i h c o) (go c (ltb c (length (f .row))) refl);
   rest = λ c o p. a .values i h c p ∙ List·getD-eq-default (f .row) 0 (rw (s f m .0, ← a .relation i h) o);
@@ -110,11 +110,11 @@ fine-fact {ns} {l} a s known small i h = record {
     go c false q = rw (List·getD-eq-default (f .row) 0 (ltb-false c (length (f .row)) q)) (omega arith)
 
 -- and so have the same numbers elsewhere
-pub fine-same : (ns ms : List ℕ) (i j : ℕ) → fiveAt ns i ≡ fiveAt ms j → FineFact ns i → FineFact ms j
-fine-same ns ms i j e f = record {
-  known = subst (λ n. 0 < columnsOf (pos n)) rel (f .known);
+pub fine-same : (table : Table) (ns ms : List ℕ) (i j : ℕ) → fiveAt ns i ≡ fiveAt ms j → FineFact table ns i → FineFact table ms j
+fine-same table ns ms i j e f = record {
+  known = subst (λ n. 0 < columnsOf table (pos n)) rel (f .known);
   small = λ c o. subst (λ n. n < value-end) (value c o) (f .small c o);
-  rest = λ c h o. sym (value c o) ∙ f .rest c (subst (λ n. columnsOf (pos n) ≤ c) (sym rel) h) o;
+  rest = λ c h o. sym (value c o) ∙ f .rest c (subst (λ n. columnsOf table (pos n) ≤ c) (sym rel) h) o;
 }
   where
     rel : getD ns (i * 5) 0 ≡ getD ms (j * 5) 0
@@ -236,11 +236,11 @@ words-at ms i h = fact-words (map pos ms) i h ∙ ext-getD (pos 0) (slice (5 * i
         ∙ sym (word-number (fiveAt ms i) k)
 
 -- a fine fact's words are right
-fine-right : (ms : List ℕ) (i : ℕ) → FineFact ms i → wrongFact (map pos (fiveAt ms i)) ≡ false
-fine-right ms i f = rw (ne-eqb n 0 (λ e. let k = f .known in omega arith), values, zeros)
+fine-right : (table : Table) (ms : List ℕ) (i : ℕ) → FineFact table ms i → wrongFact table (map pos (fiveAt ms i)) ≡ false
+fine-right table ms i f = rw (ne-eqb n 0 (λ e. let k = f .known in omega arith), values, zeros)
   where
     n : ℕ
-    n = columnsOf (pos (getD ms (i * 5) 0))
+    n = columnsOf table (pos (getD ms (i * 5) 0))
 
     ws : List ℤ
     ws = map pos (fiveAt ms i)
@@ -274,15 +274,15 @@ or-right true t e = refl
 or-right false t e = e
 
 -- facts that are right and rise are accepted
-by-fact-accepted : (b : List ℤ) (fs : List (List ℤ)) → ((i : ℕ) → i < length fs → wrongFact (getD fs i []) ≡ false)
+by-fact-accepted : (table : Table) (b : List ℤ) (fs : List (List ℤ)) → ((i : ℕ) → i < length fs → wrongFact table (getD fs i []) ≡ false)
     → (0 < length fs → null b || above b (getD fs 0 []) ≡ true)
     → ((i : ℕ) → suc i < length fs → above (getD fs i []) (getD fs (suc i) []) ≡ true)
-    → factByFact b fs ≡ none
+    → factByFact table b fs ≡ none
 unfolding factByFact
-by-fact-accepted b [] right first rises = refl
-by-fact-accepted b (f ∷ fs) right first rises =
+by-fact-accepted table b [] right first rises = refl
+by-fact-accepted table b (f ∷ fs) right first rises =
     rw (right 0 (omega arith), not-either (null b) (above b f), first (omega arith))
-    (by-fact-accepted f fs (λ i h. right (suc i) (omega arith)) (λ h. or-right (null f) _ (rises 0 (omega arith))) (λ i h. rises (suc i) (omega arith)))
+    (by-fact-accepted table f fs (λ i h. right (suc i) (omega arith)) (λ h. or-right (null f) _ (rises 0 (omega arith))) (λ i h. rises (suc i) (omega arith)))
 
 -- ---- facts in order
 
@@ -305,42 +305,42 @@ module _ (ms : List ℕ) (m : ℕ) (rising : (i : ℕ) → suc i < m → fiveAt 
           let e : j ≡ i = omega arith in
           subst (λ n. fiveAt ms n ⊏ fiveAt ms (suc j)) e (rising j k)
 
-module _ (ms : List ℕ) (m : ℕ) (count : length ms ≡ m * 5) (few : m ≤ most-facts) (fine : (i : ℕ) → i < m → FineFact ms i)
+module _ (table : Table) (ms : List ℕ) (m : ℕ) (count : length ms ≡ m * 5) (few : m ≤ most-facts) (fine : (i : ℕ) → i < m → FineFact table ms i)
     (rising : (i : ℕ) → suc i < m → fiveAt ms i ⊏ fiveAt ms (suc i)) where
   words-length : length (map pos ms) ≡ m * 5
   words-length = length-map ms pos ∙ count
 
   -- the words are accepted as facts
-  pub words-accepted : factsRefusal (map pos ms) .number ≡ 0
+  pub words-accepted : factsRefusal table (map pos ms) .number ≡ 0
   words-accepted =
       let n = words-length in
       let k = facts-length (map pos ms) in
       ap (λ (r : Refusal). r .number)
-      (sym (count-right (map pos ms) (omega arith) (omega arith))
-      ∙ by-fact-accepted [] (factsIn (map pos ms))
-      (λ i h. ap wrongFact (words-at ms i (omega arith)) ∙ fine-right ms i (fine i (omega arith)))
+      (sym (count-right table (map pos ms) (omega arith) (omega arith))
+      ∙ by-fact-accepted table [] (factsIn (map pos ms))
+      (λ i h. ap (wrongFact table) (words-at ms i (omega arith)) ∙ fine-right table ms i (fine i (omega arith)))
       (λ h. refl)
       (λ i h.
       rw (words-at ms i (omega arith), words-at ms (suc i) (omega arith))
       (rising-above (fiveAt ms i) (fiveAt ms (suc i)) (rising i (omega arith)))))
 
   -- the log that they give has these numbers
-  pub words-numbers : FactNumbers ms (logOf (map pos ms))
+  pub words-numbers : FactNumbers ms (logOf table (map pos ms))
   words-numbers =
       let n = words-length in
       let e = take-all (length (map pos ms)) ms (omega arith) in
-      subst (λ ns. FactNumbers ns (logOf (map pos ms))) e
-      (numbers-read (map pos ms) ms (length (map pos ms)) refl
+      subst (λ ns. FactNumbers ns (logOf table (map pos ms))) e
+      (numbers-read table (map pos ms) ms (length (map pos ms)) refl
       (e ∙ sym (ap (map natural) (take-all (length (map pos ms)) (map pos ms) (omega arith)) ∙ numbers-back ms))
       words-accepted)
 
-  pub words-count : length (logOf (map pos ms)) ≡ m
-  words-count = let n = words-length in logOf-length (map pos ms) ∙ (omega arith)
+  pub words-count : length (logOf table (map pos ms)) ≡ m
+  words-count = let n = words-length in logOf-length table (map pos ms) ∙ (omega arith)
 
   -- no fact stands twice
-  pub words-distinct : Distinct (logOf (map pos ms))
+  pub words-distinct : Distinct (logOf table (map pos ms))
   words-distinct =
       let n = words-count in
-      distinct-places (fact 0 []) (logOf (map pos ms)) (λ i j a b e.
+      distinct-places (fact 0 []) (logOf table (map pos ms)) (λ i j a b e.
       less-irrefl (fiveAt ms j)
-      (subst (λ f. f ⊏ fiveAt ms j) (same-numbers words-numbers words-numbers i j (omega arith) b e) (rising-far ms m rising i j a (omega arith))))
+      (subst (λ f. f ⊏ fiveAt ms j) (same-numbers table words-numbers words-numbers i j (omega arith) b e) (rising-far ms m rising i j a (omega arith))))

@@ -10,7 +10,7 @@ use lib.IntN.{ℤ, pos, negsuc}
 use lib.ListN.{length, length-map, drop}
 use borrow.Author.Tests.{eqb-true, eqb-false, ltb-true, not-true, not-false}
 use Rattle.sheet_format.specs.Limits.{constant-end, most-variables}
-use Rattle.sheet_format.specs.Relations.{columnsOf}
+use Rattle.sheet_format.specs.Table.{Table, columnsOf}
 use Rattle.sheet_format.specs.Line.{Line, all, null, natural}
 use Rattle.sheet_format.specs.Cause.{Kind, question, saved, view, atom, row, other, kind, rest, second, terms, orOut, termOf, isTerm, isConstant, term, constant, inPlace, misplaced, wrongColumns, outOfRange, tooMany, wrongLength, cause, start, nextBy, next, refusal, scan, isHead, isAtom, atoms, same, occurs, bound, unsafe, heads, refusalOf}
 use Rattle.sheet_format.specs.declared.Refusal.{Refusal}
@@ -23,11 +23,10 @@ use Rattle.query_meaning.specs.Meaning.{var, Block, In}
 use Rattle.query_meaning.specs.Blocks.{View, asTerm, atomOf, blockOf, isRow, rows, viewOf, blocks, nowhere, nth}
 use Rattle.query_blocks.proofs.Accepted.{neither, Clean, scan-first, heads-first, accepted-heads, AtomLine, AtomLines, HeadLine, head-line, front-atoms, no-atoms}
 use Rattle.query_blocks.proofs.Shape.{all-in, some-in, in-map, from-map, atom-in, same-word}
-use Rattle.case_verdicts.specs.Table.{relation}
+use Rattle.case_verdicts.specs.Table.{relation, Sound}
 use Rattle.case_verdicts.specs.Accepted.{width, FineTerm, Fine, FineAtom, FineBlock, FineSheet, variable, Bound, Safe, Evaluable}
-use Rattle.case_verdicts.specs.Sheets.{ten, top, isQuestion, isSaved, isView, sheetOf}
+use Rattle.case_verdicts.specs.Sheets.{top, isQuestion, isSaved, isView, questionIn, viewsIn, sheetOf}
 use Rattle.case_verdicts.proofs.Lists.{in-gather}
-use Rattle.case_verdicts.proofs.Tables.{ten-columns, ten-sound}
 
 -- ---- words
 
@@ -54,21 +53,22 @@ row-word (negsuc n) e = omega arith
 
 -- ---- atoms
 
-atom-columns : (k : Line) → AtomLine k → length (terms k) ≡ relation ten (natural (second k)) .columns
-atom-columns k a =
+atom-columns : (table : Table) (k : Line) → AtomLine table k → length (terms k) ≡ relation table (natural (second k)) .columns
+unfolding columnsOf
+atom-columns table k a =
     let (r, e) = a .relation in
-    a .columns ∙ ap columnsOf e ∙ sym (ten-columns (suc r)) ∙ ap (λ z. relation ten (natural z) .columns) (sym e)
+    a .columns ∙ ap (columnsOf table) e ∙ ap (λ z. relation table (natural z) .columns) (sym e)
 
-atom-fine : (k : Line) → AtomLine k → FineAtom top ten (atomOf k)
-atom-fine k a = record {
+atom-fine : (table : Table) (k : Line) → AtomLine table k → FineAtom top table (atomOf k)
+atom-fine table k a = record {
   terms = fine-words (terms k) (a .ranged);
-  known = let c = atom-columns k a in let s = a .some in omega arith;
-  full = length-map (terms k) asTerm ∙ atom-columns k a;
+  known = let c = atom-columns table k a in let s = a .some in omega arith;
+  full = length-map (terms k) asTerm ∙ atom-columns table k a;
 }
 
 -- ---- one block: its head is the line l, and ls are the lines after it
 
-module _ (l : Line) (ls : List Line) where
+module _ (table : Table) (l : Line) (ls : List Line) where
   -- a head's word that the atoms bind is a constant or one of their variables
   bound-word : (z : ℤ) → bound (atoms ls) z ≡ true → Bound (blockOf l ls) (asTerm z)
   bound-word (pos n) h = tt
@@ -85,35 +85,35 @@ module _ (l : Line) (ls : List Line) where
     apart = λ d m. absurd m;
   }
 
-  block-fine : HeadLine l → AtomLines (atoms ls) → FineBlock top ten (blockOf l ls)
+  block-fine : HeadLine l → AtomLines table (atoms ls) → FineBlock top table (blockOf l ls)
   block-fine h us = record {
     head = fine-words (rest l) (h .ranged);
-    atoms = λ a m. let (k, i, e) = from-map atomOf (atoms ls) a m in subst (FineAtom top ten) (sym e) (atom-fine k (atom-in (atoms ls) k us i));
+    atoms = λ a m. let (k, i, e) = from-map atomOf (atoms ls) a m in subst (FineAtom top table) (sym e) (atom-fine table k (atom-in table (atoms ls) k us i));
     apart = λ d m. absurd m;
   }
 
 -- ---- the listed rows of a view, by what its head leaves
 
 -- a step of the scan, with the line's cause
-scan-step : (l : Line) (ls : List Line) (g : Seen) (b : Line) (n : ℕ) → scan g b n (l ∷ ls) .number ≡ 0 → (eqb (cause g b l) 0 ≡ true) × (scan (next g l) l (n + 1) ls .number ≡ 0)
+scan-step : (table : Table) (l : Line) (ls : List Line) (g : Seen) (b : Line) (n : ℕ) → scan table g b n (l ∷ ls) .number ≡ 0 → (eqb (cause table g b l) 0 ≡ true) × (scan table (next g l) l (n + 1) ls .number ≡ 0)
 unfolding scan
-scan-step l ls g b n h = go (eqb (cause g b l) 0) refl h
+scan-step table l ls g b n h = go (eqb (cause table g b l) 0) refl h
   where
     r : Refusal
-    r = scan (next g l) l (n + 1) ls
+    r = scan table (next g l) l (n + 1) ls
 
-    go : (t : Bool) → eqb (cause g b l) 0 ≡ t → cond t r (refusal (cause g b l) n) .number ≡ 0 → (eqb (cause g b l) 0 ≡ true) × (r .number ≡ 0)
+    go : (t : Bool) → eqb (cause table g b l) 0 ≡ t → cond t r (refusal (cause table g b l) n) .number ≡ 0 → (eqb (cause table g b l) 0 ≡ true) × (r .number ≡ 0)
     go true e f = (e, f)
-    go false e f = absurd (eqb-false (cause g b l) 0 e f)
+    go false e f = absurd (eqb-false (cause table g b l) 0 e f)
 
 -- a test on the way to 0 was not met
 -- without a cause, neither 5 nor 7 holds
-no-cause : (g : Seen) (b l : Line) → eqb (cause g b l) 0 ≡ true → (outOfRange (kind l) l ≡ false) × (wrongLength g (kind l) l ≡ false)
+no-cause : (table : Table) (g : Seen) (b l : Line) → eqb (cause table g b l) 0 ≡ true → (outOfRange (kind l) l ≡ false) × (wrongLength g (kind l) l ≡ false)
 unfolding cause
-no-cause g b l e =
+no-cause table g b l e =
     let p2 = passed (null l) 2 _ refl e in
     let p3 = passed (misplaced g l) 3 _ refl (p2 .1) in
-    let p4 = passed (wrongColumns (kind l) l) 4 _ refl (p3 .1) in
+    let p4 = passed (wrongColumns table (kind l) l) 4 _ refl (p3 .1) in
     let p5 = passed (outOfRange (kind l) l) 5 _ refl (p4 .1) in
     let p6 = passed (tooMany g (kind l)) 6 _ refl (p5 .1) in
     (p5 .0, passed (wrongLength g (kind l) l) 7 _ refl (p6 .1) .0)
@@ -133,13 +133,13 @@ head-columns g row n t = no-way t
 head-columns g other n t = no-way t
 
 -- the rows at the front, by the columns of the head before them
-front-rows : (ls : List Line) (g : Seen) (b : Line) (n : ℕ) → scan g b n ls .number ≡ 0 → (r : List ℕ) → In r (rows ls) → RowFine (g .columns) r
+front-rows : (table : Table) (ls : List Line) (g : Seen) (b : Line) (n : ℕ) → scan table g b n ls .number ≡ 0 → (r : List ℕ) → In r (rows ls) → RowFine (g .columns) r
 unfolding rows next
-front-rows [] g b n h r m = absurd m
-front-rows (l ∷ ls) g b n h r m =
-    let (c, s) = scan-step l ls g b n h in
-    let (p, q) = no-cause g b l c in
-    go (kind l) p q (front-rows ls (next g l) l (n + 1) s r) m
+front-rows table [] g b n h r m = absurd m
+front-rows table (l ∷ ls) g b n h r m =
+    let (c, s) = scan-step table l ls g b n h in
+    let (p, q) = no-cause table g b l c in
+    go (kind l) p q (front-rows table ls (next g l) l (n + 1) s r) m
   where
     go : (k : Kind) → outOfRange k l ≡ false → wrongLength g k l ≡ false → (In r (rows ls) → RowFine (nextBy g k (length (rest l)) .columns) r)
         → In r (cond (isRow k) (map natural (rest l) ∷ rows ls) []) → RowFine (g .columns) r
@@ -155,29 +155,29 @@ front-rows (l ∷ ls) g b n h r m =
     go other p q ih i = absurd i
 
 -- and after the atoms
-later-rows : (ls : List Line) (g : Seen) (b : Line) (n : ℕ) → scan g b n ls .number ≡ 0 → (r : List ℕ) → In r (rows (drop (length (atoms ls)) ls)) → RowFine (g .columns) r
+later-rows : (table : Table) (ls : List Line) (g : Seen) (b : Line) (n : ℕ) → scan table g b n ls .number ≡ 0 → (r : List ℕ) → In r (rows (drop (length (atoms ls)) ls)) → RowFine (g .columns) r
 unfolding atoms next
-later-rows [] g b n h r m = front-rows [] g b n h r m
-later-rows (l ∷ ls) g b n h r m = go (kind l) (later-rows ls (next g l) l (n + 1) (scan-step l ls g b n h .1) r) m
+later-rows table [] g b n h r m = front-rows table [] g b n h r m
+later-rows table (l ∷ ls) g b n h r m = go (kind l) (later-rows table ls (next g l) l (n + 1) (scan-step table l ls g b n h .1) r) m
   where
     go : (k : Kind) → (In r (rows (drop (length (atoms ls)) ls)) → RowFine (nextBy g k (length (rest l)) .columns) r)
         → In r (rows (drop (length (cond (isAtom k) (l ∷ atoms ls) [])) (l ∷ ls))) → RowFine (g .columns) r
-    go question ih i = front-rows (l ∷ ls) g b n h r i
-    go saved ih i = front-rows (l ∷ ls) g b n h r i
-    go view ih i = front-rows (l ∷ ls) g b n h r i
+    go question ih i = front-rows table (l ∷ ls) g b n h r i
+    go saved ih i = front-rows table (l ∷ ls) g b n h r i
+    go view ih i = front-rows table (l ∷ ls) g b n h r i
     go atom ih i = ih i
-    go row ih i = front-rows (l ∷ ls) g b n h r i
-    go other ih i = front-rows (l ∷ ls) g b n h r i
+    go row ih i = front-rows table (l ∷ ls) g b n h r i
+    go other ih i = front-rows table (l ∷ ls) g b n h r i
 
 -- ---- the list's head is as long as the question's
 
 -- after the question's head
-saved-long : (ls : List Line) (g : Seen) (b : Line) (n : ℕ) → 1 ≤ g .block → scan g b n ls .number ≡ 0 → (w : View) → In w (blocks isSaved ls) → length (w .block .head) ≡ g .asked
+saved-long : (table : Table) (ls : List Line) (g : Seen) (b : Line) (n : ℕ) → 1 ≤ g .block → scan table g b n ls .number ≡ 0 → (w : View) → In w (blocks isSaved ls) → length (w .block .head) ≡ g .asked
 unfolding blocks next
-saved-long [] g b n late h w m = absurd m
-saved-long (l ∷ ls) g b n late h w m =
-    let (c, s) = scan-step l ls g b n h in
-    go (kind l) (scan-first l ls g b n h .0 .placed) (no-cause g b l c .1) (λ k. saved-long ls (next g l) l (n + 1) k s w) m
+saved-long table [] g b n late h w m = absurd m
+saved-long table (l ∷ ls) g b n late h w m =
+    let (c, s) = scan-step table l ls g b n h in
+    go (kind l) (scan-first table l ls g b n h .0 .placed) (no-cause table g b l c .1) (λ k. saved-long table ls (next g l) l (n + 1) k s w) m
   where
     go : (k : Kind) → inPlace g k ≡ true → wrongLength g k l ≡ false → (1 ≤ nextBy g k (length (rest l)) .block → In w (blocks isSaved ls) → length (w .block .head) ≡ nextBy g k (length (rest l)) .asked)
         → In w (cond (isSaved k) (viewOf l ls ∷ blocks isSaved ls) (blocks isSaved ls)) → length (w .block .head) ≡ g .asked
@@ -190,12 +190,12 @@ saved-long (l ∷ ls) g b n late h w m =
     go other p q ih i = no-way p
 
 -- from the first line on
-question-long : (ls : List Line) → scan start [] 1 ls .number ≡ 0 → (w : View) → In w (blocks isSaved ls) → length (w .block .head) ≡ length (nth (blocks isQuestion ls) 0 .block .head)
+question-long : (table : Table) (ls : List Line) → scan table start [] 1 ls .number ≡ 0 → (w : View) → In w (blocks isSaved ls) → length (w .block .head) ≡ length (nth (blocks isQuestion ls) 0 .block .head)
 unfolding blocks next
-question-long [] h w m = absurd m
-question-long (l ∷ ls) h w m =
-    let (c, s) = scan-step l ls start [] 1 h in
-    go (kind l) (scan-first l ls start [] 1 h .0 .placed) (λ k. saved-long ls (next start l) l 2 k s w) m
+question-long table [] h w m = absurd m
+question-long table (l ∷ ls) h w m =
+    let (c, s) = scan-step table l ls start [] 1 h in
+    go (kind l) (scan-first table l ls start [] 1 h .0 .placed) (λ k. saved-long table ls (next start l) l 2 k s w) m
   where
     go : (k : Kind) → inPlace start k ≡ true → (1 ≤ nextBy start k (length (rest l)) .block → In w (blocks isSaved ls) → length (w .block .head) ≡ nextBy start k (length (rest l)) .asked)
         → In w (cond (isSaved k) (viewOf l ls ∷ blocks isSaved ls) (blocks isSaved ls)) → length (w .block .head) ≡ length (nth (cond (isQuestion k) (viewOf l ls ∷ blocks isQuestion ls) (blocks isQuestion ls)) 0 .block .head)
@@ -209,24 +209,24 @@ question-long (l ∷ ls) h w m =
 -- ---- the blocks of accepted lines
 
 -- the block of a head that passes the test, and what is known of it
-pub record BlockRead (p : Kind → Bool) (w : View) : Type 0 where
+pub record BlockRead (table : Table) (p : Kind → Bool) (w : View) : Type 0 where
   pub line : Line
   pub after : List Line
   pub before : Seen
   pub number : ℕ
   pub is : w ≡ viewOf line after
   pub chosen : p (kind line) ≡ true
-  pub clean : Clean before line
-  pub scanned : scan (next before line) line number after .number ≡ 0
+  pub clean : Clean table before line
+  pub scanned : scan table (next before line) line number after .number ≡ 0
   pub safe : unsafe line (atoms after) ≡ false
 
-blocks-read : (p : Kind → Bool) (ls : List Line) (g : Seen) (b : Line) (n m : ℕ) → scan g b n ls .number ≡ 0 → heads m ls .number ≡ 0 → (w : View) → In w (blocks p ls) → BlockRead p w
+blocks-read : (table : Table) (p : Kind → Bool) (ls : List Line) (g : Seen) (b : Line) (n m : ℕ) → scan table g b n ls .number ≡ 0 → heads m ls .number ≡ 0 → (w : View) → In w (blocks p ls) → BlockRead table p w
 unfolding blocks
-blocks-read p [] g b n m s h w i = absurd i
-blocks-read p (l ∷ ls) g b n m s h w i =
-    go (blocks-read p ls (next g l) l (n + 1) (m + 1) (scan-first l ls g b n s .1) (heads-first l ls m h .1) w) (p (kind l)) refl i
+blocks-read table p [] g b n m s h w i = absurd i
+blocks-read table p (l ∷ ls) g b n m s h w i =
+    go (blocks-read table p ls (next g l) l (n + 1) (m + 1) (scan-first table l ls g b n s .1) (heads-first l ls m h .1) w) (p (kind l)) refl i
   where
-    go : (In w (blocks p ls) → BlockRead p w) → (t : Bool) → p (kind l) ≡ t → In w (cond t (viewOf l ls ∷ blocks p ls) (blocks p ls)) → BlockRead p w
+    go : (In w (blocks p ls) → BlockRead table p w) → (t : Bool) → p (kind l) ≡ t → In w (cond t (viewOf l ls ∷ blocks p ls) (blocks p ls)) → BlockRead table p w
     go ih true e (inl q) = record {
       line = l;
       after = ls;
@@ -234,35 +234,35 @@ blocks-read p (l ∷ ls) g b n m s h w i =
       number = n + 1;
       is = q;
       chosen = e;
-      clean = scan-first l ls g b n s .0;
-      scanned = scan-first l ls g b n s .1;
+      clean = scan-first table l ls g b n s .0;
+      scanned = scan-first table l ls g b n s .1;
       safe = heads-first l ls m h .0;
     }
     go ih true e (inr j) = ih j
     go ih false e j = ih j
 
-module _ (p : Kind → Bool) (heads-only : (k : Kind) → p k ≡ true → isHead k ≡ true) where
-  read-fine : (w : View) → BlockRead p w → FineBlock top ten (w .block)
+module _ (table : Table) (p : Kind → Bool) (heads-only : (k : Kind) → p k ≡ true → isHead k ≡ true) where
+  read-fine : (w : View) → BlockRead table p w → FineBlock top table (w .block)
   unfolding next
   read-fine w r =
       let l = r .line in
       let e = heads-only (kind l) (r .chosen) in
       let z = no-atoms (r .before) (kind l) (length (rest l)) e in
-      let a = front-atoms (r .after) (next (r .before) l) l (r .number) (omega arith) (r .scanned) in
-      subst (λ (v : View). FineBlock top ten (v .block)) (sym (r .is)) (block-fine l (r .after) (head-line (r .before) l (r .clean) e) (a .0))
+      let a = front-atoms table (r .after) (next (r .before) l) l (r .number) (omega arith) (r .scanned) in
+      subst (λ (v : View). FineBlock top table (v .block)) (sym (r .is)) (block-fine table l (r .after) (head-line table (r .before) l (r .clean) e) (a .0))
 
-  read-safe : (w : View) → BlockRead p w → Safe (w .block)
+  read-safe : (w : View) → BlockRead table p w → Safe (w .block)
   read-safe w r =
       let l = r .line in
       let ts = atoms (r .after) in
       let u = neither (null ts) (not (all (bound ts) (rest l))) (sym (ap (λ t. t && (null ts || not (all (bound ts) (rest l)))) (heads-only (kind l) (r .chosen))) ∙ r .safe) in
-      subst (λ (v : View). Safe (v .block)) (sym (r .is)) (block-safe l (r .after) (not-false _ (u .1)))
+      subst (λ (v : View). Safe (v .block)) (sym (r .is)) (block-safe table l (r .after) (not-false _ (u .1)))
 
-  read-rows : (w : View) → BlockRead p w → (u : List ℕ) → In u (w .rows) → RowFine (length (w .block .head)) u
+  read-rows : (w : View) → BlockRead table p w → (u : List ℕ) → In u (w .rows) → RowFine (length (w .block .head)) u
   unfolding next
   read-rows w r u i =
       let l = r .line in
-      let f = later-rows (r .after) (next (r .before) l) l (r .number) (r .scanned) u (subst (λ (v : View). In u (v .rows)) (r .is) i) in
+      let f = later-rows table (r .after) (next (r .before) l) l (r .number) (r .scanned) u (subst (λ (v : View). In u (v .rows)) (r .is) i) in
       let c = head-columns (r .before) (kind l) (length (rest l)) (heads-only (kind l) (r .chosen)) in
       subst (λ (v : View). RowFine (length (v .block .head)) u) (sym (r .is)) (subst (λ k. RowFine k u) (c ∙ sym (length-map (rest l) asTerm)) f)
 
@@ -295,35 +295,41 @@ pub first-block : (P : Block → Type 0) → P (nowhere .block) → (ws : List V
 first-block P p [] each = p
 first-block P p (w ∷ ws) each = each w (inl refl)
 
-module _ (ls : List Line) (ok : refusalOf ls .number ≡ 0) where
-  pub accepted-read : (p : Kind → Bool) (w : View) → In w (blocks p ls) → BlockRead p w
-  accepted-read p = blocks-read p ls start [] 1 1 (eqb-true _ 0 (accepted-scan ls ok)) (accepted-heads ls ok)
+module _ (table : Table) (ls : List Line) (ok : refusalOf table ls .number ≡ 0) where
+  pub accepted-read : (p : Kind → Bool) (w : View) → In w (blocks p ls) → BlockRead table p w
+  accepted-read p = blocks-read table p ls start [] 1 1 (eqb-true _ 0 (accepted-scan table ls ok)) (accepted-heads table ls ok)
 
-  list-read : (l : Block) → In l (sheetOf ls .lists) → (w : View) × BlockRead isSaved w × (l ≡ w .block)
+  list-read : (l : Block) → In l (sheetOf table ls .lists) → (w : View) × BlockRead table isSaved w × (l ≡ w .block)
   list-read l m = let (w, i, e) = from-map (λ (w : View). w .block) (blocks isSaved ls) l m in (w, accepted-read isSaved w i, e)
 
-  pub accepted-sheet : FineSheet top (sheetOf ls)
-  accepted-sheet = record {
-    table = ten-sound;
-    question = first-block (FineBlock top ten) (record { head = λ t m. absurd m; atoms = λ a m. absurd m; apart = λ d m. absurd m }) (blocks isQuestion ls)
-        (λ w m. read-fine isQuestion questions-head w (accepted-read isQuestion w m));
-    lists = λ l m. let (w, r, e) = list-read l m in subst (FineBlock top ten) (sym e) (read-fine isSaved saved-head w r);
-    views = λ w m. read-fine isView views-head w (accepted-read isView w m);
-    rows = λ w m r i. read-rows isView views-head w (accepted-read isView w m) r i .small;
-    lengths = λ w m r i. read-rows isView views-head w (accepted-read isView w m) r i .long;
+  pub asked-fine : FineBlock top table (questionIn ls)
+  asked-fine = first-block (FineBlock top table) (record { head = λ t m. absurd m; atoms = λ a m. absurd m; apart = λ d m. absurd m }) (blocks isQuestion ls)
+      (λ w m. read-fine table isQuestion questions-head w (accepted-read isQuestion w m))
+
+  pub listed-fine : (w : View) → In w (viewsIn ls) → FineBlock top table (w .block)
+  listed-fine w m = read-fine table isView views-head w (accepted-read isView w m)
+
+  pub accepted-sheet : Sound table → FineSheet top (sheetOf table ls)
+  accepted-sheet sound = record {
+    table = sound;
+    question = asked-fine;
+    lists = λ l m. let (w, r, e) = list-read l m in subst (FineBlock top table) (sym e) (read-fine table isSaved saved-head w r);
+    views = listed-fine;
+    rows = λ w m r i. read-rows table isView views-head w (accepted-read isView w m) r i .small;
+    lengths = λ w m r i. read-rows table isView views-head w (accepted-read isView w m) r i .long;
   }
 
-  pub accepted-lists : (l : Block) → In l (sheetOf ls .lists) → length (l .head) ≡ length (sheetOf ls .question .head)
+  pub accepted-lists : (l : Block) → In l (sheetOf table ls .lists) → length (l .head) ≡ length (sheetOf table ls .question .head)
   accepted-lists l m =
       let (w, i, e) = from-map (λ (w : View). w .block) (blocks isSaved ls) l m in
-      ap (λ (b : Block). length (b .head)) e ∙ question-long ls (eqb-true _ 0 (accepted-scan ls ok)) w i
+      ap (λ (b : Block). length (b .head)) e ∙ question-long table ls (eqb-true _ 0 (accepted-scan table ls ok)) w i
 
-  pub accepted-evaluable : Evaluable (sheetOf ls)
+  pub accepted-evaluable : Evaluable (sheetOf table ls)
   accepted-evaluable = record {
-    lists = λ l m. let (w, r, e) = list-read l m in subst Safe (sym e) (read-safe isSaved saved-head w r);
-    views = λ w m. read-safe isView views-head w (accepted-read isView w m);
+    lists = λ l m. let (w, r, e) = list-read l m in subst Safe (sym e) (read-safe table isSaved saved-head w r);
+    views = λ w m. read-safe table isView views-head w (accepted-read isView w m);
   }
 
-  pub accepted-question : Safe (sheetOf ls .question)
+  pub accepted-question : Safe (sheetOf table ls .question)
   accepted-question = first-block Safe (record { head = λ t m. absurd m; apart = λ d m. absurd m }) (blocks isQuestion ls)
-      (λ w m. read-safe isQuestion questions-head w (accepted-read isQuestion w m))
+      (λ w m. read-safe table isQuestion questions-head w (accepted-read isQuestion w m))

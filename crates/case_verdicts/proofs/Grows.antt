@@ -1,14 +1,14 @@
 -- Covered only grows where a table asks for keys: what is covered without them has no case with them.
 use mathlib.Core.Path.{_≡_, refl, sym, ap, _∙_, subst}
-use mathlib.Core.List.{List, [], _∷_, map}
+use mathlib.Core.List.{List}
 use mathlib.Core.Logic.{_⊎_, inl, inr, ⊎-elim}
 use Prim.Native.Nat.{ℕ, zero, suc, _<_}
 use native.Mathlib.Omega.{arith}
-use lib.ListN.{length, getD}
+use lib.ListN.{length}
 use Rattle.sheet_format.specs.Line.{Line}
 use Rattle.sheet_format.specs.Cause.{refusalOf}
 use Rattle.query_meaning.specs.Meaning.{Fact, Log, In}
-use Rattle.case_verdicts.specs.Table.{Relation, Table, unknown, relation, owed, parents, Lawful}
+use Rattle.case_verdicts.specs.Table.{Relation, Table, relation, Sound, owed, parents, Lawful}
 use Rattle.case_verdicts.specs.Verdict.{Sheet, Agreeing, Case, Covered, NoLog}
 use Rattle.case_verdicts.specs.Sheets.{sheetOf}
 use Rattle.case_verdicts.proofs.Verdicts.{accepted-judged}
@@ -18,20 +18,15 @@ abbrev pub unkeyed : Relation → Relation
 unkeyed r = record { columns = r .columns; key = 0; parent = r .parent }
 
 abbrev pub withoutKeys : Table → Table
-withoutKeys = map unkeyed
+withoutKeys t n = unkeyed (t n)
 
 abbrev pub judgedWithoutKeys : Sheet → Sheet
 judgedWithoutKeys x = record { table = withoutKeys (x .table); question = x .question; lists = x .lists; views = x .views }
 
-entry-unkeyed : (t : Table) (n : ℕ) → getD (map unkeyed t) n unknown ≡ unkeyed (getD t n unknown)
-entry-unkeyed [] n = refl
-entry-unkeyed (r ∷ t) zero = refl
-entry-unkeyed (r ∷ t) (suc n) = entry-unkeyed t n
-
 relation-unkeyed : (t : Table) (n : ℕ) → relation (withoutKeys t) n ≡ unkeyed (relation t n)
 unfolding relation
 relation-unkeyed t zero = refl
-relation-unkeyed t (suc n) = entry-unkeyed t n
+relation-unkeyed t (suc n) = refl
 
 module _ (t : Table) where
   columns-same : (n : ℕ) → relation (withoutKeys t) n .columns ≡ relation t n .columns
@@ -61,6 +56,6 @@ module _ (x : Sheet) where
   covered-grows c log t k = c .none log t (case-unkeyed log t k)
 
 -- covered without keys: covered with them, or no log agrees any more
-pub covered-or-none : (ls : List Line) → refusalOf ls .number ≡ 0 → Covered (judgedWithoutKeys (sheetOf ls)) → Covered (sheetOf ls) ⊎ NoLog (sheetOf ls)
-covered-or-none ls ok c =
-    ⊎-elim (λ d. inl d) (⊎-elim (λ h. absurd (covered-grows (sheetOf ls) c (h .log) (h .answer) (h .is))) (λ n. inr n)) (accepted-judged ls ok)
+pub covered-or-none : (table : Table) → Sound table → (ls : List Line) → refusalOf table ls .number ≡ 0 → Covered (judgedWithoutKeys (sheetOf table ls)) → Covered (sheetOf table ls) ⊎ NoLog (sheetOf table ls)
+covered-or-none table sound ls ok c =
+    ⊎-elim (λ d. inl d) (⊎-elim (λ h. absurd (covered-grows (sheetOf table ls) c (h .log) (h .answer) (h .is))) (λ n. inr n)) (accepted-judged table sound ls ok)

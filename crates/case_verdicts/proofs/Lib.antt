@@ -22,6 +22,5 @@ pub mod Order
 pub mod Sizes
 pub mod Verdicts
 pub mod Words
-pub mod Plain
 pub mod OneList
 pub mod Grows

@@ -9,6 +9,7 @@ use lib.ListN.{length, getD, length-append, length-map}
 use lib.Dec.{leb}
 use borrow.Author.Tests.{eqb-true, leb-true, leb-false}
 use Rattle.sheet_format.specs.Limits.{most-lists}
+use Rattle.sheet_format.specs.Table.{Table}
 use Rattle.sheet_format.specs.Line.{Line}
 use Rattle.sheet_format.specs.Cause.{Kind, question, saved, view, atom, row, other, kind, rest, inPlace, tooMany, start, nextBy, next, scan, isHead, refusalOf}
 use Rattle.sheet_format.specs.declared.Seen.{Seen}
@@ -37,12 +38,12 @@ views-by g atom n v hs qs ls ws h p ih = ih h
 views-by g row n v hs qs ls ws h p ih = ih h
 views-by g other n v hs qs ls ws h p ih = no-way p
 
-views-left : (ls : List Line) (g : Seen) (b : Line) (n : ℕ) → 3 ≤ g .block → scan g b n ls .number ≡ 0 → ViewsIn ls
+views-left : (table : Table) (ls : List Line) (g : Seen) (b : Line) (n : ℕ) → 3 ≤ g .block → scan table g b n ls .number ≡ 0 → ViewsIn ls
 unfolding blocks next
-views-left [] g b n h s = record { all = refl; no-question = refl; no-list = refl }
-views-left (l ∷ ls) g b n h s =
-    let (c, r) = scan-first l ls g b n s in
-    views-by g (kind l) (length (rest l)) (viewOf l ls) _ _ _ _ h (c .placed) (λ i. views-left ls (next g l) l (n + 1) i r)
+views-left table [] g b n h s = record { all = refl; no-question = refl; no-list = refl }
+views-left table (l ∷ ls) g b n h s =
+    let (c, r) = scan-first table l ls g b n s in
+    views-by g (kind l) (length (rest l)) (viewOf l ls) _ _ _ _ h (c .placed) (λ i. views-left table ls (next g l) l (n + 1) i r)
 
 -- where the question's head has been read, lists are left and then views
 record ListsFirst (heads questions lists views : List View) : Type 0 where
@@ -64,12 +65,12 @@ lists-by g atom n v hs qs ls ws h p more ih = ih h
 lists-by g row n v hs qs ls ws h p more ih = ih h
 lists-by g other n v hs qs ls ws h p more ih = no-way p
 
-lists-left : (ls : List Line) (g : Seen) (b : Line) (n : ℕ) → 1 ≤ g .block → scan g b n ls .number ≡ 0 → ListsIn ls
+lists-left : (table : Table) (ls : List Line) (g : Seen) (b : Line) (n : ℕ) → 1 ≤ g .block → scan table g b n ls .number ≡ 0 → ListsIn ls
 unfolding blocks next
-lists-left [] g b n h s = record { all = refl; no-question = refl }
-lists-left (l ∷ ls) g b n h s =
-    let (c, r) = scan-first l ls g b n s in
-    lists-by g (kind l) (length (rest l)) (viewOf l ls) _ _ _ _ h (c .placed) (λ i. views-left ls (next g l) l (n + 1) i r) (λ i. lists-left ls (next g l) l (n + 1) i r)
+lists-left table [] g b n h s = record { all = refl; no-question = refl }
+lists-left table (l ∷ ls) g b n h s =
+    let (c, r) = scan-first table l ls g b n s in
+    lists-by g (kind l) (length (rest l)) (viewOf l ls) _ _ _ _ h (c .placed) (λ i. views-left table ls (next g l) l (n + 1) i r) (λ i. lists-left table ls (next g l) l (n + 1) i r)
 
 -- the question comes first
 pub record BlocksOrdered (heads questions lists views : List View) : Type 0 where
@@ -88,12 +89,12 @@ order-by atom n v hs qs ls ws p ih = no-way p
 order-by row n v hs qs ls ws p ih = no-way p
 order-by other n v hs qs ls ws p ih = no-way p
 
-ordered-from : (ls : List Line) → scan start [] 1 ls .number ≡ 0 → BlocksOrdered (blocks isHead ls) (blocks isQuestion ls) (blocks isSaved ls) (blocks isView ls)
+ordered-from : (table : Table) (ls : List Line) → scan table start [] 1 ls .number ≡ 0 → BlocksOrdered (blocks isHead ls) (blocks isQuestion ls) (blocks isSaved ls) (blocks isView ls)
 unfolding blocks next scan
-ordered-from [] s = absurd (let e : _≡_ {A = ℕ} 3 0 = s in omega arith)
-ordered-from (l ∷ ls) s =
-    let (c, r) = scan-first l ls start [] 1 s in
-    order-by (kind l) (length (rest l)) (viewOf l ls) _ _ _ _ (c .placed) (λ i. lists-left ls (next start l) l 2 i r)
+ordered-from table [] s = absurd (let e : _≡_ {A = ℕ} 3 0 = s in omega arith)
+ordered-from table (l ∷ ls) s =
+    let (c, r) = scan-first table l ls start [] 1 s in
+    order-by (kind l) (length (rest l)) (viewOf l ls) _ _ _ _ (c .placed) (λ i. lists-left table ls (next start l) l 2 i r)
 
 -- as many lists as have been read and are left
 few-by : (g : Seen) (k : Kind) (n m : ℕ) → g .lists ≤ most-lists → inPlace g k ≡ true → tooMany g k ≡ false
@@ -113,13 +114,13 @@ length-cond atom v ls = refl
 length-cond row v ls = refl
 length-cond other v ls = refl
 
-few-left : (ls : List Line) (g : Seen) (b : Line) (n : ℕ) → g .lists ≤ most-lists → scan g b n ls .number ≡ 0 → length (blocks isSaved ls) + g .lists ≤ most-lists
+few-left : (table : Table) (ls : List Line) (g : Seen) (b : Line) (n : ℕ) → g .lists ≤ most-lists → scan table g b n ls .number ≡ 0 → length (blocks isSaved ls) + g .lists ≤ most-lists
 unfolding blocks next
-few-left [] g b n h s = omega arith
-few-left (l ∷ ls) g b n h s =
-    let (c, r) = scan-first l ls g b n s in
+few-left table [] g b n h s = omega arith
+few-left table (l ∷ ls) g b n h s =
+    let (c, r) = scan-first table l ls g b n s in
     let e = length-cond (kind l) (viewOf l ls) (blocks isSaved ls) in
-    let f = few-by g (kind l) (length (rest l)) (length (blocks isSaved ls)) h (c .placed) (c .room) (λ i. few-left ls (next g l) l (n + 1) i r) in
+    let f = few-by g (kind l) (length (rest l)) (length (blocks isSaved ls)) h (c .placed) (c .room) (λ i. few-left table ls (next g l) l (n + 1) i r) in
     omega arith
 
 -- ---- a block by its number
@@ -133,30 +134,30 @@ nth-right : (ls ws : List View) (i : ℕ) → nth (ls ++ ws) (length ls + i) ≡
 nth-right [] ws i = let e : 0 + i ≡ i = omega arith in ap (nth ws) e
 nth-right (v ∷ ls) ws i = let e : suc (length ls) + i ≡ suc (length ls + i) = omega arith in ap (nth (v ∷ (ls ++ ws))) e ∙ nth-right ls ws i
 
-module _ (ls : List Line) (ok : refusalOf ls .number ≡ 0) where
+module _ (table : Table) (ls : List Line) (ok : refusalOf table ls .number ≡ 0) where
   -- all blocks are the question's, the lists' and the views, with their rows
   pub ordered : BlocksOrdered (blocks isHead ls) (blocks isQuestion ls) (blocks isSaved ls) (blocks isView ls)
-  ordered = ordered-from ls (eqb-true _ 0 (accepted-scan ls ok))
+  ordered = ordered-from table ls (eqb-true _ 0 (accepted-scan table ls ok))
 
-  pub block-question : blockAt ls 1 ≡ sheetOf ls .question
+  pub block-question : blockAt ls 1 ≡ sheetOf table ls .question
   block-question = ap (λ ws. nth ws 0 .block) (ordered .all) ∙ sym (ap (λ ws. nth ws 0 .block) (ordered .one-question))
 
-  lists-length : length (sheetOf ls .lists) ≡ length (blocks isSaved ls)
+  lists-length : length (sheetOf table ls .lists) ≡ length (blocks isSaved ls)
   lists-length = length-map (blocks isSaved ls) (λ (w : View). w .block)
 
-  pub lists-few : length (sheetOf ls .lists) ≤ most-lists
-  lists-few = let e = lists-length in let f = few-left ls start [] 1 (omega arith) (eqb-true _ 0 (accepted-scan ls ok)) in omega arith
+  pub lists-few : length (sheetOf table ls .lists) ≤ most-lists
+  lists-few = let e = lists-length in let f = few-left table ls start [] 1 (omega arith) (eqb-true _ 0 (accepted-scan table ls ok)) in omega arith
 
-  pub block-list : (i : ℕ) → i < length (sheetOf ls .lists) → blockAt ls (suc (suc i)) ≡ getD (sheetOf ls .lists) i (nowhere .block)
+  pub block-list : (i : ℕ) → i < length (sheetOf table ls .lists) → blockAt ls (suc (suc i)) ≡ getD (sheetOf table ls .lists) i (nowhere .block)
   block-list i lt = ap (λ ws. nth ws (suc i) .block) (ordered .all) ∙ nth-left (blocks isSaved ls) (blocks isView ls) i (let e = lists-length in omega arith)
 
-  pub block-view : (n : ℕ) → blockAt ls (suc (suc (length (sheetOf ls .lists) + n))) ≡ nth (sheetOf ls .views) n .block
+  pub block-view : (n : ℕ) → blockAt ls (suc (suc (length (sheetOf table ls .lists) + n))) ≡ nth (sheetOf table ls .views) n .block
   block-view n =
       ap (λ k. blockAt ls (suc (suc (k + n)))) lists-length
       ∙ ap (λ ws. nth ws (suc (length (blocks isSaved ls) + n)) .block) (ordered .all)
       ∙ ap (λ (w : View). w .block) (nth-right (blocks isSaved ls) (blocks isView ls) n)
 
-  pub block-count : length (allBlocks ls) ≡ 1 + length (sheetOf ls .lists) + length (sheetOf ls .views)
+  pub block-count : length (allBlocks ls) ≡ 1 + length (sheetOf table ls .lists) + length (sheetOf table ls .views)
   block-count =
       let e = lists-length in
       let a = length-append (blocks isSaved ls) (blocks isView ls) in

@@ -92,7 +92,7 @@ module _ (h : Handed top value-end signals-sheet) where
   signals-show = record { answer = first-least; count = signals-only .count; facts = signals-only .has .at }
 
 -- it is the sheet of the lines
-pub whole-shows : (h : Handed top value-end (sheetOf whole)) → Shows (sheetOf whole) (7 ∷ 1 ∷ []) 2 both-signals h
+pub whole-shows : (h : Handed top value-end (sheetOf ten whole)) → Shows (sheetOf ten whole) (7 ∷ 1 ∷ []) 2 both-signals h
 unfolding kindOf atoms rows blocks
 whole-shows h = signals-show h
 

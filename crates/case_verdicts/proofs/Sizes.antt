@@ -10,6 +10,7 @@ use lib.Dec.{eqb}
 use lib.ListN.{length, length-map, drop}
 use borrow.Author.Tests.{eqb-true, leb-false}
 use Rattle.tableau_layout.specs.Layout.{most-copies, copied-atoms}
+use Rattle.sheet_format.specs.Table.{Table}
 use Rattle.sheet_format.specs.Line.{Line, natural}
 use Rattle.sheet_format.specs.Cause.{Kind, question, saved, view, atom, row, other, kind, rest, tooMany, start, nextBy, next, scan, isAtom, atoms, refusalOf}
 use Rattle.sheet_format.specs.declared.Seen.{Seen}
@@ -100,24 +101,24 @@ next-rows g atom n h e = (omega arith, h)
 next-rows g row n h e = let r = leb-false 40 (g .rows) e in (omega arith, omega arith)
 next-rows g other n h e = (omega arith, h)
 
-few-rows : (ls : List Line) (g : Seen) (b : Line) (n : ℕ) → g .rows ≤ 40 → scan g b n ls .number ≡ 0 → g .rows + rowLines ls ≤ 40
+few-rows : (table : Table) (ls : List Line) (g : Seen) (b : Line) (n : ℕ) → g .rows ≤ 40 → scan table g b n ls .number ≡ 0 → g .rows + rowLines ls ≤ 40
 unfolding next
-few-rows [] g b n h s = omega arith
-few-rows (l ∷ ls) g b n h s =
-    let (c, r) = scan-first l ls g b n s in
+few-rows table [] g b n h s = omega arith
+few-rows table (l ∷ ls) g b n h s =
+    let (c, r) = scan-first table l ls g b n s in
     let (e, k) = next-rows g (kind l) (length (rest l)) h (c .room) in
-    let i = few-rows ls (next g l) l (n + 1) k r in
+    let i = few-rows table ls (next g l) l (n + 1) k r in
     omega arith
 
 -- ---- atoms
 
 -- a view has at most 3
-few-atoms : (ls : List Line) (g : Seen) (b : Line) (n : ℕ) → g .block ≡ 3 → g .atoms ≤ 3 → scan g b n ls .number ≡ 0 → length (atoms ls) + g .atoms ≤ 3
+few-atoms : (table : Table) (ls : List Line) (g : Seen) (b : Line) (n : ℕ) → g .block ≡ 3 → g .atoms ≤ 3 → scan table g b n ls .number ≡ 0 → length (atoms ls) + g .atoms ≤ 3
 unfolding atoms next
-few-atoms [] g b n v h s = omega arith
-few-atoms (l ∷ ls) g b n v h s =
-    let (c, r) = scan-first l ls g b n s in
-    go (kind l) (c .room) (λ w i. few-atoms ls (next g l) l (n + 1) w i r)
+few-atoms table [] g b n v h s = omega arith
+few-atoms table (l ∷ ls) g b n v h s =
+    let (c, r) = scan-first table l ls g b n s in
+    go (kind l) (c .room) (λ w i. few-atoms table ls (next g l) l (n + 1) w i r)
   where
     go : (k : Kind) → tooMany g k ≡ false → ((nextBy g k (length (rest l)) .block ≡ 3) → (nextBy g k (length (rest l)) .atoms ≤ 3) → length (atoms ls) + nextBy g k (length (rest l)) .atoms ≤ 3)
         → length (cond (isAtom k) (l ∷ atoms ls) []) + g .atoms ≤ 3
@@ -132,14 +133,14 @@ few-atoms (l ∷ ls) g b n v h s =
     go row e ih = omega arith
     go other e ih = omega arith
 
-module _ (ls : List Line) (ok : refusalOf ls .number ≡ 0) where
+module _ (table : Table) (ls : List Line) (ok : refusalOf table ls .number ≡ 0) where
   rows-few : rowsOf (blocks isView ls) ≤ 40
   rows-few =
-      let s = few-rows ls start [] 1 (omega arith) (eqb-true _ 0 (accepted-scan ls ok)) in
+      let s = few-rows table ls start [] 1 (omega arith) (eqb-true _ 0 (accepted-scan table ls ok)) in
       let l = listed-lines ls in
       omega arith
 
-  pub accepted-jobs : length (jobs (sheetOf ls)) ≤ most-copies
+  pub accepted-jobs : length (jobs (sheetOf table ls)) ≤ most-copies
   accepted-jobs =
       let e = gather-length listed (blocks isView ls) ∙ total-same (λ w. length (listed w)) (λ w. length (w .rows)) (λ w. length-map (w .rows) _) (blocks isView ls) in
       let r = rows-few in
@@ -148,9 +149,9 @@ module _ (ls : List Line) (ok : refusalOf ls .number ≡ 0) where
   view-atoms : (w : View) → In w (blocks isView ls) → length (w .block .atoms) ≤ 3
   unfolding next
   view-atoms w m =
-      let r = accepted-read ls ok isView w m in
+      let r = accepted-read table ls ok isView w m in
       let (b, a) = go (r .before) (kind (r .line)) (length (rest (r .line))) (r .chosen) in
-      let h = few-atoms (r .after) (next (r .before) (r .line)) (r .line) (r .number) b (omega arith) (r .scanned) in
+      let h = few-atoms table (r .after) (next (r .before) (r .line)) (r .line) (r .number) b (omega arith) (r .scanned) in
       let l = length-map (atoms (r .after)) atomOf in
       subst (λ (v : View). length (v .block .atoms) ≤ 3) (sym (r .is)) (omega arith)
     where
@@ -162,12 +163,12 @@ module _ (ls : List Line) (ok : refusalOf ls .number ≡ 0) where
       go g row n e = no-way e
       go g other n e = no-way e
 
-  question-atoms : length (sheetOf ls .question .atoms) ≤ 6
+  question-atoms : length (sheetOf table ls .question .atoms) ≤ 6
   unfolding next
   question-atoms = first-block (λ b. length (b .atoms) ≤ 6) (omega arith) (blocks isQuestion ls) (λ w m.
-      let r = accepted-read ls ok isQuestion w m in
+      let r = accepted-read table ls ok isQuestion w m in
       let z = no-atoms (r .before) (kind (r .line)) (length (rest (r .line))) (questions-head (kind (r .line)) (r .chosen)) in
-      let h = front-atoms (r .after) (next (r .before) (r .line)) (r .line) (r .number) (omega arith) (r .scanned) .1 in
+      let h = front-atoms table (r .after) (next (r .before) (r .line)) (r .line) (r .number) (omega arith) (r .scanned) .1 in
       let l = length-map (atoms (r .after)) atomOf in
       subst (λ (v : View). length (v .block .atoms) ≤ 6) (sym (r .is)) (omega arith))
 
@@ -178,7 +179,7 @@ module _ (ls : List Line) (ok : refusalOf ls .number ≡ 0) where
       let r = rows-most ws (λ v m. few v (inr m)) in
       omega arith
 
-  pub accepted-size : size (sheetOf ls) ≤ copied-atoms
+  pub accepted-size : size (sheetOf table ls) ≤ copied-atoms
   accepted-size =
       let q = question-atoms in
       let r = rows-few in
@@ -186,6 +187,6 @@ module _ (ls : List Line) (ok : refusalOf ls .number ≡ 0) where
       omega arith
 
   -- made-up values for all slots lie below the end of the values
-  pub accepted-room : top + length (jobs (sheetOf ls)) * width ≤ value-end
+  pub accepted-room : top + length (jobs (sheetOf table ls)) * width ≤ value-end
   unfolding width
   accepted-room = let j = accepted-jobs in omega arith

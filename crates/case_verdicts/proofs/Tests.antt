@@ -1,26 +1,24 @@
 -- The examples by computation: each is tested, and a test that is passed is a proof of what the entry says, but for what it says of every
 -- case that may be handed over.
 use mathlib.Core.Path.{_≡_}
-use mathlib.Core.Bool.{Bool, true, false}
+use mathlib.Core.Bool.{Bool, true, false, _&&_}
 use mathlib.Core.List.{List, [], _∷_}
 use mathlib.Core.Logic.{_⊎_, inl, inr, ⊎-elim}
 use Prim.Native.Nat.{ℕ, _+_, _*_, _<_}
 use lib.ListN.{length}
-use Rattle.sheet_format.specs.Line.{all}
-use Rattle.sheet_format.proofs.Lists.{no-way}
+use Rattle.sheet_format.proofs.Lists.{no-way, both}
 use Rattle.query_meaning.specs.Meaning.{Term, con, var, Log, Atom, Block, In, Answer}
 use Rattle.query_meaning.specs.Blocks.{View, nowhere}
 use Rattle.query_meaning.specs.Facts.{value-end}
 use Rattle.query_meaning.specs.Evaluate.{_≺_, Ascending, Answers}
-use Rattle.query_blocks.proofs.Shape.{all-in}
-use Rattle.case_verdicts.specs.Table.{Relation, Table, relation}
+use Rattle.case_verdicts.specs.Table.{Table, relation, Sound}
 use Rattle.case_verdicts.specs.Verdict.{Sheet, Covered, NoLog}
 use Rattle.case_verdicts.specs.Handed.{Handed}
 use Rattle.case_verdicts.specs.Accepted.{width, FineTerm, FineAtom, FineBlock, FineSheet, variables, Bound, Safe, Evaluable}
 use Rattle.case_verdicts.specs.Tableau.{jobs}
 use Rattle.case_verdicts.specs.Sheets.{top}
 use Rattle.case_verdicts.specs.Examples.{Shown, covered, case, no-log, Shows, Entry, judge, judge-any, evaluate, evaluate-any, sheet, SaysOf, Says}
-use Rattle.case_verdicts.proofs.Tables.{LineSound, sound}
+use Rattle.case_verdicts.proofs.Tables.{ten-sound}
 use Rattle.case_verdicts.proofs.Decide.{same?, less?, in?, first-all, all-or, answer?, inside-or}
 use Rattle.case_verdicts.proofs.Check.{judged}
 
@@ -68,20 +66,14 @@ safe? b =
     then (all-or (λ d. Bound b (d .left) × Bound b (d .right)) (b .apart) (λ d m. then (bound? b (d .left)) (λ l. then (bound? b (d .right)) (λ r. inl (l, r))))) (λ p.
     inl (record { head = h; apart = p })))
 
-abbrev pub line? : (table : Table) (r : Relation) → Or (LineSound table r)
-line? table r = ⊎-elim (λ e. inl (inl e))
-    (λ z. then (of-dec (same? (relation table (r .parent) .columns) (r .columns))) (λ c. then (of-dec (same? (relation table (r .parent) .parent) 0)) (λ p. inl (inr (c, p)))))
-    (of-dec (same? (r .parent) 0))
-
 abbrev RowsBelow : ℕ → View → Type 0
 RowsBelow top w = (r : List ℕ) → In r (w .rows) → (n : ℕ) → In n r → n < top
 
 abbrev Lengths : View → Type 0
 Lengths w = (r : List ℕ) → In r (w .rows) → length r ≡ length (w .block .head)
 
-abbrev pub accept : (top : ℕ) (x : Sheet) → Or (FineSheet top x × Evaluable x)
-accept top x =
-    then (all-or (LineSound (x .table)) (x .table) (λ r m. line? (x .table) r)) (λ t.
+abbrev pub accept : (top : ℕ) (x : Sheet) → Sound (x .table) → Or (FineSheet top x × Evaluable x)
+accept top x sound =
     then (block? top (x .table) (x .question)) (λ q.
     then (all-or (FineBlock top (x .table)) (x .lists) (λ l m. block? top (x .table) l)) (λ l.
     then (all-or (λ w. FineBlock top (x .table) (w .block)) (x .views) (λ w m. block? top (x .table) (w .block))) (λ v.
@@ -89,16 +81,16 @@ accept top x =
     then (all-or Lengths (x .views) (λ w m. all-or (λ r. length r ≡ length (w .block .head)) (w .rows) (λ r i. of-dec (same? (length r) (length (w .block .head)))))) (λ n.
     then (all-or Safe (x .lists) (λ l m. safe? l)) (λ a.
     then (all-or (λ w. Safe (w .block)) (x .views) (λ w m. safe? (w .block))) (λ b.
-    inl (record { table = sound (x .table) t; question = q; lists = l; views = v; rows = r; lengths = n }, record { lists = a; views = b })))))))))
+    inl (record { table = sound; question = q; lists = l; views = v; rows = r; lengths = n }, record { lists = a; views = b }))))))))
 
 -- ---- judged sheets
 
 abbrev pub SheetJudgement : Sheet → Type 0
 SheetJudgement x = Covered x ⊎ (Handed top value-end x ⊎ NoLog x)
 
-abbrev pub verdict? : (x : Sheet) → Or (SheetJudgement x)
-verdict? x =
-    then (accept top x) (λ a.
+abbrev pub verdict? : (x : Sheet) → Sound (x .table) → Or (SheetJudgement x)
+verdict? x sound =
+    then (accept top x sound) (λ a.
     then (safe? (x .question)) (λ q.
     ⊎-elim (λ l. inr tt) (λ r. inl (judged x r (a .0) q (a .1))) (less? value-end (top + length (jobs x) * width))))
 
@@ -168,11 +160,18 @@ abbrev pub outright : {P : Type 0} → Or P → Or (Unit {0} → P)
 outright (inl p) = inl (λ o. p)
 outright (inr z) = inr z
 
-abbrev pub says? : (e : Entry) → Or (Only e → Says e)
-says? (judge x r) = then (verdict? x) (λ v. shown? x v r)
-says? (judge-any ws) = outright (then (verdict? (sheet (nowhere .block) [] ws)) (unasked? ws))
-says? (evaluate b log ts) = outright (answers? b log ts)
-says? (evaluate-any log ts) = outright (any-block? log ts)
+-- no test shows that a table is sound either
+abbrev pub SoundOf : Entry → Type 0
+SoundOf (judge x r) = Sound (x .table)
+SoundOf (judge-any ws) = Unit {0}
+SoundOf (evaluate b log ts) = Unit {0}
+SoundOf (evaluate-any log ts) = Unit {0}
+
+abbrev pub says? : (e : Entry) → SoundOf e → Or (Only e → Says e)
+says? (judge x r) sound = then (verdict? x sound) (λ v. shown? x v r)
+says? (judge-any ws) sound = outright (then (verdict? (sheet (nowhere .block) [] ws) ten-sound) (unasked? ws))
+says? (evaluate b log ts) sound = outright (answers? b log ts)
+says? (evaluate-any log ts) sound = outright (any-block? log ts)
 
 abbrev pub passed : {P : Type 0} → Or P → Bool
 passed (inl p) = true
@@ -182,15 +181,18 @@ pub of-passed : {P : Type 0} (o : Or P) → passed o ≡ true → P
 of-passed (inl p) e = p
 of-passed (inr z) e = no-way e
 
--- one for each entry
+-- all entries, what no test shows of each, and whether each passes its test
 abbrev pub Onlys : List Entry → Type 0
 Onlys [] = Unit {0}
-Onlys (e ∷ es) = Only e × Onlys es
+Onlys (e ∷ es) = (SoundOf e × Only e) × Onlys es
 
-of-onlys : (es : List Entry) → Onlys es → (e : Entry) → In e es → Only e
-of-onlys [] o e m = absurd m
-of-onlys (d ∷ es) o e m = first-all Only d es (o .0) (of-onlys es (o .1)) e m
+abbrev pub all-pass : (es : List Entry) → Onlys es → Bool
+all-pass [] o = true
+all-pass (e ∷ es) o = passed (says? e (o .0 .0)) && all-pass es (o .1)
 
--- where all entries pass, each says what is so
-pub each-says : (es : List Entry) → Onlys es → all (λ e. passed (says? e)) es ≡ true → (e : Entry) → In e es → Says e
-each-says es o h e m = of-passed (says? e) (all-in (λ e. passed (says? e)) es e h m) (of-onlys es o e m)
+-- then each says what is so
+pub each-says : (es : List Entry) (o : Onlys es) → all-pass es o ≡ true → (e : Entry) → In e es → Says e
+each-says [] o h e m = absurd m
+each-says (d ∷ es) o h e m =
+    let (p, q) = both (passed (says? d (o .0 .0))) (all-pass es (o .1)) h in
+    first-all Says d es (of-passed (says? d (o .0 .0)) p (o .0 .1)) (each-says es (o .1) q) e m

@@ -4,8 +4,6 @@ use mathlib.Core.Path.{_≡_}
 use mathlib.Core.List.{List, [], _∷_}
 use Prim.Native.Nat.{ℕ, _<_}
 use lib.ListN.{length}
-use lib.IntN.{pos}
-use Rattle.sheet_format.specs.Relations.{columnsOf, keyOf, parentOf}
 use Rattle.query_layout.specs.Layout.{names}
 use Rattle.sheet_format.specs.Line.{gather}
 use Rattle.query_meaning.specs.Meaning.{Term, con, var, Atom, Apart, Block, In}
@@ -31,12 +29,6 @@ pub record FineAtom (top : ℕ) (table : Table) (a : Atom) : Type 0 where
   pub terms : Fine top (a .terms)
   pub known : 0 < relation table (a .rel) .columns
   pub full : length (a .terms) ≡ relation table (a .rel) .columns
-
--- a table whose columns, keys and parents are the format's: what the search can work with so far
-pub record PlainTable (table : Table) : Type 0 where
-  pub columns : (n : ℕ) → relation table n .columns ≡ columnsOf (pos n)
-  pub keys : (n : ℕ) → relation table n .key ≡ keyOf n
-  pub parents : (n : ℕ) → relation table n .parent ≡ parentOf n
 
 -- so are all terms of the block, and its atoms
 pub record FineBlock (top : ℕ) (table : Table) (b : Block) : Type 0 where

@@ -149,8 +149,8 @@ two-rates = block both (pulse (con 7 ∷ con 1 ∷ s ∷ []) ∷ pulse (con 7 �
 
 abbrev pub examples : List Entry
 examples =
-    judge (sheetOf whole) (case (7 ∷ 1 ∷ []) 2 (fact 4 (7 ∷ 1 ∷ []) ∷ fact 4 (7 ∷ 2 ∷ []) ∷ []))
-    ∷ judge (sheetOf without-rows) covered
+    judge (sheetOf ten whole) (case (7 ∷ 1 ∷ []) 2 (fact 4 (7 ∷ 1 ∷ []) ∷ fact 4 (7 ∷ 2 ∷ []) ∷ []))
+    ∷ judge (sheetOf ten without-rows) covered
     ∷ judge (sheet all-sig (all-beat ∷ []) (view all-sig ((7 ∷ 1 ∷ []) ∷ []) ∷ view all-beat ((7 ∷ 1 ∷ []) ∷ []) ∷ [])) covered
     ∷ judge (sheet sig-straps (seven ∷ []) (view sig-straps ((7 ∷ []) ∷ []) ∷ [])) covered
     ∷ judge (sheet sig-straps (seven ∷ []) (view sig-straps ((7 ∷ []) ∷ (8 ∷ []) ∷ []) ∷ [])) (case (8 ∷ []) 2 [])

@@ -11,14 +11,13 @@ use lib.Seq.{length-take-le}
 use Rattle.query_layout.specs.Layout.{names}
 use Rattle.tableau_layout.specs.Layout.{plan-numbers, slot-end, tableau-atoms, tableau-numbers}
 use Rattle.list_laws.proofs.Lists.{inside}
-use Rattle.sheet_format.specs.Relations.{columnsOf}
+use Rattle.sheet_format.specs.Table.{columnsOf}
 use Rattle.query_meaning.specs.Meaning.{Fact, Log, In}
 use Rattle.query_meaning.specs.Facts as facts
 use Rattle.query_meaning.specs.Facts.{value-end}
 use Rattle.query_encoding.specs.Encoding.{FactNumbers, ShapedLog}
 use Rattle.query_blocks.proofs.Shape.{from-map}
 use Rattle.list_laws.specs.Wrote.{Wrote}
-use Rattle.case_verdicts.specs.Table.{relation}
 use Rattle.case_verdicts.specs.Verdict.{Sheet, Case}
 use Rattle.case_verdicts.specs.Handed.{Stands}
 use Rattle.case_verdicts.specs.Sheets.{top}
@@ -63,11 +62,9 @@ module _ (p : List ℕ) (x : Sheet) (r : ReadyPlan p x) (st : List ℕ) (f : Sta
   case : Case x log (headOf x s)
   case = good-case x (r .accepted) s (f .good)
 
-  known : KnownLog log
-  known g m =
-      let d = log-formed x (r .accepted) s g m .known in
-      let e : relation (x .table) (g .rel) .columns ≡ columnsOf (pos (g .rel)) = r .plain .columns (g .rel) in
-      omega arith
+  known : KnownLog (x .table) log
+  unfolding columnsOf
+  known g m = log-formed x (r .accepted) s g m .known
 
   -- each value stands in the sheet, or was made up
   made : MadeUp top value-end x log
@@ -96,7 +93,7 @@ module _ (p : List ℕ) (x : Sheet) (r : ReadyPlan p x) (st : List ℕ) (f : Sta
     count : length log ≡ n
     count = let a = numbers .count in let h = facts-few in let b = length-take-le (n * 5) one (omega arith) in omega arith
 
-    shaped : ShapedLog log
+    shaped : ShapedLog (x .table) log
     shaped = node.shaped-log p x x (r .plan) (ready-task p x r Counterexample) s (take (n * 5) one) numbers
 
     -- ---- in order
@@ -154,8 +151,8 @@ written x ks k u out after h w =
       handed = h .handed;
       count = sym (h .facts);
       answer = h .answer-is;
-      facts = subst (λ ws. facts.factsRefusal ws .number ≡ 0) (sym front) (h .accepted);
-      read = ap facts.logOf front ∙ sym (h .log-is);
+      facts = subst (λ ws. facts.factsRefusal (x .table) ws .number ≡ 0) (sym front) (h .accepted);
+      read = ap (facts.logOf (x .table)) front ∙ sym (h .log-is);
       rest = ap (λ n. drop n after) e ∙ w .back ∙ ap (λ n. drop n out) (sym e);
       same = w .same;
     }

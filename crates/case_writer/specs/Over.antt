@@ -22,7 +22,7 @@ pub record HandsOver (x : Sheet) (out after : List ℤ) (k : ℕ) (u : List ℕ)
   pub handed : Handed top value-end x
   pub count : k ≡ length (handed .log)
   pub answer : u ≡ padded (handed .answer)
-  pub facts : factsRefusal (take (fact-words * k) after) .number ≡ 0
-  pub read : logOf (take (fact-words * k) after) ≡ handed .log
+  pub facts : factsRefusal (x .table) (take (fact-words * k) after) .number ≡ 0
+  pub read : logOf (x .table) (take (fact-words * k) after) ≡ handed .log
   pub rest : drop (fact-words * k) after ≡ drop (fact-words * k) out
   pub same : length after ≡ length out

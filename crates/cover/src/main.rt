@@ -1,5 +1,8 @@
 // Judges the sheet of standard input, and prints the verdict in fields of eight bytes.
 //
+//     cover            by the library's own table of relations
+//     cover TABLE      by the table of the file TABLE
+//
 //     9, number, line             a refusal
 //     0 or 2                      covered, or no log
 //     1, count                    not covered, and how many facts the case has; then
@@ -13,6 +16,8 @@ use query_meaning::FACT_WORDS;
 use sheet_format::FIELD_BYTES;
 use sheet_format::FIELD_END;
 use sheet_format::MOST_SHEET_BYTES;
+use sheet_format::TABLE_NUMBERS;
+use sheet_table_file::TABLE_READ;
 ghost use mathlib.Core.Path.{_≡_};
 ghost use Prim.Native.Nat.{_+_, _*_, _≤_};
 ghost use lib.ListN.{length};
@@ -22,15 +27,22 @@ ghost use Rattle.judge_result.specs.Judged.{least-room};
 const READ: usize = MOST_SHEET_BYTES + 1;
 
 fn main() {
-    let mut given = [0u8; READ];
-    let n = io::read_full(STDIN_FILENO, &mut given);
-    cover(&given[..n]);
+    let mut bytes = [0u8; TABLE_READ];
+    let n = sheet_table_file::table(1, &mut bytes);
+    cover_given(&bytes[..n]);
 }
 
-// Judges a sheet, and prints what comes out.
-fn cover(sheet: &[u8]) {
+// Judges the sheet of standard input by a table.
+fn cover_given(table: &[u8]) {
+    let mut given = [0u8; READ];
+    let n = io::read_full(STDIN_FILENO, &mut given);
+    cover(table, &given[..n]);
+}
+
+// Judges a sheet by a table, and prints what comes out.
+fn cover(table: &[u8], sheet: &[u8]) {
     let mut facts = [0i32; LEAST_ROOM];
-    let j = judged(sheet, &mut facts);
+    let j = judged(table, sheet, &mut facts);
     let verdict = j.verdict;
     let count = j.count;
     if verdict == 9 {
@@ -44,15 +56,17 @@ fn cover(sheet: &[u8]) {
     let missing = j.missing;
     print_count(count);
     print_missing(&missing, columns(sheet));
-    print_facts(&facts, count);
+    let loaded = sheet_table::load(table);
+    let numbers = loaded.numbers;
+    print_facts(&numbers, &facts, count);
 }
 
 // Judges a sheet into the words that a verdict wants: the facts of its case are among them.
-fn judged(sheet: &[u8], facts: &mut [i32]) -> Judgement
+fn judged(table: &[u8], sheet: &[u8], facts: &mut [i32]) -> Judgement
     requires { ⌜ length (now facts) ≡ least-room ⌝ }
     ensures { λ r. ⌜ r .count * 5 ≤ least-room ⌝ }
 {
-    judge::judge(sheet, facts)
+    judge::judge_by_table(table, sheet, facts)
 }
 
 // The columns of the question's head, which is the sheet's first line.
@@ -99,23 +113,23 @@ fn print_missing(values: &[usize; 4], columns: usize)
     print_end();
 }
 
-fn print_facts(facts: &[i32], count: usize)
+fn print_facts(table: &[usize; TABLE_NUMBERS], facts: &[i32], count: usize)
     requires { ⌜ count * 5 ≤ length (now facts) ⌝ }
 {
     let mut i = 0;
     while i < count {
         let at = i * FACT_WORDS;
-        print_fact(&facts[at..at + FACT_WORDS]);
+        print_fact(table, &facts[at..at + FACT_WORDS]);
         i += 1;
     }
 }
 
 // A relation, and as many values as it has columns.
-fn print_fact(fact: &[i32])
+fn print_fact(table: &[usize; TABLE_NUMBERS], fact: &[i32])
     requires { ⌜ length (now fact) ≡ 5 ⌝ }
 {
     print_number(7);
-    let columns = least(sheet_terms::columns(fact[0]), 4);
+    let columns = least(sheet_terms::columns(table, fact[0]), 4);
     let mut i = 0;
     while i <= columns {
         print_word(fact[i]);

@@ -1,6 +1,10 @@
 // Judges the sheet of standard input, given as a sheet or as its text, and prints the verdict in words.
+//
+//     cover_text            by the library's own table of relations
+//     cover_text TABLE      by the table of the file TABLE
 use libc::STDIN_FILENO;
 use libc::STDOUT_FILENO;
+use sheet_table_file::TABLE_READ;
 use text_begins::MOST_TEXT;
 use text_writer::TEXT_ROOM;
 
@@ -8,14 +12,21 @@ use text_writer::TEXT_ROOM;
 const READ: usize = MOST_TEXT + 1;
 
 fn main() {
-    let mut given = [0u8; READ];
-    let n = io::read_full(STDIN_FILENO, &mut given);
-    print(&given[..n]);
+    let mut bytes = [0u8; TABLE_READ];
+    let n = sheet_table_file::table(1, &mut bytes);
+    print_given(&bytes[..n]);
 }
 
-fn print(given: &[u8]) {
+// Judges what standard input gives by a table.
+fn print_given(table: &[u8]) {
+    let mut given = [0u8; READ];
+    let n = io::read_full(STDIN_FILENO, &mut given);
+    print(table, &given[..n]);
+}
+
+fn print(table: &[u8], given: &[u8]) {
     let mut words = [0u8; TEXT_ROOM];
-    let n = text_answer::answer(given, &mut words);
+    let n = text_answer::answer_by_table(table, given, &mut words);
     if n <= words.len() {
         io::write_all(STDOUT_FILENO, &words[0..n]);
     }

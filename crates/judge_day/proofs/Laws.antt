@@ -1,6 +1,6 @@
 -- Refusals' numbers; what is judged fits the fields of a page; the call's refusal, and both ways that it ends.
 use mathlib.Core.Path.{_≡_, refl, sym, ap, _∙_, subst}
-use mathlib.Core.Bool.{Bool, true, false, cond}
+use mathlib.Core.Bool.{Bool, true, false, cond, _&&_}
 use mathlib.Core.List.{List, [], _∷_, _++_}
 use mathlib.Core.Logic.{_⊎_, inl, inr, ⊎-elim}
 use Prim.Native.Nat.{ℕ, zero, suc, _+_, _*_, _<_, _≤_}
@@ -9,7 +9,8 @@ use borrow.Author.Tests.{ltb-false, lt-ltb, le-ltb, eq-eqb, ne-eqb, eqb-true, eq
 use lib.Dec.{eqb, ltb}
 use lib.IntN.{ℤ}
 use lib.ListN.{length, getD, take, drop, length-take, length-drop}
-use Rattle.sheet_format.specs.Limits.{field-end, most-sheet-bytes}
+use Rattle.sheet_format.specs.Limits.{field-end, most-relations, most-sheet-bytes}
+use Rattle.sheet_format.specs.Table.{Relation, Table}
 use Rattle.sheet_format.specs.Line.{Line, byteLines, null}
 use Rattle.sheet_format.specs.Cause.{cause, misplaced, wrongColumns, outOfRange, tooMany, wrongLength, notAbove, kind, next, start, refusal, none, missing, scan, heads, atoms, unsafe, refusalOf}
 use Rattle.sheet_format.specs.Sheet.{over, sheetRefusal}
@@ -17,13 +18,16 @@ use Rattle.sheet_format.specs.declared.Refusal.{Refusal}
 use Rattle.sheet_format.specs.declared.Seen.{Seen}
 use Rattle.text_buffer.specs.Puts.{Put}
 use Rattle.text_buffer.proofs.Laws.{reached-all, placed-all}
+use Rattle.sheet_table.specs.Tables.{relationIn, lineRight, linesRefusal, tableRefusal, tableOf}
+use Rattle.case_verdicts.specs.Verdict.{Sheet}
 use Rattle.case_verdicts.specs.Sheets.{sheetOf}
-use Rattle.judge_result.specs.Judged.{least-room, judgement, SheetSent, Decided, Judged}
+use Rattle.judge_result.specs.Judged.{least-room, judgement, Decided, Judged, JudgedBy}
 use Rattle.judge_result.specs.declared.Judgement.{Judgement}
-use Rattle.judge_result.proofs.Verdicts.{count-fits}
+use Rattle.judge_result.proofs.Verdicts.{count-fits, count-fits-by}
 use Rattle.judge_ends.specs.declared.SetJudgement.{SetJudgement}
-use Rattle.judge_ends.specs.Sets.{most-sheets, sheetAt, stretchAt, setRefusal, unjudged, setJudgement, SetSent, SetTaken, SetJudged, JudgedTo}
+use Rattle.judge_ends.specs.Sets.{Promise, most-sheets, sheetAt, stretchAt, setRefusal, unjudged, setJudgement, SetSent, SetTaken, SetJudged, JudgedTo}
 use Rattle.judge_ends.proofs.Laws.{parted}
+use Rattle.judge_set.proofs.Laws.{set-as}
 use Rattle.day_page.specs.Page.{page-room, pageOf, Shown, AllShown}
 use Rattle.day_page.proofs.Laws.{page-fits}
 use Rattle.day_page.specs.declared.DayJudgement.{DayJudgement}
@@ -39,56 +43,82 @@ either : (b : Bool) (r q : Refusal) → r .number ≤ 9 → q .number ≤ 9 → 
 either true r q h k = h
 either false r q h k = k
 
-cause-few : (g : Seen) (before l : Line) → cause g before l ≤ 9
+cause-few : (table : Table) (g : Seen) (before l : Line) → cause table g before l ≤ 9
 unfolding cause
-cause-few g before l =
+cause-few table g before l =
     few (null l) 2 _ (omega arith)
     (few (misplaced g l) 3 _ (omega arith)
-    (few (wrongColumns (kind l) l) 4 _ (omega arith)
+    (few (wrongColumns table (kind l) l) 4 _ (omega arith)
     (few (outOfRange (kind l) l) 5 _ (omega arith)
     (few (tooMany g (kind l)) 6 _ (omega arith)
     (few (wrongLength g (kind l) l) 7 _ (omega arith)
     (few (notAbove g before (kind l) l) 9 0 (omega arith) (omega arith)))))))
 
-scan-few : (g : Seen) (before : Line) (n : ℕ) (ls : List Line) → scan g before n ls .number ≤ 9
+scan-few : (table : Table) (g : Seen) (before : Line) (n : ℕ) (ls : List Line) → scan table g before n ls .number ≤ 9
 unfolding scan
-scan-few g before n [] = either (ltb (g .block) 2) (refusal 3 0) none (omega arith) (omega arith)
-scan-few g before n (l ∷ ls) = either (eqb (cause g before l) 0) (scan (next g l) l (n + 1) ls) (refusal (cause g before l) n) (scan-few (next g l) l (n + 1) ls) (cause-few g before l)
+scan-few table g before n [] = either (ltb (g .block) 2) (refusal 3 0) none (omega arith) (omega arith)
+scan-few table g before n (l ∷ ls) = either (eqb (cause table g before l) 0) (scan table (next g l) l (n + 1) ls) (refusal (cause table g before l) n) (scan-few table (next g l) l (n + 1) ls) (cause-few table g before l)
 
 heads-few : (n : ℕ) (ls : List Line) → heads n ls .number ≤ 9
 unfolding heads
 heads-few n [] = omega arith
 heads-few n (l ∷ ls) = either (unsafe l (atoms ls)) (refusal 8 n) (heads (n + 1) ls) (omega arith) (heads-few (n + 1) ls)
 
-lines-few : (ls : List Line) → refusalOf ls .number ≤ 9
+lines-few : (table : Table) (ls : List Line) → refusalOf table ls .number ≤ 9
 unfolding refusalOf
-lines-few ls = either (eqb (scan start [] 1 ls .number) 0) (heads 1 ls) (scan start [] 1 ls) (heads-few 1 ls) (scan-few start [] 1 ls)
+lines-few table ls = either (eqb (scan table start [] 1 ls .number) 0) (heads 1 ls) (scan table start [] 1 ls) (heads-few 1 ls) (scan-few table start [] 1 ls)
 
-pub refusal-few : (s : List ℕ) → sheetRefusal s .number ≤ 9
+pub refusal-few : (table : Table) (s : List ℕ) → sheetRefusal table s .number ≤ 9
 unfolding sheetRefusal
-refusal-few s = either (ltb most-sheet-bytes (length s)) (refusal 1 0) (refusalOf (byteLines s)) (omega arith) (lines-few (byteLines s))
+refusal-few table s = either (ltb most-sheet-bytes (length s)) (refusal 1 0) (refusalOf table (byteLines s)) (omega arith) (lines-few table (byteLines s))
+
+-- ---- a table by 15
+
+either-table : (b : Bool) (r q : Refusal) → r .number ≤ 15 → q .number ≤ 15 → cond b r q .number ≤ 15
+either-table true r q h k = h
+either-table false r q h k = k
+
+relations-few : (rs : List Relation) (ls : List Line) → linesRefusal rs ls .number ≤ 15
+unfolding linesRefusal
+relations-few rs [] = omega arith
+relations-few rs (l ∷ ls) =
+    either-table (ltb (length rs) most-relations && lineRight rs l) (linesRefusal (rs ++ (relationIn l ∷ [])) ls) (refusal 15 (length rs + 1)) (relations-few (rs ++ (relationIn l ∷ [])) ls) (omega arith)
+
+table-few : (tb : List ℕ) → tableRefusal tb .number ≤ 15
+unfolding tableRefusal
+table-few tb = either-table (null (byteLines tb)) (refusal 15 0) (linesRefusal [] (byteLines tb)) (omega arith) (relations-few [] (byteLines tb))
 
 -- ---- what is judged fits a page's fields
 
-module _ (s : List ℕ) (out after : List ℤ) (r : Judgement) (judged : Judged s out after r) (size : length out ≡ least-room) where
-  shown-as : (v n l k : ℕ) (t : List ℕ) → r ≡ judgement v n l k t → v ≤ 9 → n ≤ 13 → Shown r
-  shown-as v n l k t e small low =
-      let a : r .verdict ≡ v = ap (λ (q : Judgement). q .verdict) e in
-      let b : r .number ≡ n = ap (λ (q : Judgement). q .number) e in
-      record { verdict = omega arith; number = omega arith; count = count-fits s out after r judged size }
+-- what is promised of a sheet, and fits the fields where it has a stretch
+abbrev pub Showing : Promise → Type 0
+Showing J = (s : List ℕ) (out after : List ℤ) (r : Judgement) → J s out after r → length out ≡ least-room → Shown r
 
-  shown-decided : Decided (sheetOf (byteLines s)) out after r → Shown r
-  shown-decided (inl d) = shown-as 9 13 0 0 [] (d .result) (omega arith) (omega arith)
-  shown-decided (inr (inl d)) = shown-as 0 0 0 0 [] (d .result) (omega arith) (omega arith)
-  shown-decided (inr (inr (inl d))) = shown-as 1 0 0 (length (d .handed .log)) (d .handed .answer) (d .result) (omega arith) (omega arith)
-  shown-decided (inr (inr (inr d))) = shown-as 2 0 0 0 [] (d .result) (omega arith) (omega arith)
+shown-as : (r : Judgement) → r .count * 5 ≤ least-room → (v n l k : ℕ) (t : List ℕ) → r ≡ judgement v n l k t → v ≤ 9 → n ≤ 15 → Shown r
+shown-as r fits v n l k t e small low =
+    let a : r .verdict ≡ v = ap (λ (q : Judgement). q .verdict) e in
+    let b : r .number ≡ n = ap (λ (q : Judgement). q .number) e in
+    record { verdict = omega arith; number = omega arith; count = fits }
 
-  pub shown : Shown r
-  shown =
-      ⊎-elim
-      (λ (d : SheetSent s out after r). let h = refusal-few s in shown-as 9 (sheetRefusal s .number) (sheetRefusal s .line) 0 [] (d .result) (omega arith) (omega arith))
-      (λ d. shown-decided (d .1))
-      judged
+shown-decided : (x : Sheet) (out after : List ℤ) (r : Judgement) → r .count * 5 ≤ least-room → Decided x out after r → Shown r
+shown-decided x out after r fits (inl d) = shown-as r fits 9 13 0 0 [] (d .result) (omega arith) (omega arith)
+shown-decided x out after r fits (inr (inl d)) = shown-as r fits 0 0 0 0 [] (d .result) (omega arith) (omega arith)
+shown-decided x out after r fits (inr (inr (inl d))) = shown-as r fits 1 0 0 (length (d .handed .log)) (d .handed .answer) (d .result) (omega arith) (omega arith)
+shown-decided x out after r fits (inr (inr (inr d))) = shown-as r fits 2 0 0 0 [] (d .result) (omega arith) (omega arith)
+
+pub shown : (table : Table) → Showing (Judged table)
+shown table s out after r judged size = go judged
+  where
+    fits : r .count * 5 ≤ least-room
+    fits = count-fits table s out after r judged size
+
+    go : Judged table s out after r → Shown r
+    go (inl d) = let h = refusal-few table s in shown-as r fits 9 (sheetRefusal table s .number) (sheetRefusal table s .line) 0 [] (d .result) (omega arith) (omega arith)
+    go (inr d) = shown-decided (sheetOf table (byteLines s)) out after r fits (d .1)
+
+pub shown-by : (tb : List ℕ) → Showing (JudgedBy tb)
+shown-by tb s out after r (inl d) size = let h = table-few tb in shown-as r (count-fits-by tb s out after r (inl d) size) 9 (tableRefusal tb .number) (tableRefusal tb .line) 0 [] (d .result) (omega arith) (omega arith)
+shown-by tb s out after r (inr d) size = shown (tableOf tb) s out after r (d .1) size
 
 all-shown : (js : List Judgement) (n : ℕ) → n ≤ length js → ((k : ℕ) → k < n → Shown (getD js k (unjudged 0))) → AllShown (take n js)
 all-shown [] zero le each = tt
@@ -131,15 +161,15 @@ module _ (bytes ends : List ℕ) (out : List ℤ) (page : List ℕ) where
 
   -- ---- both ways that the call ends
 
-  module _ (after : List ℤ) (s : SetJudgement) where
+  module _ (J : Promise) (after : List ℤ) (s : SetJudgement) where
     -- a set that is not sent back is taken
-    pub set-taken : setRefusal bytes ends out ≡ 0 → SetJudged bytes ends out after s → SetTaken bytes ends out after s
+    pub set-taken : setRefusal bytes ends out ≡ 0 → SetJudged J bytes ends out after s → SetTaken J bytes ends out after s
     set-taken clean (inl d) = absurd (d .cause clean)
     set-taken clean (inr t) = t
 
     -- its results fit the fields
-    pub set-shown : dayRefusal bytes ends out page ≡ 0 → SetJudged bytes ends out after s → (length ends ≤ most-sheets) × AllShown (take (length ends) (s .sheets))
-    set-shown clean judged =
+    pub set-shown : Showing J → dayRefusal bytes ends out page ≡ 0 → SetJudged J bytes ends out after s → (length ends ≤ most-sheets) × AllShown (take (length ends) (s .sheets))
+    set-shown showing clean judged =
         let set = neither clean .0 in
         let p = parted bytes ends out set in
         let t = set-taken set judged .judged in
@@ -147,19 +177,19 @@ module _ (bytes ends : List ℕ) (out : List ℤ) (page : List ℕ) where
         let few = p .few in (
           p .few,
           all-shown (s .sheets) (length ends) (omega arith)
-              (λ k lt. shown (sheetAt bytes ends k) (stretchAt out k) (stretchAt after k) (getD (s .sheets) k (unjudged 0)) (t .each k lt) (stretch-size (length ends) k out lt (p .room))),
+              (λ k lt. showing (sheetAt bytes ends k) (stretchAt out k) (stretchAt after k) (getD (s .sheets) k (unjudged 0)) (t .each k lt) (stretch-size (length ends) k out lt (p .room))),
         )
 
-  pub day-sent : (n : ℕ) (after : List ℤ) (printed : List ℕ) (s : SetJudgement) (m : ℕ) → n ≡ dayRefusal bytes ends out page → (n ≡ 0 → ⊥) → (after ≡ out) × (s ≡ setSent n) → (printed ≡ page) × (m ≡ 0) → DayJudged bytes ends out after page printed (dayJudgement s m)
-  day-sent n after printed s m is some set print = inl (record {
+  pub day-sent : (J : Promise) (n : ℕ) (after : List ℤ) (printed : List ℕ) (s : SetJudgement) (m : ℕ) → n ≡ dayRefusal bytes ends out page → (n ≡ 0 → ⊥) → (after ≡ out) × (s ≡ setSent n) → (printed ≡ page) × (m ≡ 0) → DayJudged J bytes ends out after page printed (dayJudgement s m)
+  day-sent J n after printed s m is some set print = inl (record {
     cause = λ e. some (is ∙ e);
     result = ap (λ (x : SetJudgement). dayJudgement x m) (set .1 ∙ ap setSent is) ∙ ap (dayJudgement (setSent (dayRefusal bytes ends out page))) (print .1);
     words = set .0;
     lent = print .0;
   })
 
-  pub day-taken : (after : List ℤ) (printed : List ℕ) (s : SetJudgement) (m : ℕ) → dayRefusal bytes ends out page ≡ 0 → SetJudged bytes ends out after s → Put page printed 0 (pageOf (take (length ends) (s .sheets))) m → DayJudged bytes ends out after page printed (dayJudgement s m)
-  day-taken after printed s m clean judged put =
+  pub day-taken : (J : Promise) (after : List ℤ) (printed : List ℕ) (s : SetJudgement) (m : ℕ) → dayRefusal bytes ends out page ≡ 0 → SetJudged J bytes ends out after s → Put page printed 0 (pageOf (take (length ends) (s .sheets))) m → DayJudged J bytes ends out after page printed (dayJudgement s m)
+  day-taken J after printed s m clean judged put =
       let both = neither clean in
       let js = take (length ends) (s .sheets) in
       let t = length-take (length ends) (s .sheets) in
@@ -168,7 +198,17 @@ module _ (bytes ends : List ℕ) (out : List ℤ) (page : List ℕ) where
       let room = both .1 in
       inr (record {
         taken = clean;
-        set = set-taken after s (both .0) judged;
+        set = set-taken J after s (both .0) judged;
         count = put .place ∙ reached-all (length page) 0 (pageOf js) (omega arith) ∙ omega arith;
         lent = put .bytes ∙ placed-all page 0 (pageOf js) (omega arith) ∙ ap (λ (n : ℕ). pageOf js ++ drop n page) (let e : 0 + length (pageOf js) ≡ length (pageOf js) = omega arith in e);
       })
+
+-- what is promised of each sheet may be said otherwise
+pub day-as : (J K : Promise) → ((s : List ℕ) (o a : List ℤ) (j : Judgement) → J s o a j → K s o a j) → (bytes ends : List ℕ) (out after : List ℤ) (page printed : List ℕ) (r : DayJudgement) → DayJudged J bytes ends out after page printed r
+    → DayJudged K bytes ends out after page printed r
+day-as J K f bytes ends out after page printed r (inl d) = inl d
+day-as J K f bytes ends out after page printed r (inr t) = inr (record { taken = t .taken; set = still (set-as J K f bytes ends out after (r .set) (inr (t .set))); count = t .count; lent = t .lent })
+  where
+    still : SetJudged K bytes ends out after (r .set) → SetTaken K bytes ends out after (r .set)
+    still (inl d) = absurd (d .cause (t .set .taken))
+    still (inr u) = u

@@ -11,7 +11,7 @@ use lib.ListN.{length, take, replicate}
 use Rattle.sheet_format.specs.Sheet.{over}
 use Rattle.judge_result.specs.declared.Judgement.{Judgement}
 use Rattle.judge_ends.specs.declared.SetJudgement.{SetJudgement}
-use Rattle.judge_ends.specs.Sets.{most-sheets, setRefusal, unjudged, setJudgement, SetTaken}
+use Rattle.judge_ends.specs.Sets.{Promise, most-sheets, setRefusal, unjudged, setJudgement, SetTaken}
 use Rattle.day_page.specs.Page.{page-room, pageOf}
 use Rattle.day_page.specs.declared.DayJudgement.{DayJudgement}
 
@@ -42,11 +42,11 @@ abbrev pub results : List ℕ → DayJudgement → List Judgement
 results ends r = take (length ends) (r .set .sheets)
 
 -- the set is taken, and judged as it is without a page; the lent bytes are the page of its results, followed by what they were
-pub record DayTaken (bytes ends : List ℕ) (out after : List ℤ) (page printed : List ℕ) (r : DayJudgement) : Type 0 where
+pub record DayTaken (J : Promise) (bytes ends : List ℕ) (out after : List ℤ) (page printed : List ℕ) (r : DayJudgement) : Type 0 where
   pub taken : dayRefusal bytes ends out page ≡ 0
-  pub set : SetTaken bytes ends out after (r .set)
+  pub set : SetTaken J bytes ends out after (r .set)
   pub count : r .bytes ≡ length (pageOf (results ends r))
   pub lent : printed ≡ over (pageOf (results ends r)) page
 
-abbrev pub DayJudged : List ℕ → List ℕ → List ℤ → List ℤ → List ℕ → List ℕ → DayJudgement → Type 0
-DayJudged bytes ends out after page printed r = DaySent bytes ends out after page printed r ⊎ DayTaken bytes ends out after page printed r
+abbrev pub DayJudged : Promise → List ℕ → List ℕ → List ℤ → List ℤ → List ℕ → List ℕ → DayJudgement → Type 0
+DayJudged J bytes ends out after page printed r = DaySent bytes ends out after page printed r ⊎ DayTaken J bytes ends out after page printed r

@@ -4,9 +4,9 @@ use mathlib.Core.List.{List}
 use Prim.Native.Nat.{ℕ, _+_, _*_, _<_, _≤_}
 use lib.IntN.{ℤ}
 use lib.ListN.{length, getD, take, drop}
-use Rattle.judge_result.specs.Judged.{least-room, Judged}
+use Rattle.judge_result.specs.Judged.{least-room}
 use Rattle.judge_result.specs.declared.Judgement.{Judgement}
-use Rattle.judge_ends.specs.Sets.{most-sheets, startOf, sheetAt, stretchAt}
+use Rattle.judge_ends.specs.Sets.{Promise, most-sheets, startOf, sheetAt, stretchAt}
 
 -- each sheet lies within the bytes, and there is a stretch for each
 pub record Parted (bytes ends : List ℕ) (words : ℕ) : Type 0 where
@@ -16,7 +16,7 @@ pub record Parted (bytes ends : List ℕ) (words : ℕ) : Type 0 where
   pub room : length ends * least-room ≤ words
 
 -- the sheet at place k is judged in its own stretch, and the words before and behind it are as they were
-pub record JudgedAt (k : ℕ) (bytes ends : List ℕ) (out after : List ℤ) (j : Judgement) : Type 0 where
-  pub judged : Judged (sheetAt bytes ends k) (stretchAt out k) (stretchAt after k) j
+pub record JudgedAt (J : Promise) (k : ℕ) (bytes ends : List ℕ) (out after : List ℤ) (j : Judgement) : Type 0 where
+  pub judged : J (sheetAt bytes ends k) (stretchAt out k) (stretchAt after k) j
   pub before : take (k * least-room) after ≡ take (k * least-room) out
   pub behind : drop (k * least-room + least-room) after ≡ drop (k * least-room + least-room) out

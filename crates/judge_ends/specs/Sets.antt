@@ -8,7 +8,7 @@ use Prim.Native.Nat.{ℕ, _-_, _*_, _<_, _≤_}
 use lib.Dec.{eqb, ltb}
 use lib.IntN.{ℤ}
 use lib.ListN.{length, getD, take, drop, replicate}
-use Rattle.judge_result.specs.Judged.{least-room, judgement, Judged}
+use Rattle.judge_result.specs.Judged.{least-room, judgement}
 use Rattle.judge_result.specs.declared.Judgement.{Judgement}
 use Rattle.judge_ends.specs.declared.SetJudgement.{SetJudgement}
 
@@ -62,19 +62,23 @@ pub record SetSent (bytes ends : List ℕ) (out after : List ℤ) (r : SetJudgem
   pub result : r ≡ setJudgement (setRefusal bytes ends out) 0 (replicate most-sheets (unjudged (setRefusal bytes ends out)))
   pub lent : after ≡ out
 
+-- what is promised of a sheet alone: of its bytes, of the words lent to it and what they hold afterwards, and of its judgement
+abbrev pub Promise : Type 1
+Promise = List ℕ → List ℤ → List ℤ → Judgement → Type 0
+
 -- the sheets at the first n places are judged as they would be alone, each in its own stretch; the words past these stretches are as they were
-pub record JudgedTo (n : ℕ) (bytes ends : List ℕ) (out after : List ℤ) (js : List Judgement) : Type 0 where
-  pub each : (k : ℕ) → k < n → Judged (sheetAt bytes ends k) (stretchAt out k) (stretchAt after k) (getD js k (unjudged 0))
+pub record JudgedTo (J : Promise) (n : ℕ) (bytes ends : List ℕ) (out after : List ℤ) (js : List Judgement) : Type 0 where
+  pub each : (k : ℕ) → k < n → J (sheetAt bytes ends k) (stretchAt out k) (stretchAt after k) (getD js k (unjudged 0))
   pub others : (k : ℕ) → n ≤ k → getD js k (unjudged 0) ≡ unjudged 0
   pub places : length js ≡ most-sheets
   pub rest : drop (n * least-room) after ≡ drop (n * least-room) out
   pub same : length after ≡ length out
 
 -- the set is taken: all its sheets are
-pub record SetTaken (bytes ends : List ℕ) (out after : List ℤ) (r : SetJudgement) : Type 0 where
+pub record SetTaken (J : Promise) (bytes ends : List ℕ) (out after : List ℤ) (r : SetJudgement) : Type 0 where
   pub taken : setRefusal bytes ends out ≡ 0
   pub result : r ≡ setJudgement 0 (length ends) (r .sheets)
-  pub judged : JudgedTo (length ends) bytes ends out after (r .sheets)
+  pub judged : JudgedTo J (length ends) bytes ends out after (r .sheets)
 
-abbrev pub SetJudged : List ℕ → List ℕ → List ℤ → List ℤ → SetJudgement → Type 0
-SetJudged bytes ends out after r = SetSent bytes ends out after r ⊎ SetTaken bytes ends out after r
+abbrev pub SetJudged : Promise → List ℕ → List ℕ → List ℤ → List ℤ → SetJudgement → Type 0
+SetJudged J bytes ends out after r = SetSent bytes ends out after r ⊎ SetTaken J bytes ends out after r

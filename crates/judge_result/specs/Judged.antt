@@ -5,8 +5,10 @@ use mathlib.Core.Logic.{_⊎_}
 use Prim.Native.Nat.{ℕ, _-_, _*_, _<_, _≤_}
 use lib.IntN.{ℤ}
 use lib.ListN.{length, take, drop, replicate}
+use Rattle.sheet_format.specs.Table.{Table}
 use Rattle.sheet_format.specs.Line.{byteLines}
 use Rattle.sheet_format.specs.Sheet.{sheetRefusal}
+use Rattle.sheet_table.specs.Tables.{tableRefusal, tableOf}
 use Rattle.query_meaning.specs.Facts.{fact-words, value-end, logOf, factsRefusal}
 use Rattle.query_meaning.specs.Evaluate.{answer-words}
 use Rattle.case_verdicts.specs.Verdict.{Sheet, HasVerdict}
@@ -27,9 +29,9 @@ abbrev pub judgement : ℕ → ℕ → ℕ → ℕ → List ℕ → Judgement
 judgement v n l k t = record { verdict = v; number = n; line = l; count = k; missing = answerNumbers t }
 
 -- Causes, 1 to 9: the sheet is sent back
-pub record SheetSent (s : List ℕ) (out after : List ℤ) (r : Judgement) : Type 0 where
-  pub cause : sheetRefusal s .number ≡ 0 → ⊥
-  pub result : r ≡ judgement 9 (sheetRefusal s .number) (sheetRefusal s .line) 0 []
+pub record SheetSent (t : Table) (s : List ℕ) (out after : List ℤ) (r : Judgement) : Type 0 where
+  pub cause : sheetRefusal t s .number ≡ 0 → ⊥
+  pub result : r ≡ judgement 9 (sheetRefusal t s .number) (sheetRefusal t s .line) 0 []
   pub lent : after ≡ out
 
 -- Causes, 13: too few words are lent
@@ -51,8 +53,8 @@ pub record HandedOver (x : Sheet) (out after : List ℤ) (r : Judgement) : Type 
   pub room : least-room ≤ length out
   pub handed : Handed top value-end x
   pub result : r ≡ judgement 1 0 0 (length (handed .log)) (handed .answer)
-  pub facts : factsRefusal (take (fact-words * r .count) after) .number ≡ 0
-  pub read : logOf (take (fact-words * r .count) after) ≡ handed .log
+  pub facts : factsRefusal (x .table) (take (fact-words * r .count) after) .number ≡ 0
+  pub read : logOf (x .table) (take (fact-words * r .count) after) ≡ handed .log
   pub rest : drop (fact-words * r .count) after ≡ drop (fact-words * r .count) out
   pub same : length after ≡ length out
 
@@ -60,6 +62,17 @@ pub record HandedOver (x : Sheet) (out after : List ℤ) (r : Judgement) : Type 
 abbrev pub Decided : Sheet → List ℤ → List ℤ → Judgement → Type 0
 Decided x out after r = Short out after r ⊎ (Said x 0 out after r ⊎ (HandedOver x out after r ⊎ Said x 2 out after r))
 
--- any sheet's
-abbrev pub Judged : List ℕ → List ℤ → List ℤ → Judgement → Type 0
-Judged s out after r = SheetSent s out after r ⊎ ((sheetRefusal s .number ≡ 0) × Decided (sheetOf (byteLines s)) out after r)
+-- any sheet's, by a table of relations
+abbrev pub Judged : Table → List ℕ → List ℤ → List ℤ → Judgement → Type 0
+Judged t s out after r = SheetSent t s out after r ⊎ ((sheetRefusal t s .number ≡ 0) × Decided (sheetOf t (byteLines s)) out after r)
+
+-- ---- by the bytes of a table
+
+-- Causes, 15: the table is sent back, and the sheet is not looked at
+pub record TableSent (tb : List ℕ) (out after : List ℤ) (r : Judgement) : Type 0 where
+  pub cause : tableRefusal tb .number ≡ 0 → ⊥
+  pub result : r ≡ judgement 9 (tableRefusal tb .number) (tableRefusal tb .line) 0 []
+  pub lent : after ≡ out
+
+abbrev pub JudgedBy : List ℕ → List ℕ → List ℤ → List ℤ → Judgement → Type 0
+JudgedBy tb s out after r = TableSent tb out after r ⊎ ((tableRefusal tb .number ≡ 0) × Judged (tableOf tb) s out after r)

@@ -8,7 +8,7 @@ use lib.Dec.{eqb, leb}
 use lib.IntN.{ℤ, pos, negsuc}
 use lib.ListN.{length, getD}
 use borrow.Author.Tests.{eqb-true, eqb-false, leb-true, leb-false, not-false}
-use Rattle.sheet_format.specs.Relations.{columnsOf}
+use Rattle.sheet_format.specs.Table.{Table, relation, columnsOf}
 use Rattle.sheet_format.specs.Line.{Line, all}
 use Rattle.sheet_format.specs.Cause.{Kind, question, saved, view, atom, row, other, kind, rest, second, terms, term, possible, wrongColumns, outOfRange, tooMany, atomsOf, cause, start, nextBy, next, refusal, scan, isHead, isAtom, atoms, unsafe, heads, refusalOf}
 use Rattle.sheet_format.specs.declared.Refusal.{Refusal}
@@ -21,16 +21,16 @@ pub use Rattle.sheet_format.proofs.ScanLaws.{Clean}
 -- ---- the lines that the scan lets pass
 
 -- the first of the lines that the scan lets pass, and the others
-pub scan-first : (l : Line) (ls : List Line) (g : Seen) (b : Line) (n : ℕ) → scan g b n (l ∷ ls) .number ≡ 0 → Clean g l × (scan (next g l) l (n + 1) ls .number ≡ 0)
+pub scan-first : (table : Table) (l : Line) (ls : List Line) (g : Seen) (b : Line) (n : ℕ) → scan table g b n (l ∷ ls) .number ≡ 0 → Clean table g l × (scan table (next g l) l (n + 1) ls .number ≡ 0)
 unfolding scan
-scan-first l ls g b n h = go (eqb (cause g b l) 0) refl h
+scan-first table l ls g b n h = go (eqb (cause table g b l) 0) refl h
   where
     r : Refusal
-    r = scan (next g l) l (n + 1) ls
+    r = scan table (next g l) l (n + 1) ls
 
-    go : (t : Bool) → eqb (cause g b l) 0 ≡ t → cond t r (refusal (cause g b l) n) .number ≡ 0 → Clean g l × (r .number ≡ 0)
-    go true e f = (clean-line g b l e, f)
-    go false e f = absurd (eqb-false (cause g b l) 0 e f)
+    go : (t : Bool) → eqb (cause table g b l) 0 ≡ t → cond t r (refusal (cause table g b l) n) .number ≡ 0 → Clean table g l × (r .number ≡ 0)
+    go true e f = (clean-line table g b l e, f)
+    go false e f = absurd (eqb-false (cause table g b l) 0 e f)
 
 -- the same for the heads
 pub heads-first : (l : Line) (ls : List Line) (n : ℕ) → heads n (l ∷ ls) .number ≡ 0 → (unsafe l (atoms ls) ≡ false) × (heads (n + 1) ls .number ≡ 0)
@@ -41,34 +41,34 @@ heads-first l ls n h = go (unsafe l (atoms ls)) h
     go true f = absurd (omega arith)
     go false f = (refl, f)
 
-pub accepted-heads : (ls : List Line) → refusalOf ls .number ≡ 0 → heads 1 ls .number ≡ 0
+pub accepted-heads : (table : Table) (ls : List Line) → refusalOf table ls .number ≡ 0 → heads 1 ls .number ≡ 0
 unfolding refusalOf
-accepted-heads ls h = let e = accepted-scan ls h in rw e at h
+accepted-heads table ls h = let e = accepted-scan table ls h in rw e at h
 
 -- every line of an accepted sheet is without a cause
-clean-from : (ls : List Line) (g : Seen) (b : Line) (n : ℕ) → scan g b n ls .number ≡ 0 → (i : ℕ) → i < length ls → (s : Seen) × Clean s (getD ls i [])
-clean-from [] g b n h i lt = absurd (omega arith)
-clean-from (l ∷ ls) g b n h zero lt = (g, scan-first l ls g b n h .0)
-clean-from (l ∷ ls) g b n h (suc i) lt = clean-from ls (next g l) l (n + 1) (scan-first l ls g b n h .1) i (omega arith)
+clean-from : (table : Table) (ls : List Line) (g : Seen) (b : Line) (n : ℕ) → scan table g b n ls .number ≡ 0 → (i : ℕ) → i < length ls → (s : Seen) × Clean table s (getD ls i [])
+clean-from table [] g b n h i lt = absurd (omega arith)
+clean-from table (l ∷ ls) g b n h zero lt = (g, scan-first table l ls g b n h .0)
+clean-from table (l ∷ ls) g b n h (suc i) lt = clean-from table ls (next g l) l (n + 1) (scan-first table l ls g b n h .1) i (omega arith)
 
-pub accepted-clean : (ls : List Line) → refusalOf ls .number ≡ 0 → (i : ℕ) → i < length ls → (s : Seen) × Clean s (getD ls i [])
-accepted-clean ls h i lt = clean-from ls start [] 1 (eqb-true _ 0 (accepted-scan ls h)) i lt
+pub accepted-clean : (table : Table) (ls : List Line) → refusalOf table ls .number ≡ 0 → (i : ℕ) → i < length ls → (s : Seen) × Clean table s (getD ls i [])
+accepted-clean table ls h i lt = clean-from table ls start [] 1 (eqb-true _ 0 (accepted-scan table ls h)) i lt
 
 -- ---- atoms
 
-pub record AtomLine (l : Line) : Type 0 where
+pub record AtomLine (table : Table) (l : Line) : Type 0 where
   pub relation : (r : ℕ) × (second l ≡ pos (suc r))
-  pub columns : length (terms l) ≡ columnsOf (second l)
+  pub columns : length (terms l) ≡ columnsOf table (second l)
   pub some : 1 ≤ length (terms l)
   pub few : length (terms l) ≤ 4
   pub ranged : all term (terms l) ≡ true
 
 -- what has columns is a relation
-related : (z : ℤ) → (columnsOf z ≡ 0 → ⊥) → (r : ℕ) × (z ≡ pos (suc r))
-unfolding columnsOf
-related (pos zero) h = absurd (h refl)
-related (pos (suc r)) h = (r, refl)
-related (negsuc n) h = absurd (h refl)
+related : (table : Table) (z : ℤ) → (columnsOf table z ≡ 0 → ⊥) → (r : ℕ) × (z ≡ pos (suc r))
+unfolding columnsOf relation
+related table (pos zero) h = absurd (h refl)
+related table (pos (suc r)) h = (r, refl)
+related table (negsuc n) h = absurd (h refl)
 
 terms-sized : (l : Line) → possible atom (length l) ≡ true → (1 ≤ length (terms l)) × (length (terms l) ≤ 4)
 terms-sized [] e = no-way e
@@ -79,25 +79,25 @@ terms-sized (k ∷ r ∷ l) e =
     let b = leb-true (length (k ∷ r ∷ l)) 6 (p .1) in
     (omega arith, omega arith)
 
-atom-by : (l : Line) (k : Kind) → isAtom k ≡ true → possible k (length l) ≡ true → wrongColumns k l ≡ false → outOfRange k l ≡ false → AtomLine l
-atom-by l question t p c r = no-way t
-atom-by l saved t p c r = no-way t
-atom-by l view t p c r = no-way t
-atom-by l atom t p c r =
+atom-by : (table : Table) (l : Line) (k : Kind) → isAtom k ≡ true → possible k (length l) ≡ true → wrongColumns table k l ≡ false → outOfRange k l ≡ false → AtomLine table l
+atom-by table l question t p c r = no-way t
+atom-by table l saved t p c r = no-way t
+atom-by table l view t p c r = no-way t
+atom-by table l atom t p c r =
     let s = terms-sized l p in
-    let n = neither (eqb (columnsOf (second l)) 0) _ c in
+    let n = neither (eqb (columnsOf table (second l)) 0) _ c in
     record {
-      relation = related (second l) (eqb-false _ 0 (n .0));
+      relation = related table (second l) (eqb-false _ 0 (n .0));
       columns = sym (eqb-true _ _ (not-false _ (n .1)));
       some = s .0;
       few = s .1;
       ranged = not-false _ r;
     }
-atom-by l row t p c r = no-way t
-atom-by l other t p c r = no-way t
+atom-by table l row t p c r = no-way t
+atom-by table l other t p c r = no-way t
 
-pub atom-line : (g : Seen) (l : Line) → Clean g l → isAtom (kind l) ≡ true → AtomLine l
-atom-line g l c t = atom-by l (kind l) t (c .sized) (c .columns) (c .ranged)
+pub atom-line : (table : Table) (g : Seen) (l : Line) → Clean table g l → isAtom (kind l) ≡ true → AtomLine table l
+atom-line table g l c t = atom-by table l (kind l) t (c .sized) (c .columns) (c .ranged)
 
 -- ---- heads
 
@@ -117,21 +117,21 @@ head-by l atom t p r = no-way t
 head-by l row t p r = no-way t
 head-by l other t p r = no-way t
 
-pub head-line : (g : Seen) (l : Line) → Clean g l → isHead (kind l) ≡ true → HeadLine l
-head-line g l c t = head-by l (kind l) t (c .sized) (c .ranged)
+pub head-line : (table : Table) (g : Seen) (l : Line) → Clean table g l → isHead (kind l) ≡ true → HeadLine l
+head-line table g l c t = head-by l (kind l) t (c .sized) (c .ranged)
 
-pub accepted-atom : (ls : List Line) → refusalOf ls .number ≡ 0 → (i : ℕ) → i < length ls → isAtom (kind (getD ls i [])) ≡ true → AtomLine (getD ls i [])
-accepted-atom ls h i lt t = let (s, c) = accepted-clean ls h i lt in atom-line s (getD ls i []) c t
+pub accepted-atom : (table : Table) (ls : List Line) → refusalOf table ls .number ≡ 0 → (i : ℕ) → i < length ls → isAtom (kind (getD ls i [])) ≡ true → AtomLine table (getD ls i [])
+accepted-atom table ls h i lt t = let (s, c) = accepted-clean table ls h i lt in atom-line table s (getD ls i []) c t
 
-pub accepted-head : (ls : List Line) → refusalOf ls .number ≡ 0 → (i : ℕ) → i < length ls → isHead (kind (getD ls i [])) ≡ true → HeadLine (getD ls i [])
-accepted-head ls h i lt t = let (s, c) = accepted-clean ls h i lt in head-line s (getD ls i []) c t
+pub accepted-head : (table : Table) (ls : List Line) → refusalOf table ls .number ≡ 0 → (i : ℕ) → i < length ls → isHead (kind (getD ls i [])) ≡ true → HeadLine (getD ls i [])
+accepted-head table ls h i lt t = let (s, c) = accepted-clean table ls h i lt in head-line table s (getD ls i []) c t
 
 -- ---- the atoms after a head
 
 -- each of the lines is an atom by the rules
-abbrev pub AtomLines : List Line → Type 0
-AtomLines [] = Unit {0}
-AtomLines (l ∷ ls) = AtomLine l × AtomLines ls
+abbrev pub AtomLines : (table : Table) → List Line → Type 0
+AtomLines table [] = Unit {0}
+AtomLines table (l ∷ ls) = AtomLine table l × AtomLines table ls
 
 room-left : (g : Seen) (k : Kind) → isAtom k ≡ true → tooMany g k ≡ false → g .atoms < 6
 room-left g question t e = no-way t
@@ -162,18 +162,18 @@ no-atoms g row n t = no-way t
 no-atoms g other n t = no-way t
 
 -- the atoms at the front of what the scan lets pass are atoms by the rules, and at most six with those before
-pub front-atoms : (ls : List Line) (g : Seen) (b : Line) (n : ℕ) → g .atoms ≤ 6 → scan g b n ls .number ≡ 0 → AtomLines (atoms ls) × (length (atoms ls) + g .atoms ≤ 6)
+pub front-atoms : (table : Table) (ls : List Line) (g : Seen) (b : Line) (n : ℕ) → g .atoms ≤ 6 → scan table g b n ls .number ≡ 0 → AtomLines table (atoms ls) × (length (atoms ls) + g .atoms ≤ 6)
 unfolding atoms next
-front-atoms [] g b n le h = (tt, omega arith)
-front-atoms (l ∷ ls) g b n le h = go (λ w. front-atoms ls (next g l) l (n + 1) w (scan-first l ls g b n h .1)) (isAtom (kind l)) refl
+front-atoms table [] g b n le h = (tt, omega arith)
+front-atoms table (l ∷ ls) g b n le h = go (λ w. front-atoms table ls (next g l) l (n + 1) w (scan-first table l ls g b n h .1)) (isAtom (kind l)) refl
   where
-    c : Clean g l
-    c = scan-first l ls g b n h .0
+    c : Clean table g l
+    c = scan-first table l ls g b n h .0
 
-    go : ((next g l .atoms ≤ 6) → AtomLines (atoms ls) × (length (atoms ls) + next g l .atoms ≤ 6)) → (t : Bool) → isAtom (kind l) ≡ t → AtomLines (cond t (l ∷ atoms ls) []) × (length (cond t (l ∷ atoms ls) []) + g .atoms ≤ 6)
+    go : ((next g l .atoms ≤ 6) → AtomLines table (atoms ls) × (length (atoms ls) + next g l .atoms ≤ 6)) → (t : Bool) → isAtom (kind l) ≡ t → AtomLines table (cond t (l ∷ atoms ls) []) × (length (cond t (l ∷ atoms ls) []) + g .atoms ≤ 6)
     go ih true e =
         let r = room-left g (kind l) e (c .room) in
         let m = more-atoms g (kind l) (length (rest l)) e in
         let q = ih (omega arith) in
-        ((atom-line g l c e, q .0), let w = q .1 in omega arith)
+        ((atom-line table g l c e, q .0), let w = q .1 in omega arith)
     go ih false e = (tt, omega arith)

@@ -13,7 +13,8 @@ use Rattle.sheet_format.specs.Limits.{most-atoms}
 use Rattle.list_laws.proofs.Lists.{drop-next}
 use Rattle.sheet_format.proofs.WordLines.{lines-length}
 use Rattle.sheet_format.specs.Line.{Line, null, natural, wordLines}
-use Rattle.sheet_format.specs.Cause.{kindOf, kind, rest, second, terms, isHead, isAtom, atoms}
+use Rattle.sheet_format.specs.Table.{Table}
+use Rattle.sheet_format.specs.Cause.{kindOf, kind, rest, second, terms, isHead, isAtom, atoms, refusalOf}
 use Rattle.query_meaning.specs.Blocks.{View, asTerm, atomOf, blockOf, viewOf, blocks, allBlocks, nth, blockAt}
 use Rattle.query_encoding.specs.Encoding.{termNumber, termAt, atomAt, BlockNumbers, isBlock, BlockFound}
 use Rattle.sheet_format.proofs.Lists.{no-way}
@@ -44,7 +45,7 @@ module _ (ws : List ℤ) (i : ℕ) (lt : i < length ws / 7) (a : AcceptedLines (
   inside = let e = lines-length ws in omega arith
 
   pub formed : null (getD (wordLines ws) i []) ≡ false
-  formed = accepted-clean (wordLines ws) a i inside .1 .formed
+  formed = accepted-clean (a .0) (wordLines ws) (a .1) i inside .1 .formed
 
   pub kind-of : kind (getD (wordLines ws) i []) ≡ kindOf (getD ws (7 * i + 1) (pos 0))
   kind-of = kind-word ws i lt formed
@@ -213,17 +214,17 @@ module _ (ws : List ℤ) (h : ℕ) (lt : h < length ws / 7) (a : AcceptedLines (
         head = head-place;
       }
 
-pub found-block : (ws : List ℤ) (k h n : ℕ) (blk : List ℕ) → AcceptedLines (wordLines ws) → h < length ws / 7 → HeadAt (wordLines ws) k h → length blk ≡ block-width → ((x : ℕ) → x < block-width → getD blk x 0 ≡ entryOf ws h x)
-    → (length (atoms (drop (h + 1) (wordLines ws))) ≤ most-atoms → n ≡ length (atoms (drop (h + 1) (wordLines ws)))) → BlockFound (wordLines ws) k true n blk
-found-block ws k h n blk a lt f s each count =
-    let (i, e) = f .here (inside ws h lt a) in
-    let w : length (map atomOf (atoms (drop (h + 1) (wordLines ws)))) ≤ most-atoms = subst (λ b. length (b .atoms) ≤ most-atoms) e (accepted-fine (wordLines ws) a k i .few) in
+pub found-block : (table : Table) (ws : List ℤ) (k h n : ℕ) (blk : List ℕ) → refusalOf table (wordLines ws) .number ≡ 0 → h < length ws / 7 → HeadAt (wordLines ws) k h → length blk ≡ block-width → ((x : ℕ) → x < block-width → getD blk x 0 ≡ entryOf ws h x)
+    → (length (atoms (drop (h + 1) (wordLines ws))) ≤ most-atoms → n ≡ length (atoms (drop (h + 1) (wordLines ws)))) → BlockFound table (wordLines ws) k true n blk
+found-block table ws k h n blk a lt f s each count =
+    let (i, e) = f .here (inside ws h lt (table, a)) in
+    let w : length (map atomOf (atoms (drop (h + 1) (wordLines ws)))) ≤ most-atoms = subst (λ b. length (b .atoms) ≤ most-atoms) e (accepted-fine table (wordLines ws) a k i .few) in
     let few : length (atoms (drop (h + 1) (wordLines ws))) ≤ most-atoms = simp length-map at w in
     record {
       found = sym i;
-      numbers = λ _. subst (BlockNumbers blk n) (sym e) (block-numbers ws h lt a blk each n s few (count few));
-      shaped = λ _. accepted-shaped (wordLines ws) a k i;
+      numbers = λ _. subst (BlockNumbers blk n) (sym e) (block-numbers ws h lt (table, a) blk each n s few (count few));
+      shaped = λ _. accepted-shaped table (wordLines ws) a k i;
     }
 
-pub no-block : (ls : List Line) (k n : ℕ) (some : Bool) (blk : List ℕ) → some ≡ false → isBlock ls k ≡ false → BlockFound ls k some n blk
-no-block ls k n some blk s e = record { found = s ∙ sym e; numbers = λ t. no-way (sym s ∙ t); shaped = λ t. no-way (sym s ∙ t) }
+pub no-block : (table : Table) (ls : List Line) (k n : ℕ) (some : Bool) (blk : List ℕ) → some ≡ false → isBlock ls k ≡ false → BlockFound table ls k some n blk
+no-block table ls k n some blk s e = record { found = s ∙ sym e; numbers = λ t. no-way (sym s ∙ t); shaped = λ t. no-way (sym s ∙ t) }

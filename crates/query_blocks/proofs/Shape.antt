@@ -11,7 +11,7 @@ use lib.ListN.{length, length-map}
 use borrow.Author.Tests.{eqb-true, ltb-true, ltb-false, lt-ltb, le-ltb, not-true, not-false}
 use Rattle.query_layout.specs.Layout.{names}
 use Rattle.sheet_format.specs.Limits.{constant-end, most-atoms}
-use Rattle.sheet_format.specs.Relations.{columnsOf}
+use Rattle.sheet_format.specs.Table.{Table, columnsOf}
 use Rattle.sheet_format.specs.Line.{Line, all, null, natural}
 use Rattle.sheet_format.specs.Cause.{kind, rest, second, terms, term, isTerm, orOut, termOf, scan, start, next, isHead, atoms, same, occurs, bound, unsafe, heads, refusalOf}
 use Rattle.sheet_format.specs.declared.Seen.{Seen}
@@ -51,10 +51,10 @@ module _ {A : Type 0} where
   from-map f (y ∷ l) b (inl e) = (y, inl refl, e)
   from-map f (y ∷ l) b (inr i) = let (x, j, e) = from-map f l b i in (x, inr j, e)
 
-pub atom-in : (ls : List Line) (l : Line) → AtomLines ls → In l ls → AtomLine l
-atom-in [] l a i = absurd i
-atom-in (k ∷ ls) l a (inl e) = subst AtomLine (sym e) (a .0)
-atom-in (k ∷ ls) l a (inr i) = atom-in ls l (a .1) i
+pub atom-in : (table : Table) (ls : List Line) (l : Line) → AtomLines table ls → In l ls → AtomLine table l
+atom-in table [] l a i = absurd i
+atom-in table (k ∷ ls) l a (inl e) = subst (AtomLine table) (sym e) (a .0)
+atom-in table (k ∷ ls) l a (inr i) = atom-in table ls l (a .1) i
 
 -- ---- terms
 
@@ -123,35 +123,35 @@ bound-in ls n h =
     (atomOf l, in-map atomOf ls l i, subst (λ w. In (asTerm w) (map asTerm (terms l))) (sym g) (in-map asTerm (terms l) z j))
 
 -- a block of an accepted sheet
-pub record AcceptedBlock (b : Block) : Type 0 where
-  pub shaped : Shaped b
+pub record AcceptedBlock (table : Table) (b : Block) : Type 0 where
+  pub shaped : Shaped table b
   pub some : 1 ≤ length (b .atoms)
   pub few : length (b .atoms) ≤ most-atoms
   pub small : (c : ℕ) → In (con c) (b .head) → c < constant-end
 
-atom-columns : (l : Line) → AtomLine l → length (map asTerm (terms l)) ≡ columnsOf (pos (natural (second l)))
-atom-columns l a =
+atom-columns : (table : Table) (l : Line) → AtomLine table l → length (map asTerm (terms l)) ≡ columnsOf table (pos (natural (second l)))
+atom-columns table l a =
     let (r, e) = a .relation in
-    length-map (terms l) asTerm ∙ a .columns ∙ ap columnsOf (e ∙ ap (λ z. pos (natural z)) (sym e))
+    length-map (terms l) asTerm ∙ a .columns ∙ ap (columnsOf table) (e ∙ ap (λ z. pos (natural z)) (sym e))
 
 some-lines : (ls : List Line) → null ls ≡ false → 1 ≤ length ls
 some-lines [] e = no-way (sym e)
 some-lines (l ∷ ls) e = omega arith
 
-block-fine : (l : Line) (ls : List Line) → HeadLine l → AtomLines (atoms ls) → length (atoms ls) ≤ most-atoms → null (atoms ls) ≡ false → all (bound (atoms ls)) (rest l) ≡ true → AcceptedBlock (blockOf l ls)
-block-fine l ls d a few n b =
+block-fine : (table : Table) (l : Line) (ls : List Line) → HeadLine l → AtomLines table (atoms ls) → length (atoms ls) ≤ most-atoms → null (atoms ls) ≡ false → all (bound (atoms ls)) (rest l) ≡ true → AcceptedBlock table (blockOf l ls)
+block-fine table l ls d a few n b =
     record {
       shaped = record {
         short = let w = d .few in simp length-map (omega arith);
         formed = λ x i.
             let (k, j, e) = from-map atomOf (atoms ls) x i in
-            let m = atom-in (atoms ls) k a j in
-            let c = atom-columns k m in
+            let m = atom-in table (atoms ls) k a j in
+            let c = atom-columns table k m in
             let w = m .few in
-            subst (λ y. (length (y .terms) ≡ columnsOf (pos (y .rel))) × (length (y .terms) ≤ 4)) (sym e) (c, simp length-map (omega arith));
+            subst (λ y. (length (y .terms) ≡ columnsOf table (pos (y .rel))) × (length (y .terms) ≤ 4)) (sym e) (c, simp length-map (omega arith));
         named = λ x i v j.
             let (k, q, e) = from-map atomOf (atoms ls) x i in
-            let m = atom-in (atoms ls) k a q in
+            let m = atom-in table (atoms ls) k a q in
             named-below (terms k) (m .ranged) v (subst (λ y. In (var v) (y .terms)) e j);
         safe = λ x i.
             let (z, j, e) = from-map asTerm (rest l) (var x) i in
@@ -203,38 +203,38 @@ no-nth (suc k) = nth-by [] k ∙ ap not (lt-ltb 0 (suc k) (omega arith))
 
 -- ---- each block is shaped
 
-Each : List Line → Type 0
-Each ls = (k : ℕ) → isNth (allBlocks ls) k ≡ true → AcceptedBlock (blockNth (allBlocks ls) k)
+Each : (table : Table) → List Line → Type 0
+Each table ls = (k : ℕ) → isNth (allBlocks ls) k ≡ true → AcceptedBlock table (blockNth (allBlocks ls) k)
 
-each-more : (v : View) (vs : List View) → AcceptedBlock (v .block) → ((k : ℕ) → isNth vs k ≡ true → AcceptedBlock (blockNth vs k)) → (k : ℕ) → isNth (v ∷ vs) k ≡ true → AcceptedBlock (blockNth (v ∷ vs) k)
-each-more v vs f ih zero e = no-way e
-each-more v vs f ih (suc zero) e = f
-each-more v vs f ih (suc (suc k)) e = ih (suc k) (sym (nth-past v vs k) ∙ e)
+each-more : (table : Table) (v : View) (vs : List View) → AcceptedBlock table (v .block) → ((k : ℕ) → isNth vs k ≡ true → AcceptedBlock table (blockNth vs k)) → (k : ℕ) → isNth (v ∷ vs) k ≡ true → AcceptedBlock table (blockNth (v ∷ vs) k)
+each-more table v vs f ih zero e = no-way e
+each-more table v vs f ih (suc zero) e = f
+each-more table v vs f ih (suc (suc k)) e = ih (suc k) (sym (nth-past v vs k) ∙ e)
 
 safe-by : (l : Line) (ls : List Line) → isHead (kind l) ≡ true → unsafe l ls ≡ false → (null ls ≡ false) × (all (bound ls) (rest l) ≡ true)
 safe-by l ls e u =
     let p = neither (null ls) (not (all (bound ls) (rest l))) (sym (ap (λ t. t && (null ls || not (all (bound ls) (rest l)))) e) ∙ u) in
     (p .0, not-false _ (p .1))
 
-each-from : (ls : List Line) (g : Seen) (b : Line) (n m : ℕ) → scan g b n ls .number ≡ 0 → heads m ls .number ≡ 0 → Each ls
+each-from : (table : Table) (ls : List Line) (g : Seen) (b : Line) (n m : ℕ) → scan table g b n ls .number ≡ 0 → heads m ls .number ≡ 0 → Each table ls
 unfolding Each blocks next
-each-from [] g b n m s h = λ k e. no-way (sym (no-nth k) ∙ e)
-each-from (l ∷ ls) g b n m s h = go (each-from ls (next g l) l (n + 1) (m + 1) (scan-first l ls g b n s .1) (heads-first l ls m h .1)) (isHead (kind l)) refl
+each-from table [] g b n m s h = λ k e. no-way (sym (no-nth k) ∙ e)
+each-from table (l ∷ ls) g b n m s h = go (each-from table ls (next g l) l (n + 1) (m + 1) (scan-first table l ls g b n s .1) (heads-first l ls m h .1)) (isHead (kind l)) refl
   where
-    c : Clean g l
-    c = scan-first l ls g b n s .0
+    c : Clean table g l
+    c = scan-first table l ls g b n s .0
 
-    go : Each ls → (t : Bool) → isHead (kind l) ≡ t → (k : ℕ) → isNth (cond t (viewOf l ls ∷ allBlocks ls) (allBlocks ls)) k ≡ true → AcceptedBlock (blockNth (cond t (viewOf l ls ∷ allBlocks ls) (allBlocks ls)) k)
+    go : Each table ls → (t : Bool) → isHead (kind l) ≡ t → (k : ℕ) → isNth (cond t (viewOf l ls ∷ allBlocks ls) (allBlocks ls)) k ≡ true → AcceptedBlock table (blockNth (cond t (viewOf l ls ∷ allBlocks ls) (allBlocks ls)) k)
     go ih true e =
         let z = no-atoms g (kind l) (length (rest l)) e in
-        let a = front-atoms ls (next g l) l (n + 1) (omega arith) (scan-first l ls g b n s .1) in
+        let a = front-atoms table ls (next g l) l (n + 1) (omega arith) (scan-first table l ls g b n s .1) in
         let u = safe-by l (atoms ls) e (heads-first l ls m h .0) in
-        each-more (viewOf l ls) (allBlocks ls) (block-fine l ls (head-line g l c e) (a .0) (let w = a .1 in omega arith) (u .0) (u .1)) ih
+        each-more table (viewOf l ls) (allBlocks ls) (block-fine table l ls (head-line table g l c e) (a .0) (let w = a .1 in omega arith) (u .0) (u .1)) ih
     go ih false e = ih
 
-pub accepted-fine : (ls : List Line) → refusalOf ls .number ≡ 0 → (k : ℕ) → isBlock ls k ≡ true → AcceptedBlock (blockAt ls k)
+pub accepted-fine : (table : Table) (ls : List Line) → refusalOf table ls .number ≡ 0 → (k : ℕ) → isBlock ls k ≡ true → AcceptedBlock table (blockAt ls k)
 unfolding Each
-accepted-fine ls h k e = subst AcceptedBlock (sym (block-of ls k)) (each-from ls start [] 1 1 (eqb-true _ 0 (accepted-scan ls h)) (accepted-heads ls h) k e)
+accepted-fine table ls h k e = subst (AcceptedBlock table) (sym (block-of ls k)) (each-from table ls start [] 1 1 (eqb-true _ 0 (accepted-scan table ls h)) (accepted-heads table ls h) k e)
 
-pub accepted-shaped : (ls : List Line) → refusalOf ls .number ≡ 0 → (k : ℕ) → isBlock ls k ≡ true → Shaped (blockAt ls k)
-accepted-shaped ls h k e = accepted-fine ls h k e .shaped
+pub accepted-shaped : (table : Table) (ls : List Line) → refusalOf table ls .number ≡ 0 → (k : ℕ) → isBlock ls k ≡ true → Shaped table (blockAt ls k)
+accepted-shaped table ls h k e = accepted-fine table ls h k e .shaped

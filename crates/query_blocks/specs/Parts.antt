@@ -7,13 +7,15 @@ use lib.Dec.{eqb, ltb}
 use lib.IntN.{ℤ, pos}
 use lib.ListN.{length, getD, drop}
 use Rattle.query_layout.specs.Layout.{block-head}
+use Rattle.sheet_format.specs.Table.{Table}
 use Rattle.sheet_format.specs.Line.{Line, natural}
 use Rattle.sheet_format.specs.Cause.{refusalOf}
 use Rattle.query_meaning.specs.Blocks.{asTerm, blockOf, blockAt}
 use Rattle.query_encoding.specs.Encoding.{termNumber, isBlock}
 
+-- lines that some table of relations accepts: where blocks and rows stand does not depend on which one
 abbrev pub AcceptedLines : List Line → Type 0
-AcceptedLines ls = refusalOf ls .number ≡ 0
+AcceptedLines ls = (t : Table) × (refusalOf t ls .number ≡ 0)
 
 -- line r is the head of block k; there is no block k where r is past the lines
 pub record HeadAt (ls : List Line) (k r : ℕ) : Type 0 where

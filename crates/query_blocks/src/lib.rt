@@ -12,6 +12,7 @@ ghost use lib.IntN.{pos};
 ghost use lib.ListN.{length, getD, drop};
 ghost use Rattle.query_layout.specs.Layout.{block-width};
 ghost use Rattle.sheet_format.specs.Limits.{most-atoms};
+ghost use Rattle.sheet_format.specs.Table.{Table};
 ghost use Rattle.sheet_format.specs.Line.{natural, wordLines};
 ghost use Rattle.sheet_format.specs.Cause.{kindOf, isHead, isAtom, atoms, refusalOf};
 ghost use Rattle.query_meaning.specs.Blocks.{asTerm};
@@ -159,7 +160,7 @@ fn nothing() -> Numbers
 
 // Block k of an accepted number form: 1 the question, then the lists, then the views.
 pub fn block(ws: &[i32], k: usize) -> Numbers
-    ensures { λ r. ⌜ (refusalOf (wordLines (now (ws .entry))) .number ≡ 0 → BlockFound (wordLines (now (ws .entry))) k (r .some) (r .atoms) (r .numbers)) ⌝ }
+    ensures { λ r. ⌜ ((t : Table) → refusalOf t (wordLines (now (ws .entry))) .number ≡ 0 → BlockFound t (wordLines (now (ws .entry))) k (r .some) (r .atoms) (r .numbers)) ⌝ }
 {
     if k == 0 {
         return nothing();

@@ -16,26 +16,20 @@ use Rattle.list_laws.proofs.Lists.{slice-next, drop-next}
 use Rattle.sheet_format.proofs.Lists.{no-way, and-left, and-right, both, neither, all-at}
 use Rattle.sheet_format.specs.Cause.{above, refusal, none}
 use Rattle.sheet_format.specs.Line.{all, isZero, natural, null}
-use Rattle.sheet_format.specs.Relations.{columnsOf, relations}
+use Rattle.sheet_format.specs.Table.{Table, relation, columnsOf}
 use Rattle.query_meaning.specs.Meaning.{Fact, Log, In}
 use Rattle.query_meaning.specs.Facts.{factByFact, factIn, factsIn, factsRefusal, fives, isValue, logOf, relationOf, unused, used, value-end, wrongFact}
 use Rattle.query_encoding.specs.Encoding.{FactNumbers, ShapedLog, factAt}
-use Rattle.sheet_terms.proofs.Laws.{table-most}
+use Rattle.sheet_format.proofs.TableLaws.{Narrow}
 use Rattle.query_facts.specs.Parts.{factBefore, inRange, most-fact-words}
 use Rattle.query_facts.proofs.Words.{not-either, zero-word, value-range, zero-range, part-slice, all-same}
 
 -- ---- a relation's columns
 
-pub columns-most : (z : ℤ) → columnsOf z ≤ 4
-unfolding columnsOf
-columns-most (pos zero) = omega arith
-columns-most (pos (suc n)) = table-most relations refl n
-columns-most (negsuc n) = omega arith
-
-columns-natural : (z : ℤ) → columnsOf z ≡ columnsOf (pos (natural z))
-unfolding columnsOf
-columns-natural (pos n) = refl
-columns-natural (negsuc n) = refl
+columns-natural : (table : Table) (z : ℤ) → columnsOf table z ≡ columnsOf table (pos (natural z))
+unfolding columnsOf relation
+columns-natural table (pos n) = refl
+columns-natural table (negsuc n) = refl
 
 -- ---- the facts of a list of words
 
@@ -97,13 +91,13 @@ module _ (ws : List ℤ) (i : ℕ) (h : i < length ws / 5) where
       ∙ ap (all isZero) (sym (ap (λ f. drop c (drop 1 f)) (fact-words ws i h) ∙ unused-words ws (5 * i) c))
 
   -- the test by the columns, the values and the unused words
-  pub wrong-told : (c : ℕ) (u v : Bool) → c ≡ columnsOf (getD ws (5 * i) (pos 0))
+  pub wrong-told : (table : Table) → Narrow table → (c : ℕ) (u v : Bool) → c ≡ columnsOf table (getD ws (5 * i) (pos 0))
       → u ≡ all (inRange (pos value-end)) (slice (5 * i + 1) (5 * i + 1 + c) ws)
       → v ≡ all (inRange (pos 1)) (slice (5 * i + 1 + c) (5 * i + 5) ws)
-      → eqb c 0 || (not u || not v) ≡ wrongFact (getD (factsIn ws) i [])
-  wrong-told c u v p q r =
-      let m : c ≤ 4 = rw p (columns-most (getD ws (5 * i) (pos 0))) in
-      let e : c ≡ columnsOf (relationOf (getD (factsIn ws) i [])) = p ∙ ap columnsOf (sym relation-word) in
+      → eqb c 0 || (not u || not v) ≡ wrongFact table (getD (factsIn ws) i [])
+  wrong-told table narrow c u v p q r =
+      let m : c ≤ 4 = rw p (narrow (getD ws (5 * i) (pos 0))) in
+      let e : c ≡ columnsOf table (relationOf (getD (factsIn ws) i [])) = p ∙ ap (columnsOf table) (sym relation-word) in
       rw (q ∙ values-told c m, r ∙ zeros-told c, e)
 
 -- ---- the order of facts
@@ -124,39 +118,39 @@ order-next ws (suc i) r n h e =
 
 -- ---- fact by fact
 
-module _ (fs : List (List ℤ)) (i : ℕ) (h : i < length fs) where
-  pub fact-wrong : wrongFact (getD fs i []) ≡ true → refusal 11 0 ≡ factByFact (factBefore fs i) (drop i fs)
+module _ (table : Table) (fs : List (List ℤ)) (i : ℕ) (h : i < length fs) where
+  pub fact-wrong : wrongFact table (getD fs i []) ≡ true → refusal 11 0 ≡ factByFact table (factBefore fs i) (drop i fs)
   unfolding factByFact
   fact-wrong e = rw (drop-next fs i [] h, e)
 
-  pub fact-low : wrongFact (getD fs i []) ≡ false → null (factBefore fs i) || above (factBefore fs i) (getD fs i []) ≡ false
-      → refusal 12 0 ≡ factByFact (factBefore fs i) (drop i fs)
+  pub fact-low : wrongFact table (getD fs i []) ≡ false → null (factBefore fs i) || above (factBefore fs i) (getD fs i []) ≡ false
+      → refusal 12 0 ≡ factByFact table (factBefore fs i) (drop i fs)
   unfolding factByFact
   fact-low e g = rw (drop-next fs i [] h, e, not-either (null (factBefore fs i)) (above (factBefore fs i) (getD fs i [])), g)
 
-  pub fact-goes : wrongFact (getD fs i []) ≡ false → null (factBefore fs i) || above (factBefore fs i) (getD fs i []) ≡ true
-      → factByFact (factBefore fs (i + 1)) (drop (i + 1) fs) ≡ factByFact (factBefore fs i) (drop i fs)
+  pub fact-goes : wrongFact table (getD fs i []) ≡ false → null (factBefore fs i) || above (factBefore fs i) (getD fs i []) ≡ true
+      → factByFact table (factBefore fs (i + 1)) (drop (i + 1) fs) ≡ factByFact table (factBefore fs i) (drop i fs)
   unfolding factByFact
   fact-goes e g =
       rw (drop-next fs i [] h, e, not-either (null (factBefore fs i)) (above (factBefore fs i) (getD fs i [])), g)
-      (ap (λ n. factByFact (factBefore fs n) (drop (i + 1) fs)) (add-one i))
+      (ap (λ n. factByFact table (factBefore fs n) (drop (i + 1) fs)) (add-one i))
 
-pub facts-end : (fs : List (List ℤ)) (i : ℕ) → length fs ≤ i → none ≡ factByFact (factBefore fs i) (drop i fs)
+pub facts-end : (table : Table) (fs : List (List ℤ)) (i : ℕ) → length fs ≤ i → none ≡ factByFact table (factBefore fs i) (drop i fs)
 unfolding factByFact
-facts-end fs i h = rw (drop-of-length-le fs h)
+facts-end table fs i h = rw (drop-of-length-le fs h)
 
 -- ---- the word count, and then fact by fact
 
-module _ (ws : List ℤ) where
-  pub count-wrong : (length ws % 5 ≡ 0 → ⊥) → refusal 11 0 ≡ factsRefusal ws
+module _ (table : Table) (ws : List ℤ) where
+  pub count-wrong : (length ws % 5 ≡ 0 → ⊥) → refusal 11 0 ≡ factsRefusal table ws
   unfolding factsRefusal
   count-wrong n = rw (ne-eqb (length ws % 5) 0 n)
 
-  pub count-over : length ws % 5 ≡ 0 → most-fact-words < length ws → refusal 12 0 ≡ factsRefusal ws
+  pub count-over : length ws % 5 ≡ 0 → most-fact-words < length ws → refusal 12 0 ≡ factsRefusal table ws
   unfolding factsRefusal
   count-over e h = rw (eq-eqb (length ws % 5) 0 e, lt-ltb most-fact-words (length ws) h)
 
-  pub count-right : length ws % 5 ≡ 0 → length ws ≤ most-fact-words → factByFact [] (factsIn ws) ≡ factsRefusal ws
+  pub count-right : length ws % 5 ≡ 0 → length ws ≤ most-fact-words → factByFact table [] (factsIn ws) ≡ factsRefusal table ws
   unfolding factsRefusal
   count-right e h = rw (eq-eqb (length ws % 5) 0 e, le-ltb most-fact-words (length ws) h)
 
@@ -166,38 +160,38 @@ pub never : {A : Type 0} {n : ℕ} → suc n ≡ 0 → A
 never e = absurd (omega arith)
 
 -- none of them is wrong
-pub by-fact-right : (b : List ℤ) (fs : List (List ℤ)) (i : ℕ) → factByFact b fs .number ≡ 0 → i < length fs → wrongFact (getD fs i []) ≡ false
+pub by-fact-right : (table : Table) (b : List ℤ) (fs : List (List ℤ)) (i : ℕ) → factByFact table b fs .number ≡ 0 → i < length fs → wrongFact table (getD fs i []) ≡ false
 unfolding factByFact
-by-fact-right b [] i e h = absurd (omega arith)
-by-fact-right b (f ∷ fs) i e h = go (by-fact-right f fs) (wrongFact f) refl (not (null b) && not (above b f)) i e h
+by-fact-right table b [] i e h = absurd (omega arith)
+by-fact-right table b (f ∷ fs) i e h = go (by-fact-right table f fs) (wrongFact table f) refl (not (null b) && not (above b f)) i e h
   where
-    go : ((i : ℕ) → factByFact f fs .number ≡ 0 → i < length fs → wrongFact (getD fs i []) ≡ false)
-        → (s : Bool) → wrongFact f ≡ s → (t : Bool) (i : ℕ) → cond s (refusal 11 0) (cond t (refusal 12 0) (factByFact f fs)) .number ≡ 0
-        → i < length (f ∷ fs) → wrongFact (getD (f ∷ fs) i []) ≡ false
+    go : ((i : ℕ) → factByFact table f fs .number ≡ 0 → i < length fs → wrongFact table (getD fs i []) ≡ false)
+        → (s : Bool) → wrongFact table f ≡ s → (t : Bool) (i : ℕ) → cond s (refusal 11 0) (cond t (refusal 12 0) (factByFact table f fs)) .number ≡ 0
+        → i < length (f ∷ fs) → wrongFact table (getD (f ∷ fs) i []) ≡ false
     go ih true g t i e h = never e
     go ih false g true i e h = never e
     go ih false g false zero e h = g
     go ih false g false (suc i) e h = ih i e (omega arith)
 
-pub accepted : (ws : List ℤ) → factsRefusal ws .number ≡ 0 → (length ws % 5 ≡ 0) × (factByFact [] (factsIn ws) .number ≡ 0)
+pub accepted : (table : Table) (ws : List ℤ) → factsRefusal table ws .number ≡ 0 → (length ws % 5 ≡ 0) × (factByFact table [] (factsIn ws) .number ≡ 0)
 unfolding factsRefusal
-accepted ws e = go (eqb (length ws % 5) 0) refl (ltb most-fact-words (length ws)) e
+accepted table ws e = go (eqb (length ws % 5) 0) refl (ltb most-fact-words (length ws)) e
   where
-    go : (s : Bool) → eqb (length ws % 5) 0 ≡ s → (t : Bool) → cond (not s) (refusal 11 0) (cond t (refusal 12 0) (factByFact [] (factsIn ws))) .number ≡ 0
-        → (length ws % 5 ≡ 0) × (factByFact [] (factsIn ws) .number ≡ 0)
+    go : (s : Bool) → eqb (length ws % 5) 0 ≡ s → (t : Bool) → cond (not s) (refusal 11 0) (cond t (refusal 12 0) (factByFact table [] (factsIn ws))) .number ≡ 0
+        → (length ws % 5 ≡ 0) × (factByFact table [] (factsIn ws) .number ≡ 0)
     go true g true e = never e
     go true g false e = (eqb-true (length ws % 5) 0 g, e)
     go false g t e = never e
 
 -- ---- the log
 
-pub logOf-length : (ws : List ℤ) → length (logOf ws) ≡ length ws / 5
+pub logOf-length : (table : Table) (ws : List ℤ) → length (logOf table ws) ≡ length ws / 5
 unfolding logOf
-logOf-length ws = length-map (factsIn ws) factIn ∙ facts-length ws
+logOf-length table ws = length-map (factsIn ws) (factIn table) ∙ facts-length ws
 
-pub log-at : (ws : List ℤ) (i : ℕ) → factAt (logOf ws) i ≡ factIn (getD (factsIn ws) i [])
-unfolding logOf columnsOf
-log-at ws i = List·getD-map factIn (factsIn ws) i []
+pub log-at : (table : Table) (ws : List ℤ) (i : ℕ) → factAt (logOf table ws) i ≡ factIn table (getD (factsIn ws) i [])
+unfolding logOf columnsOf relation
+log-at table ws i = List·getD-map (factIn table) (factsIn ws) i []
 
 in-at : (l : Log) (f : Fact) → In f l → (i : ℕ) × (i < length l) × (f ≡ factAt l i)
 in-at [] f e = absurd e
@@ -205,89 +199,89 @@ in-at (g ∷ l) f (inl e) = (0, omega arith, e)
 in-at (g ∷ l) f (inr e) = let (i, h, q) = in-at l f e in (suc i, omega arith, q)
 
 -- a fact has as many values as its relation columns
-row-length : (f : List ℤ) → length f ≡ 5 → length (factIn f .row) ≡ columnsOf (relationOf f)
-row-length f e =
-    let m = columns-most (relationOf f) in
+row-length : (table : Table) → Narrow table → (f : List ℤ) → length f ≡ 5 → length (factIn table f .row) ≡ columnsOf table (relationOf f)
+row-length table narrow f e =
+    let m = narrow (relationOf f) in
     let d = length-drop 1 f in
-    length-map (used f) natural ∙ length-take (columnsOf (relationOf f)) (drop 1 f) ∙ (omega arith)
+    length-map (used table f) natural ∙ length-take (columnsOf table (relationOf f)) (drop 1 f) ∙ (omega arith)
 
 pub fact-length : (ws : List ℤ) (i : ℕ) → i < length ws / 5 → length (getD (factsIn ws) i []) ≡ 5
 fact-length ws i h = ap length (fact-words ws i h) ∙ length-slice (5 * i) (5 * i + 5) ws (omega arith) ∙ (omega arith)
 
 -- the rows fit their relations
-pub shaped-log : (ws : List ℤ) → factsRefusal ws .number ≡ 0 → ShapedLog (logOf ws)
-shaped-log ws r f m =
-    let (i, h, q) = in-at (logOf ws) f m in
-    let n = logOf-length ws in
+pub shaped-log : (table : Table) → Narrow table → (ws : List ℤ) → factsRefusal table ws .number ≡ 0 → ShapedLog table (logOf table ws)
+shaped-log table narrow ws r f m =
+    let (i, h, q) = in-at (logOf table ws) f m in
+    let n = logOf-length table ws in
     let w = getD (factsIn ws) i [] in
-    let e : f ≡ factIn w = q ∙ log-at ws i in
-    let l = row-length w (fact-length ws i (omega arith)) in
-    rw e (l ∙ columns-natural (relationOf w), rw l (columns-most (relationOf w)))
+    let e : f ≡ factIn table w = q ∙ log-at table ws i in
+    let l = row-length table narrow w (fact-length ws i (omega arith)) in
+    rw e (l ∙ columns-natural table (relationOf w), rw l (narrow (relationOf w)))
 
 -- ---- the log in plain numbers
 
 -- a column's word is its value, in an unused column too
-pub value-at : (f : List ℤ) → length f ≡ 5 → wrongFact f ≡ false → (c : ℕ) → c < 4 → getD f (1 + c) (pos 0) ≡ getD (used f) c (pos 0)
-value-at f e w c h = go (ltb c n) refl
+pub value-at : (table : Table) (f : List ℤ) → length f ≡ 5 → wrongFact table f ≡ false → (c : ℕ) → c < 4 → getD f (1 + c) (pos 0) ≡ getD (used table f) c (pos 0)
+value-at table f e w c h = go (ltb c n) refl
   where
     n : ℕ
-    n = columnsOf (relationOf f)
+    n = columnsOf table (relationOf f)
 
-    zeros : all isZero (unused f) ≡ true
-    zeros = not-false _ (neither (not (all isValue (used f))) _ (neither (eqb n 0) _ w .1) .1)
+    zeros : all isZero (unused table f) ≡ true
+    zeros = not-false _ (neither (not (all isValue (used table f))) _ (neither (eqb n 0) _ w .1) .1)
 
-    go : (t : Bool) → ltb c n ≡ t → getD f (1 + c) (pos 0) ≡ getD (used f) c (pos 0)
+    go : (t : Bool) → ltb c n ≡ t → getD f (1 + c) (pos 0) ≡ getD (used table f) c (pos 0)
     go true q = sym (getD-take n (drop 1 f) c (pos 0) (ltb-true c n q) ∙ getD-drop 1 f c (pos 0))
     go false q =
         let k = ltb-false c n q in
         let d = length-drop 1 f in
         let m = length-drop n (drop 1 f) in
-        let o : length (used f) ≤ c = rw (length-take n (drop 1 f)) (omega arith) in
+        let o : length (used table f) ≤ c = rw (length-take n (drop 1 f)) (omega arith) in
         let p : n + (c - n) ≡ c = omega arith in
         sym (getD-drop 1 f c (pos 0))
         ∙ ap (λ k. getD (drop 1 f) k (pos 0)) (sym p)
         ∙ sym (getD-drop n (drop 1 f) (c - n) (pos 0))
-        ∙ zero-word (getD (unused f) (c - n) (pos 0)) (all-at isZero (pos 0) (unused f) zeros (c - n) (omega arith))
-        ∙ sym (List·getD-eq-default (used f) (pos 0) o)
+        ∙ zero-word (getD (unused table f) (c - n) (pos 0)) (all-at isZero (pos 0) (unused table f) zeros (c - n) (omega arith))
+        ∙ sym (List·getD-eq-default (used table f) (pos 0) o)
 
 -- a number is that of the word in its place
 pub number-at : (ws : List ℤ) (n : ℕ) → getD (map natural ws) n 0 ≡ natural (getD ws n (pos 0))
 number-at ws n = List·getD-map natural ws n (pos 0)
 
-module _ (ws : List ℤ) (r : factsRefusal ws .number ≡ 0) where
-  log-relation : (i : ℕ) → i < length (logOf ws) → getD (map natural ws) (i * 5) 0 ≡ factAt (logOf ws) i .rel
+module _ (table : Table) (ws : List ℤ) (r : factsRefusal table ws .number ≡ 0) where
+  log-relation : (i : ℕ) → i < length (logOf table ws) → getD (map natural ws) (i * 5) 0 ≡ factAt (logOf table ws) i .rel
   log-relation i h =
-      let n = logOf-length ws in
+      let n = logOf-length table ws in
       let p : i * 5 ≡ 5 * i = omega arith in
       ap (λ k. getD (map natural ws) k 0) p
       ∙ number-at ws (5 * i)
       ∙ ap natural (sym (relation-word ws i (omega arith)))
-      ∙ ap (λ f. f .rel) (sym (log-at ws i))
+      ∙ ap (λ f. f .rel) (sym (log-at table ws i))
 
-  log-value : (i : ℕ) → i < length (logOf ws) → (c : ℕ) → c < 4 → getD (map natural ws) (i * 5 + 1 + c) 0 ≡ getD (factAt (logOf ws) i .row) c 0
+  log-value : (i : ℕ) → i < length (logOf table ws) → (c : ℕ) → c < 4 → getD (map natural ws) (i * 5 + 1 + c) 0 ≡ getD (factAt (logOf table ws) i .row) c 0
   log-value i h c l =
-      let n = logOf-length ws in
+      let n = logOf-length table ws in
       let m = facts-length ws in
       let f = getD (factsIn ws) i [] in
       let p : i * 5 + 1 + c ≡ 5 * i + (1 + c) = omega arith in
       ap (λ k. getD (map natural ws) k 0) p
       ∙ number-at ws (5 * i + (1 + c))
       ∙ ap natural (sym (ap (λ f. getD f (1 + c) (pos 0)) (fact-words ws i (omega arith)) ∙ word-at ws (5 * i) (1 + c) (omega arith)))
-      ∙ ap natural (value-at f (fact-length ws i (omega arith)) (by-fact-right [] (factsIn ws) i (accepted ws r .1) (omega arith)) c l)
-      ∙ sym (number-at (used f) c)
-      ∙ ap (λ f. getD (f .row) c 0) (sym (log-at ws i))
+      ∙ ap natural (value-at table f (fact-length ws i (omega arith)) (by-fact-right table [] (factsIn ws) i (accepted table ws r .1) (omega arith)) c l)
+      ∙ sym (number-at (used table f) c)
+      ∙ ap (λ f. getD (f .row) c 0) (sym (log-at table ws i))
 
-  fact-numbers : FactNumbers (map natural ws) (logOf ws)
+  fact-numbers : FactNumbers (map natural ws) (logOf table ws)
   fact-numbers = record {
-    count = length-map ws natural ∙ (let n = logOf-length ws in let m = accepted ws r .0 in omega arith);
+    count = length-map ws natural ∙ (let n = logOf-length table ws in let m = accepted table ws r .0 in omega arith);
     relation = log-relation;
     values = log-value;
   }
 
 -- all words are read
-pub numbers-read : (ws : List ℤ) (ns : List ℕ) (i : ℕ) → i ≡ length ws → take i ns ≡ map natural (take i ws) → factsRefusal ws .number ≡ 0
-    → FactNumbers (take (length ws) ns) (logOf ws)
-numbers-read ws ns i e q r = rw (← e, q, take-all i ws (omega arith)) (fact-numbers ws r)
+pub numbers-read : (table : Table) (ws : List ℤ) (ns : List ℕ) (i : ℕ) → i ≡ length ws → take i ns ≡ map natural (take i ws) → factsRefusal table ws .number ≡ 0
+    → FactNumbers (take (length ws) ns) (logOf table ws)
+numbers-read table ws ns i e q r = rw (← e, q, take-all i ws (omega arith)) (fact-numbers table ws r)
 
 -- ---- values of accepted facts
 
@@ -297,19 +291,19 @@ in-values (pos n ∷ l) h v (inl e) = let q = ltb-true n value-end (and-left (lt
 in-values (pos n ∷ l) h v (inr m) = in-values l (and-right (ltb n value-end) (all isValue l) h) v m
 in-values (negsuc n ∷ l) h v m = no-way h
 
-right-values : (f : List ℤ) → wrongFact f ≡ false → all isValue (used f) ≡ true
-right-values f e = go (eqb (columnsOf (relationOf f)) 0) (all isValue (used f)) (all isZero (unused f)) e
+right-values : (table : Table) (f : List ℤ) → wrongFact table f ≡ false → all isValue (used table f) ≡ true
+right-values table f e = go (eqb (columnsOf table (relationOf f)) 0) (all isValue (used table f)) (all isZero (unused table f)) e
   where
     go : (a b c : Bool) → (a || (not b || not c)) ≡ false → b ≡ true
     go true b c h = no-way (sym h)
     go false true c h = refl
     go false false c h = no-way (sym h)
 
-pub log-small : (ws : List ℤ) → factsRefusal ws .number ≡ 0 → (f : Fact) → In f (logOf ws) → (v : ℕ) → In v (f .row) → v < value-end
-log-small ws h f m v i =
-    let (k, lt, e) = in-at (logOf ws) f m in
-    let n = logOf-length ws in
+pub log-small : (table : Table) (ws : List ℤ) → factsRefusal table ws .number ≡ 0 → (f : Fact) → In f (logOf table ws) → (v : ℕ) → In v (f .row) → v < value-end
+log-small table ws h f m v i =
+    let (k, lt, e) = in-at (logOf table ws) f m in
+    let n = logOf-length table ws in
     let l = facts-length ws in
     let g = getD (factsIn ws) k [] in
-    let r = by-fact-right [] (factsIn ws) k (accepted ws h .1) (omega arith) in
-    in-values (used g) (right-values g r) v (subst (λ x. In v (x .row)) (e ∙ log-at ws k) i)
+    let r = by-fact-right table [] (factsIn ws) k (accepted table ws h .1) (omega arith) in
+    in-values (used table g) (right-values table g r) v (subst (λ x. In v (x .row)) (e ∙ log-at table ws k) i)

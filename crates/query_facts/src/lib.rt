@@ -9,6 +9,7 @@ ghost use mathlib.Core.List.{[]};
 ghost use Prim.Native.Nat.{_+_, _/_, _≤_, _<_};
 ghost use lib.ListN.{length, getD, take};
 ghost use lib.Seq.{slice};
+ghost use Rattle.sheet_format.specs.Table.{Table, tableIn};
 ghost use Rattle.sheet_format.specs.Cause.{above};
 ghost use Rattle.sheet_format.specs.Line.{all, natural, null};
 ghost use Rattle.query_meaning.specs.Facts.{fact-words, factByFact, factsIn, factsRefusal, logOf, wrongFact};
@@ -45,12 +46,12 @@ fn all_in_range(fs: &[i32], from: usize, to: usize, end: i32) -> bool
 }
 
 // Fact i has a wrong relation, value or unused word.
-fn is_wrong(fs: &[i32], i: usize) -> bool
+fn is_wrong(table: &[usize], fs: &[i32], i: usize) -> bool
     requires { ⌜ i < length (now fs) / fact-words ⌝ }
-    ensures { λ r. ⌜ r ≡ wrongFact (getD (factsIn (now (fs .entry))) i []) ⌝ }
+    ensures { λ r. ⌜ r ≡ wrongFact (tableIn (now (table .entry))) (getD (factsIn (now (fs .entry))) i []) ⌝ }
 {
     let at = FACT_WORDS * i;
-    let columns = sheet_terms::columns(fs[at]);
+    let columns = sheet_terms::columns(table, fs[at]);
     if columns == 0 {
         return true;
     }
@@ -95,13 +96,13 @@ fn in_order(fs: &[i32], i: usize) -> bool
 }
 
 // The refusal of the first fact that has a cause.
-fn by_facts(fs: &[i32]) -> Refusal
-    ensures { λ r. ⌜ r ≡ factByFact [] (factsIn (now (fs .entry))) ⌝ }
+fn by_facts(table: &[usize], fs: &[i32]) -> Refusal
+    ensures { λ r. ⌜ r ≡ factByFact (tableIn (now (table .entry))) [] (factsIn (now (fs .entry))) ⌝ }
 {
     let n = fs.len() / FACT_WORDS;
     let mut i = 0;
     while i < n {
-        if is_wrong(fs, i) {
+        if is_wrong(table, fs, i) {
             return Refusal {
                 number: BAD_FACT,
                 line: 0,
@@ -118,9 +119,9 @@ fn by_facts(fs: &[i32]) -> Refusal
     Refusal { number: 0, line: 0 }
 }
 
-// Why facts are sent back: the word count, then fact by fact.
-pub fn refusal(fs: &[i32]) -> Refusal
-    ensures { λ r. ⌜ r ≡ factsRefusal (now (fs .entry)) ⌝ }
+// Why facts are sent back, by a table of relations: the word count, then fact by fact.
+pub fn refusal(table: &[usize], fs: &[i32]) -> Refusal
+    ensures { λ r. ⌜ r ≡ factsRefusal (tableIn (now (table .entry))) (now (fs .entry)) ⌝ }
 {
     if fs.len() % FACT_WORDS != 0 {
         return Refusal {
@@ -134,12 +135,12 @@ pub fn refusal(fs: &[i32]) -> Refusal
             line: 0,
         };
     }
-    by_facts(fs)
+    by_facts(table, fs)
 }
 
-// Accepted facts as plain numbers, in the first fs.len() of the given ones. Nothing is written where those are too few.
+// Facts that a table accepts as plain numbers, in the first fs.len() of the given ones. Nothing is written where those are too few.
 pub fn numbers(fs: &[i32], ns: &mut [usize])
-    ensures { λ r. ⌜ (factsRefusal (now (fs .entry)) .number ≡ 0 → length (now (fs .entry)) ≤ length (now (ns .entry)) → FactNumbers (take (length (now (fs .entry))) (now (ns .exit))) (logOf (now (fs .entry)))) ⌝ }
+    ensures { λ r. ⌜ ((t : Table) → factsRefusal t (now (fs .entry)) .number ≡ 0 → length (now (fs .entry)) ≤ length (now (ns .entry)) → FactNumbers (take (length (now (fs .entry))) (now (ns .exit))) (logOf t (now (fs .entry)))) ⌝ }
     ensures { λ r. ⌜ (length (now (ns .entry)) < length (now (fs .entry)) → now (ns .exit) ≡ now (ns .entry)) ⌝ }
 {
     if ns.len() < fs.len() {

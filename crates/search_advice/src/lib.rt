@@ -250,16 +250,24 @@ fn facts_to_test(relation: usize, trial: bool, bits: &[u64; BITS]) -> [u64; FACT
 }
 
 // Two facts that clash in a key; in a trial one of them changed, and nothing can mend it.
-fn clash(trial: bool, bd: &[u32; BOARD], bits: &[u64; BITS]) -> Advice {
+fn clash(p: &[usize; PLAN_NUMBERS], trial: bool, bd: &[u32; BOARD], bits: &[u64; BITS]) -> Advice {
     let keyed = search_board::get(bd, KEYED) as u64;
-    let mut relation = search_board::next_digit(keyed, 0);
-    while relation < 64 {
+    let mut digit = search_board::next_digit(keyed, 0);
+    while digit < 64 {
+        let relation = digit + 1;
         let of = facts_to_test(relation, trial, bits);
-        let a = clash_of(relation, sheet_terms::key(relation), &of, trial, bd, bits);
+        let a = clash_of(
+            relation,
+            tableau_parts::key_of(p, relation),
+            &of,
+            trial,
+            bd,
+            bits,
+        );
         if a.kind != NOTHING {
             return a;
         }
-        relation = search_board::next_digit(keyed, relation + 1);
+        digit = search_board::next_digit(keyed, relation);
     }
     nothing()
 }
@@ -297,7 +305,7 @@ fn is_refuted(
             return true;
         }
     }
-    let key = clash(true, bd, bits);
+    let key = clash(p, true, bd, bits);
     if key.kind != NOTHING {
         let at = key.at;
         search_board::put(bd, BY_LIST, BY_KEY);
@@ -726,7 +734,7 @@ fn advise_row(
         [0; 4]
     };
     search_fold::fold(p, ws, from, &fixed, all, bd, bits);
-    let key = clash(false, bd, bits);
+    let key = clash(p, false, bd, bits);
     if key.kind != NOTHING {
         search_board::put(bd, LINKS, 1);
         return key;

@@ -9,6 +9,7 @@ use query_layout::NAMES;
 use search_nogoods::MOST_VALUES;
 use search_slots::SET_WORDS;
 use sheet_format::MOST_ATOMS;
+use sheet_format::MOST_RELATIONS;
 use sheet_format::MOST_VIEWS;
 use tableau_layout::MOST_BLOCKS;
 use tableau_layout::PLAN_NUMBERS;
@@ -26,7 +27,7 @@ pub const FACT_WORDS: usize = TABLEAU_ATOMS / 64 + 1;
 pub const FACT_END: usize = FACT_WORDS * 64;
 
 // One past the last relation.
-pub const RELATIONS: usize = 11;
+pub const RELATIONS: usize = MOST_RELATIONS + 1;
 
 // Rows that are kept, and where each of them may be found again by its values.
 pub const MOST_KEPT: usize = 512;
@@ -83,7 +84,7 @@ pub const TRY_COUNT: usize = FELL_ROW + 1;
 
 pub const TRY_KEPT: usize = FELL_ROW + 2;
 
-// As digits, the relations with a key that have atoms; whether a key has made slots share a value.
+// As digits, the relations with a key that have atoms, counted from 0; whether a key has made slots share a value.
 pub const KEYED: usize = FELL_ROW + 3;
 
 pub const LINKS: usize = FELL_ROW + 4;
@@ -891,13 +892,16 @@ fn note_slot(t: usize, i: usize, bd: &mut [u32; BOARD]) {
     }
 }
 
-// Notes that a relation with a key has an atom.
-fn note_key(relation: usize, bd: &mut [u32; BOARD]) {
-    if sheet_terms::key(relation) == 0 {
+// Notes that a relation with a key has an atom. Relations are counted from 0 there, so that the last has a digit too.
+fn note_key(p: &[usize; PLAN_NUMBERS], relation: usize, bd: &mut [u32; BOARD]) {
+    if tableau_parts::key_of(p, relation) == 0 {
+        return;
+    }
+    if relation == 0 {
         return;
     }
     let set = get(bd, KEYED) as u64;
-    put(bd, KEYED, (set | bit(relation)) as usize);
+    put(bd, KEYED, (set | bit(relation - 1)) as usize);
 }
 
 // Notes atom i's relation, its slots, and that it counts.
@@ -913,7 +917,7 @@ fn note_atom(
         return;
     }
     put(bd, i * FACT_NUMBERS, r);
-    note_key(r, bd);
+    note_key(p, r, bd);
     set_bit(bits, share_of(0, 0), i);
     set_bit(bits, share_of(1, 0), i);
     set_bit(bits, share_of(2, 0), i);

@@ -8,10 +8,9 @@ use native.Mathlib.Nat.{add-zero}
 use native.Mathlib.Omega.{arith}
 use lib.ListN.{length, getD}
 use Rattle.list_laws.proofs.Order.{less?}
-use Rattle.sheet_format.specs.Relations.{keyOf}
 use Rattle.case_verdicts.specs.Sheets.{top}
 use Rattle.case_verdicts.specs.Tableau.{State}
-use Rattle.tableau_plan.specs.Plan.{slotValue, tableauAt}
+use Rattle.tableau_plan.specs.Plan.{keyIn, slotValue, tableauAt}
 use Rattle.search_slots.specs.Slots.{SetWithin}
 use Rattle.search_links.specs.Links.{valueUnder}
 use Rattle.search_reasons.specs.Reasons.{Obeys, WayMarked}
@@ -124,7 +123,7 @@ row-still {p} {ws} {i} {key} {old} {set} {more} {row} m w = record {
   reads = λ c lt h t o. m .reads c lt h t (obeys-less t ws set more w o);
 }
 
-pub clash-shown : (p ws : List ℕ) (i k key : ℕ) {s0 s1 s2 s3 u v : List ℕ} → key ≡ keyOf (tableauAt p i 0) → KeyMarked p ws i k key s0 s1 → RowMarked p ws i key s1 s2 u → RowMarked p ws k key s2 s3 v
+pub clash-shown : (p ws : List ℕ) (i k key : ℕ) {s0 s1 s2 s3 u v : List ℕ} → key ≡ keyIn p (tableauAt p i 0) → KeyMarked p ws i k key s0 s1 → RowMarked p ws i key s1 s2 u → RowMarked p ws k key s2 s3 v
     → ClashShown p ws i k s3 u v
 clash-shown p ws i k key {s0} {s1} {s2} {s3} {u} {v} e m a b = record {
   first = λ c lt same t o. m .reads c (subst (λ n. c < n) (sym e) lt) same t (obeys-less t ws s1 s2 (a .more) (obeys-less t ws s2 s3 (b .more) o));

@@ -4,10 +4,9 @@ use mathlib.Core.Bool.{Bool, true, false}
 use mathlib.Core.List.{List}
 use Prim.Native.Nat.{ℕ, _+_, _<_, _≤_}
 use lib.ListN.{length, getD}
-use Rattle.sheet_format.specs.Relations.{keyOf}
 use Rattle.case_verdicts.specs.Sheets.{top}
 use Rattle.case_verdicts.specs.Tableau.{State}
-use Rattle.tableau_plan.specs.Plan.{slotValue, tableauAt}
+use Rattle.tableau_plan.specs.Plan.{keyIn, slotValue, tableauAt}
 use Rattle.search_slots.specs.Slots.{SetWithin}
 use Rattle.search_links.specs.Links.{placeRoot, valueUnder}
 use Rattle.search_reasons.specs.Reasons.{Obeys, Place}
@@ -33,8 +32,8 @@ OneBy false p ws i k n = OneIn p ws i k n → ⊥
 -- they are of one relation, have the same values in its key, and others in the rest
 pub record ClashAt (p ws : List ℕ) (i k : ℕ) : Type 0 where
   pub relation : tableauAt p i 0 ≡ tableauAt p k 0
-  pub some : 0 < keyOf (tableauAt p i 0)
-  pub first : OneIn p ws i k (keyOf (tableauAt p i 0))
+  pub some : 0 < keyIn p (tableauAt p i 0)
+  pub first : OneIn p ws i k (keyIn p (tableauAt p i 0))
   pub differ : OneIn p ws i k 4 → ⊥
 
 -- where they have one value in column c, they have it in every state that obeys the set
@@ -66,6 +65,6 @@ pub record RowMarked (p ws : List ℕ) (i key : ℕ) (old set row : List ℕ) : 
 
 -- the two rows that have to become one, and the set by which the atoms are alike in the key
 pub record ClashShown (p ws : List ℕ) (i k : ℕ) (set u v : List ℕ) : Type 0 where
-  pub first : (c : ℕ) → c < keyOf (tableauAt p i 0) → KeyReads p ws i k c set
-  pub left : RowMarked p ws i (keyOf (tableauAt p i 0)) set set u
-  pub right : RowMarked p ws k (keyOf (tableauAt p i 0)) set set v
+  pub first : (c : ℕ) → c < keyIn p (tableauAt p i 0) → KeyReads p ws i k c set
+  pub left : RowMarked p ws i (keyIn p (tableauAt p i 0)) set set u
+  pub right : RowMarked p ws k (keyIn p (tableauAt p i 0)) set set v

@@ -40,15 +40,15 @@ fn are_alike(facts: &[usize], i: usize, k: usize, n: usize) -> bool
 }
 
 // Whether facts i and k are alike in their relation's key and not in all columns.
-fn is_clash(facts: &[usize], i: usize, k: usize) -> bool
+fn is_clash(p: &[usize; PLAN_NUMBERS], facts: &[usize], i: usize, k: usize) -> bool
     requires { ⌜ (i < length (now facts) / 5) × (k < length (now facts) / 5) ⌝ }
-    ensures { λ r. ⌜ ClashBy r (now (facts .entry)) i k ⌝ }
+    ensures { λ r. ⌜ ClashBy r (now (p .entry)) (now (facts .entry)) i k ⌝ }
 {
     let relation = facts[i * FACT_NUMBERS];
     if relation != facts[k * FACT_NUMBERS] {
         return false;
     }
-    let key = sheet_terms::key(relation);
+    let key = tableau_parts::key_of(p, relation);
     if key == 0 {
         return false;
     }
@@ -59,14 +59,14 @@ fn is_clash(facts: &[usize], i: usize, k: usize) -> bool
 }
 
 // The first fact after fact i that clashes with it; how many facts there are if none does.
-fn clashing(facts: &[usize], i: usize) -> usize
+fn clashing(p: &[usize; PLAN_NUMBERS], facts: &[usize], i: usize) -> usize
     requires { ⌜ i < length (now facts) / 5 ⌝ }
-    ensures { λ r. ⌜ ClashingFact (now (facts .entry)) i r ⌝ }
+    ensures { λ r. ⌜ ClashingFact (now (p .entry)) (now (facts .entry)) i r ⌝ }
 {
     let m = facts.len() / FACT_NUMBERS;
     let mut k = i + 1;
     while k < m {
-        if is_clash(facts, i, k) {
+        if is_clash(p, facts, i, k) {
             return k;
         }
         k += 1;
@@ -75,13 +75,13 @@ fn clashing(facts: &[usize], i: usize) -> usize
 }
 
 // Two facts that clash, if there are any.
-pub fn first_clash(facts: &[usize]) -> Clash
-    ensures { λ r. ⌜ KeysBy (r .some) (now (facts .entry)) (r .left) (r .right) ⌝ }
+pub fn first_clash(p: &[usize; PLAN_NUMBERS], facts: &[usize]) -> Clash
+    ensures { λ r. ⌜ KeysBy (r .some) (now (p .entry)) (now (facts .entry)) (r .left) (r .right) ⌝ }
 {
     let m = facts.len() / FACT_NUMBERS;
     let mut i = 0;
     while i < m {
-        let k = clashing(facts, i);
+        let k = clashing(p, facts, i);
         if k < m {
             return Clash {
                 some: true,
@@ -137,7 +137,7 @@ pub fn are_clashing(p: &[usize; PLAN_NUMBERS], ws: &[usize; SLOTS], i: usize, k:
     if relation != p[k * FACT_NUMBERS] {
         return false;
     }
-    let key = sheet_terms::key(relation);
+    let key = tableau_parts::key_of(p, relation);
     if key == 0 {
         return false;
     }
@@ -252,7 +252,7 @@ pub fn show(
             right: [0; 4],
         };
     }
-    let key = sheet_terms::key(p[i * FACT_NUMBERS]);
+    let key = tableau_parts::key_of(p, p[i * FACT_NUMBERS]);
     mark_key(p, ws, i, k, key, set);
     let left = mark_row(p, ws, i, key, set);
     let right = mark_row(p, ws, k, key, set);

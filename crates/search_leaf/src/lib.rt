@@ -127,7 +127,7 @@ fn is_clean(p: &[usize; PLAN_NUMBERS], goal: Goal, ws: &[usize; SLOTS], facts: &
     if is_answered(p, goal, ws, facts) {
         return false;
     }
-    let clash = search_keys::first_clash(facts);
+    let clash = search_keys::first_clash(p, facts);
     if clash.some {
         return false;
     }
@@ -159,11 +159,11 @@ pub fn is_given(p: &[usize; PLAN_NUMBERS], goal: Goal, ws: &[usize; SLOTS]) -> b
 
 // Two facts of the state that clash in a key, if there are any.
 pub fn first_clash(p: &[usize; PLAN_NUMBERS], goal: Goal, ws: &[usize; SLOTS]) -> Clash
-    ensures { λ r. ⌜ ((x : Sheet) → ReadyPlan (now (p .entry)) x → length (now (ws .entry)) ≡ slot-end → KeysBy (r .some) (numbersOf goal (now (p .entry)) (stateOf top (now (ws .entry)))) (r .left) (r .right)) ⌝ }
+    ensures { λ r. ⌜ ((x : Sheet) → ReadyPlan (now (p .entry)) x → length (now (ws .entry)) ≡ slot-end → KeysBy (r .some) (now (p .entry)) (numbersOf goal (now (p .entry)) (stateOf top (now (ws .entry)))) (r .left) (r .right)) ⌝ }
 {
     let mut room = [0; TABLEAU_NUMBERS];
     let n = write_facts(p, goal, ws, &mut room);
-    search_keys::first_clash(&room[..n * FACT_NUMBERS])
+    search_keys::first_clash(p, &room[..n * FACT_NUMBERS])
 }
 
 // The first stray row that the facts of the state give a view, if there is one, and the places of facts that give it.

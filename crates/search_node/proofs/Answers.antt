@@ -32,7 +32,7 @@ module _ (y : Sheet) (ok : FineSheet top y) (few : length (jobs y) ≤ most-copi
       go (con c) fine k lt e = subst P (sym e) (constants c fine)
       go (var z) fine k lt e = subst P (sym e) (slots (k * names + z) (omega arith))
 
-  answer-value : (b : Block) → FineBlock top (y .table) b → Shaped b → (t : List ℕ) → Answer (tableauLog y s) b t → (n : ℕ) → In n t → P n
+  answer-value : (b : Block) → FineBlock top (y .table) b → Shaped (y .table) b → (t : List ℕ) → Answer (tableauLog y s) b t → (n : ℕ) → In n t → P n
   answer-value b fine sh t a n m =
       let (u, i, e) = map-in (value (a .val)) n (b .head) (subst (λ l. In n l) (sym (a .gives)) m) in
       go u i (fine .head u i) e
@@ -43,7 +43,7 @@ module _ (y : Sheet) (ok : FineSheet top y) (few : length (jobs y) ≤ most-copi
           let (q, j, k) = sh .safe z i in
           subst P (sym e) (fact-value (factOf (a .val) q) (a .holds q j) (a .val z) (in-map (value (a .val)) (var z) (q .terms) k))
 
-  pub padded-values : (b : Block) → FineBlock top (y .table) b → Shaped b → (t : List ℕ) → Answer (tableauLog y s) b t → (n : ℕ) → In n (padded t) → P n
+  pub padded-values : (b : Block) → FineBlock top (y .table) b → Shaped (y .table) b → (t : List ℕ) → Answer (tableauLog y s) b t → (n : ℕ) → In n (padded t) → P n
   padded-values b fine sh t a n m = go t (λ k i. answer-value b fine sh t a k i) m
     where
       go : (l : List ℕ) → ((k : ℕ) → In k l → P k) → In n (l ++ replicate (4 - length t) 0) → P n

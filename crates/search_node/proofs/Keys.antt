@@ -5,18 +5,18 @@ use mathlib.Core.Logic.{_⊎_, inl, inr, ⊎-elim}
 use Prim.Native.Nat.{ℕ, _+_, _-_, _*_, _/_, _<_, _≤_}
 use native.Mathlib.Omega.{arith}
 use lib.IntN.{pos}
-use lib.ListN.{length, getD}
+use lib.ListN.{length, drop, getD}
 use Rattle.list_laws.proofs.Order.{less?}
-use Rattle.sheet_format.specs.Relations.{columnsOf, keyOf}
-use Rattle.sheet_terms.proofs.Laws.{key-few}
-use Rattle.tableau_layout.specs.Layout.{slot-end, tableau-atoms}
+use Rattle.sheet_format.specs.Table.{columnsOf}
+use Rattle.sheet_terms.proofs.Laws.{key-most}
+use Rattle.tableau_layout.specs.Layout.{slot-end, table-at, tableau-atoms}
 use Rattle.query_meaning.specs.Meaning.{In}
 use Rattle.query_encoding.proofs.Lists.{in-at}
 use Rattle.case_verdicts.specs.Verdict.{Sheet}
 use Rattle.case_verdicts.specs.Sheets.{top}
 use Rattle.case_verdicts.specs.Tableau.{State, Good}
 use Rattle.case_verdicts.specs.Search.{Met, equations}
-use Rattle.tableau_plan.specs.Plan.{slotValue, tableauAt, tableauSize}
+use Rattle.tableau_plan.specs.Plan.{keyIn, slotValue, tableauAt, tableauSize}
 use Rattle.tableau_plan.proofs.Tableau.{tableau-length, tableau-relation, tableau-term}
 use Rattle.search_task.specs.Task.{ReadyPlan, sheetBy, fromBy, numbersOf}
 use Rattle.search_task.specs.declared.Goal.{Goal}
@@ -49,18 +49,18 @@ module _ (p : List ℕ) (x : Sheet) (r : ReadyPlan p x) (goal : Goal) where
   many : (s : State) → length (numbersOf goal p s) / 5 ≡ tableauSize p - fromBy goal p
   many s = let l = tableau-length p s (fromBy goal p) (tableauSize p - fromBy goal p) in omega arith
 
-  pub clash-few : (ws : List ℕ) (i k : ℕ) → KeyClash (numbersOf goal p (linkedState top ws)) i k → (fromBy goal p + i < tableau-atoms) × (fromBy goal p + k < tableau-atoms)
+  pub clash-few : (ws : List ℕ) (i k : ℕ) → KeyClash p (numbersOf goal p (linkedState top ws)) i k → (fromBy goal p + i < tableau-atoms) × (fromBy goal p + k < tableau-atoms)
   clash-few ws i k h = let m = many (linkedState top ws) in let few = r .plan .few in let a = h .left in let b = h .right in (omega arith, omega arith)
 
   -- ---- facts of the state that clash are atoms that do
 
-  pub clash-atoms : (ws : List ℕ) (i k : ℕ) → KeyClash (numbersOf goal p (linkedState top ws)) i k → AtomsOf goal p (fromBy goal p + i) (fromBy goal p + k) × ClashAt p ws (fromBy goal p + i) (fromBy goal p + k)
+  pub clash-atoms : (ws : List ℕ) (i k : ℕ) → KeyClash p (numbersOf goal p (linkedState top ws)) i k → AtomsOf goal p (fromBy goal p + i) (fromBy goal p + k) × ClashAt p ws (fromBy goal p + i) (fromBy goal p + k)
   clash-atoms ws i k h = (
     record { left = (omega arith, li); right = (omega arith, lk) },
     record {
       relation = rel;
-      some = subst (λ n. 0 < keyOf n) (sym (relation i li)) (h .key .some);
-      first = λ c lt. let few = key-few (tableauAt p (fromBy goal p + i) 0) in one c (omega arith) (h .key .first c (subst (λ n. c < keyOf n) (relation i li) lt));
+      some = subst (λ n. 0 < keyIn p n) (sym (relation i li)) (h .key .some);
+      first = λ c lt. let few = key-most (drop table-at p) (tableauAt p (fromBy goal p + i) 0) in one c (omega arith) (h .key .first c (subst (λ n. c < keyIn p n) (relation i li) lt));
       differ = λ all. h .differ (λ c lt. value i li c lt ∙ all c lt ∙ sym (value k lk c lt));
     },
   )
@@ -88,20 +88,20 @@ module _ (p : List ℕ) (x : Sheet) (r : ReadyPlan p x) (goal : Goal) where
 
   module _ (ws : List ℕ) (w : Wordly x (sheetBy goal x) ws) (i k : ℕ) (of : AtomsOf goal p i k) (clash : ClashAt p ws i k) (set u v : List ℕ) (shown : ClashShown p ws i k set u v) where
     abbrev key : ℕ
-    key = keyOf (tableauAt p i 0)
+    key = keyIn p (tableauAt p i 0)
 
     -- a good state that obeys the set has one row for both
     one-row : (t : State) → Good (sheetBy goal x) t → Obeys t ws set → (c : ℕ) → c < 4 → slotValue t (placeAt p i c) ≡ slotValue t (placeAt p k c)
     one-row t good o c lc =
         sym (value-of t i (of .left .0) (of .left .1) c lc) ∙ alike c lc ∙ value-of t k (of .right .0) (of .right .1) c lc
       where
-        same : SameKeyAt (numbersOf goal p t) (i - fromBy goal p) (k - fromBy goal p)
+        same : SameKeyAt p (numbersOf goal p t) (i - fromBy goal p) (k - fromBy goal p)
         same = record {
           relation = relation-of t i (of .left .0) (of .left .1) ∙ clash .relation ∙ sym (relation-of t k (of .right .0) (of .right .1));
-          some = subst (λ n. 0 < keyOf n) (sym (relation-of t i (of .left .0) (of .left .1))) (clash .some);
+          some = subst (λ n. 0 < keyIn p n) (sym (relation-of t i (of .left .0) (of .left .1))) (clash .some);
           first = λ d lt.
-              let ld : d < key = subst (λ n. d < keyOf n) (relation-of t i (of .left .0) (of .left .1)) lt in
-              let few : d < 4 = let f = key-few (tableauAt p i 0) in omega arith in
+              let ld : d < key = subst (λ n. d < keyIn p n) (relation-of t i (of .left .0) (of .left .1)) lt in
+              let few : d < 4 = let f = key-most (drop table-at p) (tableauAt p i 0) in omega arith in
               value-of t i (of .left .0) (of .left .1) d few ∙ shown .first d ld (clash .first d ld) t o ∙ sym (value-of t k (of .right .0) (of .right .1) d few);
         }
 
@@ -112,7 +112,7 @@ module _ (p : List ℕ) (x : Sheet) (r : ReadyPlan p x) (goal : Goal) where
             let b = of .left .1 in
             let d = of .right .0 in
             let e = of .right .1 in
-            keys-made-one (ready-task p x r goal .plain) (ready-facts p x r goal t) (shaped-log p x (sheetBy goal x) (r .plan) (ready-task p x r goal) t (numbersOf goal p t) (ready-facts p x r goal t)) (good .keyed)
+            keys-made-one p (ready-task p x r goal .plain) (ready-facts p x r goal t) (shaped-log p x (sheetBy goal x) (r .plan) (ready-task p x r goal) t (numbersOf goal p t) (ready-facts p x r goal t)) (good .keyed)
             (i - fromBy goal p) (k - fromBy goal p) (omega arith) (omega arith) same
 
     made : (t : State) → Good (sheetBy goal x) t → Obeys t ws set → Met (valueUnder top t) (equations u v)
@@ -135,7 +135,7 @@ module _ (p : List ℕ) (x : Sheet) (r : ReadyPlan p x) (goal : Goal) where
         (λ le. subst (RootValue top ws) (sym (m .rest c four le)) (place-root top ws (w .linked) (w .size) (placeAt p j c) (λ past. let h = term-place p x r j lj c four in omega arith)))
         (less? c key))
 
-    stands : (j : ℕ) → j < tableauSize p → (c : ℕ) → c < 4 → c < columnsOf (pos (tableauAt p j 0)) → Standing x (endAt p ws j c)
+    stands : (j : ℕ) → j < tableauSize p → (c : ℕ) → c < 4 → c < columnsOf (x .table) (pos (tableauAt p j 0)) → Standing x (endAt p ws j c)
     stands j lj c lc few = ⊎-elim
         (λ h. subst (Standing x) (sym (place-slot top ws (placeAt p j c) h)) (slot-stands x ws (λ n l. let z = w .size in w .stood n (omega arith)) (placeAt p j c) h))
         (λ h. subst (Standing x) (sym (place-constant top ws (placeAt p j c) h)) (constant-stands p x r j c lj lc few h))
@@ -148,7 +148,7 @@ module _ (p : List ℕ) (x : Sheet) (r : ReadyPlan p x) (goal : Goal) where
         let q = m .rest c lc le in
         let s = place-state top ws (placeAt p a c) in
         let few = column-used p x r (linkedState top ws) a c la lc (omega arith) in
-        subst (Standing x) (sym (n .rest c lc le)) (stands b lb c lc (subst (λ k. c < columnsOf (pos k)) e few)))
+        subst (Standing x) (sym (n .rest c lc le)) (stands b lb c lc (subst (λ k. c < columnsOf (x .table) (pos k)) e few)))
         (less? c key)
 
     join : Joinable x ws u v

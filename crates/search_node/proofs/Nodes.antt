@@ -49,14 +49,14 @@ module _ (p : List ℕ) (x : Sheet) (r : ReadyPlan p x) {ws : List ℕ} (out : L
   pub read-stray : (b : Bool) (v : ℕ) (u : List ℕ) → b ≡ true → StrayBy b p (numbersOf goal p (stateOf top out)) v u → StrayAt p (numbersOf goal p (linkedState top ws)) v u
   read-stray b v u e s = subst (λ (t : State). StrayAt p (numbersOf goal p t) v u) same (stray-is p (numbersOf goal p (stateOf top out)) b v u e s)
 
-  pub read-clash : (b : Bool) (i k : ℕ) → b ≡ true → KeysBy b (numbersOf goal p (stateOf top out)) i k → KeyClash (numbersOf goal p (linkedState top ws)) i k
-  read-clash b i k e c = subst (λ (t : State). KeyClash (numbersOf goal p t) i k) same (some-clash (numbersOf goal p (stateOf top out)) b i k e c)
+  pub read-clash : (b : Bool) (i k : ℕ) → b ≡ true → KeysBy b p (numbersOf goal p (stateOf top out)) i k → KeyClash p (numbersOf goal p (linkedState top ws)) i k
+  read-clash b i k e c = subst (λ (t : State). KeyClash p (numbersOf goal p t) i k) same (some-clash p (numbersOf goal p (stateOf top out)) b i k e c)
 
   none-left : (b : Bool) (v : ℕ) (u : List ℕ) → b ≡ false → StrayBy b p (numbersOf goal p (stateOf top out)) v u → NoStray p (numbersOf goal p (stateOf top out))
   none-left true v u e s = absurd (true≢false e)
   none-left false v u e s = s
 
-  pub read-good : (asks goal ≡ true → GivenToList p (numbersOf goal p (stateOf top out)) (askedRow p (stateOf top out)) → ⊥) → KeysHold (numbersOf goal p (stateOf top out))
+  pub read-good : (asks goal ≡ true → GivenToList p (numbersOf goal p (stateOf top out)) (askedRow p (stateOf top out)) → ⊥) → KeysHold p (numbersOf goal p (stateOf top out))
       → (b : Bool) (v : ℕ) (u : List ℕ) → b ≡ false → StrayBy b p (numbersOf goal p (stateOf top out)) v u → StateFound x (sheetBy goal x) out
   read-good lacks keys b v u e s = record {
     good = closed p x r goal (stateOf top out) (numbersOf goal p (stateOf top out)) (ready-facts p x r goal (stateOf top out)) lacks keys (none-left b v u e s)

@@ -69,7 +69,7 @@ module _ (p : List ℕ) (x : Sheet) (r : ReadyPlan p x) (goal : Goal) (v : ℕ) 
       let y = sheetBy goal x in
       let bn = r .plan .view v lt in
       let fn = ready-facts p x r goal t in
-      given-answer bn (r .views v lt) fn (shaped-log p x y (r .plan) (ready-task p x r goal) t (numbersOf goal p t) fn)
+      given-answer bn (ready-task p x r goal .shaped v lt) fn (shaped-log p x y (r .plan) (ready-task p x r goal) t (numbersOf goal p t) fn)
       (subst (λ n. Given (blockNumbers p (view-block v)) n (numbersOf goal p t) u) (min-eq-left (bn .few)) g)
 
   view-in : In (nth (x .views) v) (sheetBy goal x .views)
@@ -145,7 +145,7 @@ module _ (p : List ℕ) (x : Sheet) (r : ReadyPlan p x) (goal : Goal) (v : ℕ) 
       roots n m =
           let (a, e, ans) = given-view (linkedState top ws) u (st .given) in
           padded-values (sheetBy goal x) (ready-task p x r goal .accepted) (jobs-few p x r goal) (linkedState top ws) (RootValue top ws) (λ k h. inl h)
-          (λ k h. slot-root top ws linked k (omega arith)) (nth (x .views) v .block) (ready-task p x r goal .accepted .views (nth (x .views) v) view-in) (r .views v lt) a ans n
+          (λ k h. slot-root top ws linked k (omega arith)) (nth (x .views) v .block) (ready-task p x r goal .accepted .views (nth (x .views) v) view-in) (ready-task p x r goal .shaped v lt) a ans n
           (subst (λ l. In n l) e m)
 
       -- what is below the state obeys its words, and takes the row's values to what they stand for

@@ -7,7 +7,7 @@ use native.Mathlib.Omega.{arith}
 use lib.IntN.{pos}
 use lib.ListN.{length, getD, List·getD-eq-default}
 use Rattle.list_laws.proofs.Order.{less?}
-use Rattle.sheet_format.specs.Relations.{columnsOf}
+use Rattle.sheet_format.specs.Table.{columnsOf}
 use Rattle.query_layout.specs.Layout.{names}
 use Rattle.tableau_layout.specs.Layout.{slot-end}
 use Rattle.query_meaning.specs.Meaning.{In, fact}
@@ -50,15 +50,15 @@ module _ (p : List ℕ) (x : Sheet) (r : ReadyPlan p x) where
       ∙ ap (λ k. slotValue s (getD p k 0)) (let q : (0 + i) * 5 + 1 + c ≡ i * 5 + (1 + c) = omega arith in q)
 
   -- it has as many as its relation has columns
-  row-long : (s : State) (i : ℕ) → i < tableauSize p → length (factAt (tableauLog x s) i .row) ≡ columnsOf (pos (tableauAt p i 0))
+  row-long : (s : State) (i : ℕ) → i < tableauSize p → length (factAt (tableauLog x s) i .row) ≡ columnsOf (x .table) (pos (tableauAt p i 0))
   row-long s i li =
       let n = count s in
       let fn = r .plan .whole s in
       shaped-log p x x (r .plan) (ready-task p x r Counterexample) s (tableauFacts p s 0 (tableauSize p)) fn (factAt (tableauLog x s) i) (here s i li) .0
-      ∙ ap (λ k. columnsOf (pos k)) (sym (fn .relation i (omega arith)) ∙ tableau-relation p s 0 (tableauSize p) i li ∙ ap (λ k. tableauAt p k 0) (let q : 0 + i ≡ i = omega arith in q))
+      ∙ ap (λ k. columnsOf (x .table) (pos k)) (sym (fn .relation i (omega arith)) ∙ tableau-relation p s 0 (tableauSize p) i li ∙ ap (λ k. tableauAt p k 0) (let q : 0 + i ≡ i = omega arith in q))
 
   -- a value that is not 0 stands in one of them
-  pub column-used : (s : State) (i c : ℕ) → i < tableauSize p → c < 4 → 0 < slotValue s (tableauAt p i (1 + c)) → c < columnsOf (pos (tableauAt p i 0))
+  pub column-used : (s : State) (i c : ℕ) → i < tableauSize p → c < 4 → 0 < slotValue s (tableauAt p i (1 + c)) → c < columnsOf (x .table) (pos (tableauAt p i 0))
   column-used s i c li lc some =
       let e = column-is s i c li lc in
       let l = row-long s i li in
@@ -66,14 +66,14 @@ module _ (p : List ℕ) (x : Sheet) (r : ReadyPlan p x) where
       omega arith
 
   -- the value of such a column, if it is no slot's
-  known-column : (s : State) (i c : ℕ) → i < tableauSize p → c < 4 → c < columnsOf (pos (tableauAt p i 0))
+  known-column : (s : State) (i c : ℕ) → i < tableauSize p → c < 4 → c < columnsOf (x .table) (pos (tableauAt p i 0))
       → Stands x (slotValue s (tableauAt p i (1 + c))) ⊎ In (slotValue s (tableauAt p i (1 + c))) (map s (slots x))
   known-column s i c li lc few =
       known-log x (r .accepted) s (factAt (tableauLog x s) i) (here s i li) (slotValue s (tableauAt p i (1 + c)))
       (subst (λ v. In v (factAt (tableauLog x s) i .row)) (column-is s i c li lc) (at-in 0 (factAt (tableauLog x s) i .row) c (let l = row-long s i li in omega arith)))
 
   -- a constant of the tableau stands, 0 in a column that the relation has
-  pub constant-stands : (i c : ℕ) → i < tableauSize p → c < 4 → c < columnsOf (pos (tableauAt p i 0)) → slot-end ≤ tableauAt p i (1 + c) → Standing x (tableauAt p i (1 + c) - slot-end)
+  pub constant-stands : (i c : ℕ) → i < tableauSize p → c < 4 → c < columnsOf (x .table) (pos (tableauAt p i 0)) → slot-end ≤ tableauAt p i (1 + c) → Standing x (tableauAt p i (1 + c) - slot-end)
   unfolding width
   constant-stands i c li lc few past =
       subst (Standing x) (constant-value (free top) (tableauAt p i (1 + c)) past) (⊎-elim (λ k. inl k) slot (known-column (free top) i c li lc few))

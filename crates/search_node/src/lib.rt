@@ -460,7 +460,7 @@ fn by_clash(
     set: &mut [u64; SET_WORDS],
     node: &mut [usize; NODE_NUMBERS],
 )
-    ensures { λ r. ⌜ ((x : Sheet) → ReadyPlan (now (p .entry)) x → Wordly x (sheetBy goal x) (now (ws .entry)) → KeyClash (numbersOf goal (now (p .entry)) (linkedState top (now (ws .entry)))) (clash .left) (clash .right) → OpenState (now (p .entry)) x (Good (sheetBy goal x)) (now (ws .entry)) (now (set .exit)) (now (node .exit))) ⌝ }
+    ensures { λ r. ⌜ ((x : Sheet) → ReadyPlan (now (p .entry)) x → Wordly x (sheetBy goal x) (now (ws .entry)) → KeyClash (now (p .entry)) (numbersOf goal (now (p .entry)) (linkedState top (now (ws .entry)))) (clash .left) (clash .right) → OpenState (now (p .entry)) x (Good (sheetBy goal x)) (now (ws .entry)) (now (set .exit)) (now (node .exit))) ⌝ }
     ensures { λ r. ⌜ length (now (set .exit)) ≡ length (now (set .entry)) ⌝ }
 {
     let from = search_task::start(p, goal);

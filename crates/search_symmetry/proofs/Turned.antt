@@ -10,6 +10,7 @@ use lib.Dec.{eqb}
 use lib.ListN.{length, getD}
 use Rattle.query_layout.specs.Layout.{block-head, block-width, names}
 use Rattle.tableau_layout.specs.Layout.{blocks-at, list-block, view-block}
+use Rattle.sheet_format.specs.Table.{Table}
 use Rattle.query_meaning.specs.Meaning.{con, var, Atom, Block, In, row}
 use Rattle.query_meaning.specs.Blocks.{View, nth}
 use Rattle.query_encoding.specs.Encoding.{BlockNumbers, Shaped, padded, termNumber, termAt}
@@ -66,7 +67,7 @@ exchange-twice p one other ex v = go (exchange-cases (rowValues p one) (rowValue
 -- ---- blocks
 
 -- a constant of a block in numbers
-still-block : (p : List ℕ) (b : ℕ) (blk : Block) (turn : ℕ → ℕ) → BlockNumbers (blockNumbers p b) (blockSize p b) blk → Shaped blk
+still-block : {table : Table} (p : List ℕ) (b : ℕ) (blk : Block) (turn : ℕ → ℕ) → BlockNumbers (blockNumbers p b) (blockSize p b) blk → Shaped table blk
     → ((k : ℕ) → k < block-width → (k / 5 < blockSize p b) ⊎ (block-head ≤ k) → names ≤ getD p (blocks-at + b * block-width + k) 0 → turn (getD p (blocks-at + b * block-width + k) 0 - names) ≡ getD p (blocks-at + b * block-width + k) 0 - names) → StillBlock turn blk
 still-block p b blk turn bn sh fixed = record {
   head = λ c m.
@@ -119,7 +120,7 @@ module _ (p : List ℕ) (x : Sheet) (r : ReadyPlan p x) (one other : ℕ) (to : 
   abbrev toCopy : ℕ → ℕ
   toCopy = copyTo to
 
-  fixed-block : (b : ℕ) (blk : Block) → b < view-block (viewCount p) → BlockNumbers (blockNumbers p b) (blockSize p b) blk → Shaped blk → StillBlock turn blk
+  fixed-block : {table : Table} (b : ℕ) (blk : Block) → b < view-block (viewCount p) → BlockNumbers (blockNumbers p b) (blockSize p b) blk → Shaped table blk → StillBlock turn blk
   fixed-block b blk lt bn sh = still-block p b blk turn bn sh (λ k small used le. fixed .each b k lt small used le)
 
   still-view : (v : ℕ) → v < viewCount p → StillBlock turn (nth (x .views) v .block)

@@ -6,9 +6,10 @@ use Prim.Native.Nat.{ℕ, suc, _<_}
 use native.Mathlib.Nat.{min-eq-left}
 use native.Mathlib.Omega.{arith}
 use lib.IntN.{pos}
-use lib.ListN.{length, length-map}
-use Rattle.tableau_layout.specs.Layout.{list-block, view-block}
-use Rattle.sheet_format.specs.Relations.{columnsOf}
+use lib.ListN.{length, drop, length-map}
+use Rattle.tableau_layout.specs.Layout.{list-block, view-block, table-at}
+use Rattle.sheet_format.specs.Table.{columnsOf}
+use Rattle.sheet_format.proofs.TableLaws.{Narrow}
 use Rattle.sheet_format.proofs.Lists.{append-nil}
 use Rattle.query_meaning.specs.Meaning.{Term, con, var, Log, Block, In, row, Answer}
 use Rattle.query_meaning.specs.Blocks.{View, nth}
@@ -16,17 +17,17 @@ use Rattle.query_join.specs.Joins.{Given}
 use Rattle.query_encoding.specs.Encoding.{BlockNumbers, FactNumbers, Shaped, ShapedLog, padded}
 use Rattle.query_encoding.proofs.Bridge.{answer-given, head-length, holds-by, head-row}
 use Rattle.query_encoding.proofs.Order.{pad-same}
-use Rattle.query_facts.proofs.Laws.{columns-most}
+use Rattle.sheet_terms.proofs.Laws.{columns-most}
 use Rattle.query_blocks.proofs.Shape.{from-map}
 use Rattle.case_verdicts.specs.Verdict.{Sheet}
 use Rattle.case_verdicts.specs.Sheets.{top}
-use Rattle.case_verdicts.specs.Accepted.{Fine, FineSheet, PlainTable}
+use Rattle.case_verdicts.specs.Accepted.{Fine, FineSheet}
 use Rattle.case_verdicts.specs.Tableau.{Job, State, Copy, jobs, numbered, copy, tableauLog, headOf, Meets, Good}
 use Rattle.case_verdicts.specs.Search.{Keeps, equations, lines, Refuted, RefutedBy, Alternatives}
 use Rattle.case_verdicts.proofs.Tableau.{log-formed}
 use Rattle.case_verdicts.proofs.Reduce.{row-con}
 use Rattle.case_verdicts.proofs.Refute.{list-gives, view-gives, copy-gives, step, none-left}
-use Rattle.tableau_plan.specs.Plan.{rowAt, rowValues, rowCount, viewCount, blockNumbers, blockSize, Plan}
+use Rattle.tableau_plan.specs.Plan.{rowAt, rowValues, rowCount, viewCount, blockNumbers, blockSize, planTable, Plan}
 use Rattle.tableau_plan.proofs.Whole.{nth-in}
 use Rattle.tableau_parts.specs.Views.{GivenAt, ListedRow, StrayAt, NoStray}
 use Rattle.search_keys.specs.Keys.{KeysHold}
@@ -37,9 +38,9 @@ use Rattle.search_task.proofs.Padded.{refuted-padded}
 
 pub record Task (p : List ℕ) (x y : Sheet) : Type 0 where
   pub accepted : FineSheet top y
-  pub plain : PlainTable (y .table)
+  pub plain : y .table ≡ planTable p
   pub same : y .views ≡ x .views
-  pub shaped : (v : ℕ) → v < viewCount p → Shaped (nth (x .views) v .block)
+  pub shaped : (v : ℕ) → v < viewCount p → Shaped (y .table) (nth (x .views) v .block)
   -- row i is copy i + 1
   pub copies : (i : ℕ) → i < rowCount p → (r : List ℕ) → rowValues p i ≡ padded r → In r (nth (x .views) (rowAt p i 0) .rows)
       → In (record { number = suc i; job = record { block = nth (x .views) (rowAt p i 0) .block; is = map con r } }) (numbered (jobs y))
@@ -75,12 +76,12 @@ module _ (p : List ℕ) (x y : Sheet) (plan : Plan p x) (task : Task p x y) (log
 
 -- a state's log
 module _ (p : List ℕ) (x y : Sheet) (plan : Plan p x) (task : Task p x y) (s : State) (ns : List ℕ) (fn : FactNumbers ns (tableauLog y s)) where
-  pub shaped-log : ShapedLog (tableauLog y s)
+  pub shaped-log : ShapedLog (y .table) (tableauLog y s)
+  unfolding columnsOf
   shaped-log f m =
       let d = log-formed y (task .accepted) s f m in
-      let e : length (f .row) ≡ columnsOf (pos (f .rel)) = d .full ∙ task .plain .columns (f .rel) in
-      let k = columns-most (pos (f .rel)) in
-      (e, omega arith)
+      let k = subst Narrow (sym (task .plain)) (columns-most (drop table-at p)) (pos (f .rel)) in
+      (d .full, let e = d .full in omega arith)
 
   -- a stray row, and each of its alternatives refuted
   pub stray-refuted : (v : ℕ) (u : List ℕ) → StrayAt p ns v u
@@ -104,7 +105,7 @@ module _ (p : List ℕ) (x y : Sheet) (plan : Plan p x) (task : Task p x y) (s :
       (subst (λ t. RefutedBy top y s (equations (padded (row (g .val) (w .block .head))) t)) b (subst (λ t. RefutedBy top y s (equations t (rowValues p k))) e (each k lk a)))))
 
   -- a list gives the question's head: nothing below is good
-  pub list-refuted : (i : ℕ) (l : Block) → In l (y .lists) → Shaped l → BlockNumbers (blockNumbers p (list-block i)) (blockSize p (list-block i)) l → GivenAt p (list-block i) ns (padded (headOf y s)) → length (l .head) ≡ length (headOf y s) → Refuted top y s
+  pub list-refuted : (i : ℕ) (l : Block) → In l (y .lists) → Shaped (y .table) l → BlockNumbers (blockNumbers p (list-block i)) (blockSize p (list-block i)) l → GivenAt p (list-block i) ns (padded (headOf y s)) → length (l .head) ≡ length (headOf y s) → Refuted top y s
   list-refuted i l m sh bn g len =
       let h = subst (λ n. Given (blockNumbers p (list-block i)) n ns (padded (headOf y s))) (min-eq-left (bn .few)) g in
       let holds = holds-by bn sh fn shaped-log (h .val) (h .met) in
@@ -112,7 +113,7 @@ module _ (p : List ℕ) (x y : Sheet) (plan : Plan p x) (task : Task p x y) (s :
       none-left (subst (λ a. Alternatives top y s a) (ap (map _) (sh .plain)) (list-gives y (task .accepted) s l m (h .val) holds e))
 
   -- a list lacks it
-  pub list-lacks : (i : ℕ) (l : Block) → Shaped l → BlockNumbers (blockNumbers p (list-block i)) (blockSize p (list-block i)) l → (GivenAt p (list-block i) ns (padded (headOf y s)) → ⊥) → Answer (tableauLog y s) l (headOf y s) → ⊥
+  pub list-lacks : (i : ℕ) (l : Block) → Shaped (y .table) l → BlockNumbers (blockNumbers p (list-block i)) (blockSize p (list-block i)) l → (GivenAt p (list-block i) ns (padded (headOf y s)) → ⊥) → Answer (tableauLog y s) l (headOf y s) → ⊥
   list-lacks i l sh bn none a = none (subst (λ n. Given (blockNumbers p (list-block i)) n ns (padded (headOf y s))) (sym (min-eq-left (bn .few))) (answer-given bn sh fn a))
 
   -- the head of row i's copy, with what it must be
@@ -132,8 +133,8 @@ module _ (p : List ℕ) (x y : Sheet) (plan : Plan p x) (task : Task p x y) (s :
       (λ alt j. ⊎-elim (λ z. subst (λ a. RefutedBy top y s a) (sym z) (subst (λ a. RefutedBy top y s (equations t a)) (sym (row-con (copy s (suc i)) (o .row))) q)) absurd j)
 
   -- every copy's head is what it must be, keys hold, no view gives a stray row, no list gives the question's head: the state is good
-  pub good-state : ((c : Copy) → In c (numbered (jobs y)) → Meets (copy s (c .number)) (c .job)) → KeysHold ns → NoStray p ns → ((l : Block) → In l (y .lists) → Answer (tableauLog y s) l (headOf y s) → ⊥) → Good y s
-  good-state meets keys none lacks = record { meets = meets; keyed = keys-held (task .plain) fn shaped-log keys; none-more = none-stray p x y plan task (tableauLog y s) ns fn none; missing = lacks }
+  pub good-state : ((c : Copy) → In c (numbered (jobs y)) → Meets (copy s (c .number)) (c .job)) → KeysHold p ns → NoStray p ns → ((l : Block) → In l (y .lists) → Answer (tableauLog y s) l (headOf y s) → ⊥) → Good y s
+  good-state meets keys none lacks = record { meets = meets; keyed = keys-held p (task .plain) fn shaped-log keys; none-more = none-stray p x y plan task (tableauLog y s) ns fn none; missing = lacks }
 
 -- ---- what is settled stays settled
 

@@ -65,7 +65,7 @@ module _ (p : List ℕ) (x : Sheet) (r : ReadyPlan p x) where
   pub list-index : (l : Block) → In l (x .lists) → (i : ℕ) × (i < listCount p) × (listAt x i ≡ l)
   list-index l m = let c = r .plan .lists in let (i, lt, e) = in-at (nowhere .block) l (x .lists) m in (i, omega arith, e)
 
-  pub list-shaped : (i : ℕ) → i < listCount p → Shaped (listAt x i)
+  pub list-shaped : (i : ℕ) → i < listCount p → Shaped (x .table) (listAt x i)
   list-shaped i lt = r .lists (listAt x i) (list-in i lt) .0
 
   safe : SafePlan p
@@ -98,7 +98,7 @@ module _ (p : List ℕ) (x : Sheet) (r : ReadyPlan p x) where
 
   -- none is, keys hold, and there is no stray row: good, once the copies' heads are settled
   pub closed : (goal : Goal) (s : State) (ns : List ℕ) → FactNumbers ns (tableauLog (sheetBy goal x) s)
-      → (asks goal ≡ true → GivenToList p ns (askedRow p s) → ⊥) → KeysHold ns → NoStray p ns → Settled (sheetBy goal x) s → Good (sheetBy goal x) s
+      → (asks goal ≡ true → GivenToList p ns (askedRow p s) → ⊥) → KeysHold p ns → NoStray p ns → Settled (sheetBy goal x) s → Good (sheetBy goal x) s
   closed Counterexample s ns fn lacks keys clean st =
       good-state p x x (r .plan) (ready-task p x r Counterexample) s ns fn st keys clean
       (λ l m.

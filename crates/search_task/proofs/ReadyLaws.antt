@@ -56,14 +56,14 @@ module _ (p : List ℕ) (x : Sheet) (r : ReadyPlan p x) where
   pub ready-task : (goal : Goal) → Task p x (sheetBy goal x)
   ready-task Counterexample = record {
     accepted = r .accepted;
-    plain = r .plain;
+    plain = r .plan .table;
     same = refl;
     shaped = r .views;
     copies = λ i lt t e m. let c = r .plan .copies in copy-of-row Counterexample x i (record { block = x .question; is = [] }) _ (omega arith) (subst (λ z. getD (jobs x) (suc i) (record { block = x .question; is = [] }) ≡ record { block = nth (x .views) (rowAt p i 0) .block; is = map con z }) (row-is i lt t e m) (r .plan .rows i lt .copy));
   }
   ready-task Agreement = record {
     accepted = bare-accepted (r .accepted);
-    plain = r .plain;
+    plain = r .plan .table;
     same = refl;
     shaped = r .views;
     copies = λ i lt t e m. let c = r .plan .copies in copy-of-row Agreement x i (record { block = x .question; is = [] }) _ (omega arith) (subst (λ z. getD (jobs x) (suc i) (record { block = x .question; is = [] }) ≡ record { block = nth (x .views) (rowAt p i 0) .block; is = map con z }) (row-is i lt t e m) (r .plan .rows i lt .copy));

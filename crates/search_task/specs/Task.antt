@@ -12,7 +12,7 @@ use Rattle.query_encoding.specs.Encoding.{Shaped}
 use Rattle.query_join.specs.Joins.{headRow}
 use Rattle.case_verdicts.specs.Verdict.{Sheet}
 use Rattle.case_verdicts.specs.Sheets.{top}
-use Rattle.case_verdicts.specs.Accepted.{PlainTable, FineSheet}
+use Rattle.case_verdicts.specs.Accepted.{FineSheet}
 use Rattle.case_verdicts.specs.Tableau.{State, Copy, jobs, numbered, copy, Meets, bare}
 use Rattle.tableau_plan.specs.Plan.{Plan, viewCount, askedSize, blockNumbers, tableauSize, tableauFacts}
 use Rattle.search_task.specs.declared.Goal.{Goal}
@@ -22,10 +22,9 @@ use Rattle.search_task.specs.declared.Goal.the-variants.{Counterexample,
 pub record ReadyPlan (p : List ℕ) (x : Sheet) : Type 0 where
   pub plan : Plan p x
   pub accepted : FineSheet top x
-  pub plain : PlainTable (x .table)
-  pub question : Shaped (x .question)
-  pub lists : (l : Block) → In l (x .lists) → Shaped l × (length (l .head) ≡ length (x .question .head))
-  pub views : (v : ℕ) → v < viewCount p → Shaped (nth (x .views) v .block)
+  pub question : Shaped (x .table) (x .question)
+  pub lists : (l : Block) → In l (x .lists) → Shaped (x .table) l × (length (l .head) ≡ length (x .question .head))
+  pub views : (v : ℕ) → v < viewCount p → Shaped (x .table) (nth (x .views) v .block)
 
 -- the question is asked where a counterexample is searched for
 abbrev pub asks : Goal → Bool

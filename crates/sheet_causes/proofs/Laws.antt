@@ -19,6 +19,7 @@ use Rattle.sheet_format.proofs.Lists.{both}
 use Rattle.list_laws.proofs.Words.{word-of}
 use Rattle.list_laws.proofs.Lists.{drop-next}
 use Rattle.sheet_format.specs.Line.{Line, all, null, wordLine}
+use Rattle.sheet_format.specs.Table.{Table}
 use Rattle.sheet_format.specs.Cause.{kindOf, kind, rest, terms, isHead, isAtom, atoms, same, occurs, bound, unsafe, refusal, none, heads, cause, next, stepOf, orAt, missing, start, scan, refusalOf}
 use Rattle.sheet_format.specs.declared.Refusal.{Refusal}
 use Rattle.sheet_format.specs.declared.Seen.{Seen}
@@ -186,18 +187,18 @@ step-stops c d n g r e = go (eqb c 0) e
     go true f = let z : _≡_ {A = ℕ} 0 1 = cc in absurd (omega arith)
     go false f = let q : c ≡ d = cc in ap (λ k. refusal k n) (sym q)
 
-module _ (ls : List Line) (i : ℕ) (g : Seen) (b : Line) where
-  pub scan-stops : (d : ℕ) → i < length ls → stepOf g b (getD ls i []) ≡ Stops d → refusal d (i + 1) ≡ scan g b (i + 1) (drop i ls)
+module _ (table : Table) (ls : List Line) (i : ℕ) (g : Seen) (b : Line) where
+  pub scan-stops : (d : ℕ) → i < length ls → stepOf table g b (getD ls i []) ≡ Stops d → refusal d (i + 1) ≡ scan table g b (i + 1) (drop i ls)
   unfolding scan stepOf
-  scan-stops d h e = rw (drop-next ls i [] h) (step-stops (cause g b (getD ls i [])) d (i + 1) (next g (getD ls i [])) _ e)
+  scan-stops d h e = rw (drop-next ls i [] h) (step-stops (cause table g b (getD ls i [])) d (i + 1) (next g (getD ls i [])) _ e)
 
-  pub scan-goes : (g′ : Seen) → i < length ls → stepOf g b (getD ls i []) ≡ Goes g′ → scan g′ (getD ls i []) (i + 1 + 1) (drop (i + 1) ls) ≡ scan g b (i + 1) (drop i ls)
+  pub scan-goes : (g′ : Seen) → i < length ls → stepOf table g b (getD ls i []) ≡ Goes g′ → scan table g′ (getD ls i []) (i + 1 + 1) (drop (i + 1) ls) ≡ scan table g b (i + 1) (drop i ls)
   unfolding scan stepOf
   scan-goes g′ h e =
-      let s = step-goes (cause g b (getD ls i [])) (i + 1) (next g (getD ls i [])) g′ (scan (next g (getD ls i [])) (getD ls i []) (i + 1 + 1) (drop (i + 1) ls)) e in
-      rw (drop-next ls i [] h) (ap (λ k. scan k (getD ls i []) (i + 1 + 1) (drop (i + 1) ls)) (sym (s .0)) ∙ s .1)
+      let s = step-goes (cause table g b (getD ls i [])) (i + 1) (next g (getD ls i [])) g′ (scan table (next g (getD ls i [])) (getD ls i []) (i + 1 + 1) (drop (i + 1) ls)) e in
+      rw (drop-next ls i [] h) (ap (λ k. scan table k (getD ls i []) (i + 1 + 1) (drop (i + 1) ls)) (sym (s .0)) ∙ s .1)
 
-  pub scan-end : length ls ≤ i → missing g ≡ scan g b (i + 1) (drop i ls)
+  pub scan-end : length ls ≤ i → missing g ≡ scan table g b (i + 1) (drop i ls)
   unfolding scan
   scan-end h = rw (drop-of-length-le ls h) refl
 
@@ -209,14 +210,14 @@ missing-none g h = rw (le-ltb (g .block) 2 h) refl
 
 -- ---- the lines' refusal and then the heads'
 
-module _ (ls : List Line) where
-  pub scan-formed : scan start [] 1 ls .number ≡ 0 → FormedLines ls
-  scan-formed h = record { each = lines-formed ls start [] 1 (eq-eqb _ 0 h) }
+module _ (table : Table) (ls : List Line) where
+  pub scan-formed : scan table start [] 1 ls .number ≡ 0 → FormedLines ls
+  scan-formed h = record { each = lines-formed table ls start [] 1 (eq-eqb _ 0 h) }
 
-  pub refused-heads : scan start [] 1 ls .number ≡ 0 → heads 1 ls ≡ refusalOf ls
+  pub refused-heads : scan table start [] 1 ls .number ≡ 0 → heads 1 ls ≡ refusalOf table ls
   unfolding refusalOf
-  refused-heads h = let e = eq-eqb (scan start [] 1 ls .number) 0 h in rw e refl
+  refused-heads h = let e = eq-eqb (scan table start [] 1 ls .number) 0 h in rw e refl
 
-  pub refused-lines : (scan start [] 1 ls .number ≡ 0 → ⊥) → scan start [] 1 ls ≡ refusalOf ls
+  pub refused-lines : (scan table start [] 1 ls .number ≡ 0 → ⊥) → scan table start [] 1 ls ≡ refusalOf table ls
   unfolding refusalOf
-  refused-lines h = let e = ne-eqb (scan start [] 1 ls .number) 0 h in rw e refl
+  refused-lines h = let e = ne-eqb (scan table start [] 1 ls .number) 0 h in rw e refl

@@ -1,4 +1,4 @@
-// Why the lines of a number form are sent back: the first cause among the lines or at the end, and then cause 8 by heads.
+// Why the lines of a number form are sent back, by a table of relations: the first cause among the lines or at the end, and then cause 8 by heads.
 use sheet_format::LINE_WORDS;
 use sheet_format::LineStep;
 use sheet_format::MISPLACED;
@@ -13,6 +13,7 @@ ghost use Prim.Native.Nat.{_+_, _/_, _≤_, _<_};
 ghost use lib.ListN.{length, getD, drop};
 ghost use Rattle.sheet_format.specs.Limits.{line-words};
 ghost use Rattle.sheet_format.specs.Line.{all, null, wordLine, wordLines};
+ghost use Rattle.sheet_format.specs.Table.{tableIn};
 ghost use Rattle.sheet_format.specs.Cause.{kind, rest, terms, isHead, isAtom, atoms, occurs, bound, unsafe, heads, start, scan, refusalOf};
 ghost use Rattle.sheet_causes.specs.Formed.{FormedLines};
 
@@ -170,8 +171,8 @@ fn by_heads(ws: &[i32]) -> Refusal
 }
 
 // The refusal of the first line that has a cause, or of a block that is missing.
-fn by_lines(ws: &[i32]) -> Refusal
-    ensures { λ r. ⌜ r ≡ scan start [] 1 (wordLines (now (ws .entry))) ⌝ }
+fn by_lines(table: &[usize], ws: &[i32]) -> Refusal
+    ensures { λ r. ⌜ r ≡ scan (tableIn (now (table .entry))) start [] 1 (wordLines (now (ws .entry))) ⌝ }
 {
     let n = ws.len() / LINE_WORDS;
     let mut g = Seen {
@@ -188,7 +189,7 @@ fn by_lines(ws: &[i32]) -> Refusal
     let mut i = 0;
     while i < n {
         let l = line_at(ws, i);
-        let s = sheet_line_causes::step(g, &before, &l);
+        let s = sheet_line_causes::step(table, g, &before, &l);
         match s {
             LineStep::Goes(next) => {
                 g = next;
@@ -213,10 +214,10 @@ fn by_lines(ws: &[i32]) -> Refusal
 }
 
 // Why the lines of a number form are sent back, seven words a line.
-pub fn refusal(ws: &[i32]) -> Refusal
-    ensures { λ r. ⌜ r ≡ refusalOf (wordLines (now (ws .entry))) ⌝ }
+pub fn refusal(table: &[usize], ws: &[i32]) -> Refusal
+    ensures { λ r. ⌜ r ≡ refusalOf (tableIn (now (table .entry))) (wordLines (now (ws .entry))) ⌝ }
 {
-    let r = by_lines(ws);
+    let r = by_lines(table, ws);
     if r.number == 0 {
         return by_heads(ws);
     }

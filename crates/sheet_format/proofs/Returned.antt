@@ -7,6 +7,7 @@ use lib.Dec.{eqb, ltb}
 use lib.IntN.{ℤ}
 use lib.ListN.{length}
 use Rattle.sheet_format.specs.Limits.{most-words, most-bytes}
+use Rattle.sheet_format.specs.Table.{Table}
 use Rattle.sheet_format.specs.Line.{byteLines, bytesOf, wordLines}
 use Rattle.sheet_format.specs.Sheet.{returned, refusedBy, doneWith, answered, ending, sheetRefusal, wordsRefusal, readEnding, readReturned, writeEnding, writeReturned}
 use Rattle.sheet_format.specs.declared.Refusal.{Refusal}
@@ -21,12 +22,13 @@ returned-ending r room wanted n = go (eqb (r .number) 0) (ltb room wanted)
     go true false = refl
     go false c = refl
 
--- reading: the answer, and with it its numbers
-pub read-numbers : {r : Ending} {A : Type 0} (s : List ℕ) (room : ℕ) → (r ≡ readEnding s room) × A → (r ≡ readEnding s room) × A × (returned r ≡ readReturned s room)
-unfolding readEnding
-read-numbers s room (e, a) = (e, a, ap returned e ∙ returned-ending (sheetRefusal s) room most-words (length (byteLines s)))
+module _ (table : Table) where
+  -- reading: the answer, and with it its numbers
+  pub read-numbers : {r : Ending} {A : Type 0} (s : List ℕ) (room : ℕ) → (r ≡ readEnding table s room) × A → (r ≡ readEnding table s room) × A × (returned r ≡ readReturned table s room)
+  unfolding readEnding
+  read-numbers s room (e, a) = (e, a, ap returned e ∙ returned-ending (sheetRefusal table s) room most-words (length (byteLines s)))
 
--- writing: the same
-pub write-numbers : {r : Ending} {A : Type 0} (ws : List ℤ) (room : ℕ) → (r ≡ writeEnding ws room) × A → (r ≡ writeEnding ws room) × A × (returned r ≡ writeReturned ws room)
-unfolding writeEnding
-write-numbers ws room (e, a) = (e, a, ap returned e ∙ returned-ending (wordsRefusal ws) room most-bytes (length (bytesOf (wordLines ws))))
+  -- writing: the same
+  pub write-numbers : {r : Ending} {A : Type 0} (ws : List ℤ) (room : ℕ) → (r ≡ writeEnding table ws room) × A → (r ≡ writeEnding table ws room) × A × (returned r ≡ writeReturned table ws room)
+  unfolding writeEnding
+  write-numbers ws room (e, a) = (e, a, ap returned e ∙ returned-ending (wordsRefusal table ws) room most-bytes (length (bytesOf (wordLines ws))))

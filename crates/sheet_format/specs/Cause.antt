@@ -1,4 +1,4 @@
--- The causes 2 to 9 for sending a sheet back, line by line and in the order of the table.
+-- The causes 2 to 9 for sending a sheet back, line by line and in the order of the table of causes. Relations go by a table, t.
 use mathlib.Core.Bool.{Bool, true, false, cond, not, _&&_, _||_}
 use mathlib.Core.List.{List, [], _∷_}
 use Prim.Native.Nat.{ℕ, zero, suc, _+_}
@@ -7,7 +7,7 @@ use lib.IntN.{ℤ, pos, negsuc}
 use lib.Signed.{ltZ}
 use lib.ListN.{length}
 use Rattle.sheet_format.specs.Limits.{constant-end, most-variables, most-atoms, most-view-atoms, most-lists, most-views, most-rows}
-use Rattle.sheet_format.specs.Relations.{columnsOf}
+use Rattle.sheet_format.specs.Table.{Table, columnsOf}
 use Rattle.sheet_format.specs.Line.{Line, all, null}
 use Rattle.sheet_format.specs.declared.Refusal.{Refusal}
 use Rattle.sheet_format.specs.declared.Seen.{Seen}
@@ -95,14 +95,14 @@ possible other n = false
 abbrev pub misplaced : Seen → Line → Bool
 misplaced g l = not (inPlace g (kind l) && possible (kind l) (length l))
 
--- 4: no such relation, or its columns are not met
-abbrev pub wrongColumns : Kind → Line → Bool
-wrongColumns question l = false
-wrongColumns saved l = false
-wrongColumns view l = false
-wrongColumns atom l = eqb (columnsOf (second l)) 0 || not (eqb (columnsOf (second l)) (length (terms l)))
-wrongColumns row l = false
-wrongColumns other l = false
+-- 4: no such relation in the table, or its columns are not met
+abbrev pub wrongColumns : Table → Kind → Line → Bool
+wrongColumns t question l = false
+wrongColumns t saved l = false
+wrongColumns t view l = false
+wrongColumns t atom l = eqb (columnsOf t (second l)) 0 || not (eqb (columnsOf t (second l)) (length (terms l)))
+wrongColumns t row l = false
+wrongColumns t other l = false
 
 -- 5: a term out of range, or a variable in a row
 abbrev pub outOfRange : Kind → Line → Bool
@@ -149,11 +149,11 @@ notAbove g before row l = eqb (g .last) 5 && not (above (rest before) (rest l))
 notAbove g before other l = false
 
 -- the first cause of the line that holds; 0 where none does
-unfoldable pub cause : Seen → Line → Line → ℕ
-cause g before l =
+unfoldable pub cause : Table → Seen → Line → Line → ℕ
+cause t g before l =
     cond (null l) 2
     (cond (misplaced g l) 3
-    (cond (wrongColumns (kind l) l) 4
+    (cond (wrongColumns t (kind l) l) 4
     (cond (outOfRange (kind l) l) 5
     (cond (tooMany g (kind l)) 6
     (cond (wrongLength g (kind l) l) 7
@@ -177,8 +177,8 @@ unfoldable pub next : Seen → Line → Seen
 next g l = nextBy g (kind l) (length (rest l))
 
 -- a line goes on to the next, or stops the sheet by its cause
-unfoldable pub stepOf : Seen → Line → Line → LineStep
-stepOf g before l = cond (eqb (cause g before l) 0) (Goes (next g l)) (Stops (cause g before l))
+unfoldable pub stepOf : Table → Seen → Line → Line → LineStep
+stepOf t g before l = cond (eqb (cause t g before l) 0) (Goes (next g l)) (Stops (cause t g before l))
 
 -- ---- the sheet's refusal
 
@@ -197,9 +197,9 @@ abbrev pub missing : Seen → Refusal
 missing g = cond (ltb (g .block) 2) (refusal 3 0) none
 
 -- line by line from line n on, and at the end
-unfoldable pub scan : Seen → Line → ℕ → List Line → Refusal
-scan g before n [] = missing g
-scan g before n (l ∷ ls) = orAt (cause g before l) n (scan (next g l) l (n + 1) ls)
+unfoldable pub scan : Table → Seen → Line → ℕ → List Line → Refusal
+scan t g before n [] = missing g
+scan t g before n (l ∷ ls) = orAt (cause t g before l) n (scan t (next g l) l (n + 1) ls)
 
 -- 8: a block without atoms, or with a variable that only its head has
 abbrev pub isHead : Kind → Bool
@@ -241,5 +241,5 @@ heads n [] = none
 heads n (l ∷ ls) = cond (unsafe l (atoms ls)) (refusal 8 n) (heads (n + 1) ls)
 
 -- the first cause among the lines and at the end, and then 8 by heads
-unfoldable pub refusalOf : List Line → Refusal
-refusalOf ls = cond (eqb (scan start [] 1 ls .number) 0) (heads 1 ls) (scan start [] 1 ls)
+unfoldable pub refusalOf : Table → List Line → Refusal
+refusalOf t ls = cond (eqb (scan t start [] 1 ls .number) 0) (heads 1 ls) (scan t start [] 1 ls)

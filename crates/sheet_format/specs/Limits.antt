@@ -1,5 +1,5 @@
 -- The limits, each behind one name.
-use Prim.Native.Nat.{ℕ}
+use Prim.Native.Nat.{ℕ, _*_}
 
 -- ---- what is taken in, and the room that is lent
 
@@ -73,6 +73,13 @@ table-fields = 4
 
 abbrev pub most-columns : ℕ
 most-columns = 4
+
+-- a relation as plain numbers: its columns, key and parent; and those of a table
+abbrev pub relation-numbers : ℕ
+relation-numbers = 3
+
+abbrev pub table-numbers : ℕ
+table-numbers = most-relations * relation-numbers
 
 -- ---- what follows from these
 

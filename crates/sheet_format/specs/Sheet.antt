@@ -6,6 +6,7 @@ use lib.Dec.{eqb, ltb}
 use lib.IntN.{ℤ}
 use lib.ListN.{length, drop}
 use Rattle.sheet_format.specs.Limits.{most-sheet-bytes, most-words, most-bytes, line-words}
+use Rattle.sheet_format.specs.Table.{Table}
 use Rattle.sheet_format.specs.Line.{byteLines, bytesOf, wordLines, wordsOf}
 use Rattle.sheet_format.specs.Cause.{refusal, refusalOf}
 use Rattle.sheet_format.specs.declared.Refusal.{Refusal}
@@ -44,32 +45,32 @@ abbrev pub lentBy : {A : Type 0} → Ending → List A → List A → List A
 lentBy (Done n) new old = over new old
 lentBy (Refused c l) new old = old
 
--- ---- read: a sheet's bytes to its number form
+-- ---- read: a sheet's bytes to its number form, by a table of relations
 
 -- 1, then the causes of the lines
-unfoldable pub sheetRefusal : List ℕ → Refusal
-sheetRefusal s = cond (ltb most-sheet-bytes (length s)) (refusal 1 0) (refusalOf (byteLines s))
+unfoldable pub sheetRefusal : Table → List ℕ → Refusal
+sheetRefusal t s = cond (ltb most-sheet-bytes (length s)) (refusal 1 0) (refusalOf t (byteLines s))
 
-unfoldable pub readEnding : List ℕ → ℕ → Ending
-readEnding s room = ending (sheetRefusal s) room most-words (length (byteLines s))
+unfoldable pub readEnding : Table → List ℕ → ℕ → Ending
+readEnding t s room = ending (sheetRefusal t s) room most-words (length (byteLines s))
 
-abbrev pub readReturned : List ℕ → ℕ → Returned
-readReturned s room = answered (sheetRefusal s) room most-words (length (byteLines s))
+abbrev pub readReturned : Table → List ℕ → ℕ → Returned
+readReturned t s room = answered (sheetRefusal t s) room most-words (length (byteLines s))
 
-unfoldable pub readWords : List ℕ → List ℤ → List ℤ
-readWords s out = lentBy (readEnding s (length out)) (wordsOf (byteLines s)) out
+unfoldable pub readWords : Table → List ℕ → List ℤ → List ℤ
+readWords t s out = lentBy (readEnding t s (length out)) (wordsOf (byteLines s)) out
 
 -- ---- write: a number form to its bytes
 
 -- 1, then 2 for the word count, then the causes of the lines
-unfoldable pub wordsRefusal : List ℤ → Refusal
-wordsRefusal ws = cond (ltb most-words (length ws)) (refusal 1 0) (cond (eqb (length ws % line-words) 0) (refusalOf (wordLines ws)) (refusal 2 0))
+unfoldable pub wordsRefusal : Table → List ℤ → Refusal
+wordsRefusal t ws = cond (ltb most-words (length ws)) (refusal 1 0) (cond (eqb (length ws % line-words) 0) (refusalOf t (wordLines ws)) (refusal 2 0))
 
-unfoldable pub writeEnding : List ℤ → ℕ → Ending
-writeEnding ws room = ending (wordsRefusal ws) room most-bytes (length (bytesOf (wordLines ws)))
+unfoldable pub writeEnding : Table → List ℤ → ℕ → Ending
+writeEnding t ws room = ending (wordsRefusal t ws) room most-bytes (length (bytesOf (wordLines ws)))
 
-abbrev pub writeReturned : List ℤ → ℕ → Returned
-writeReturned ws room = answered (wordsRefusal ws) room most-bytes (length (bytesOf (wordLines ws)))
+abbrev pub writeReturned : Table → List ℤ → ℕ → Returned
+writeReturned t ws room = answered (wordsRefusal t ws) room most-bytes (length (bytesOf (wordLines ws)))
 
-unfoldable pub writeBytes : List ℤ → List ℕ → List ℕ
-writeBytes ws out = lentBy (writeEnding ws (length out)) (bytesOf (wordLines ws)) out
+unfoldable pub writeBytes : Table → List ℤ → List ℕ → List ℕ
+writeBytes t ws out = lentBy (writeEnding t ws (length out)) (bytesOf (wordLines ws)) out

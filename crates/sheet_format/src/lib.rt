@@ -34,16 +34,6 @@ pub const VARIABLES: i32 = 12;
 // The library's own relations.
 pub const OWN_RELATIONS: usize = 10;
 
-// The relations' columns, from relation 1 on: Rower, Strap, Worn, Sig, Beat, Noise, Pulse, Coach, Seat, Pause.
-pub const COLUMNS: [usize; OWN_RELATIONS] = [2, 1, 3, 2, 2, 2, 3, 2, 4, 1];
-
-// The relations' parents: in a log that counts, a relation's parent has each of its rows. Beats and noise are signals; 0 is no parent.
-pub const PARENTS: [usize; OWN_RELATIONS] = [0, 0, 0, 0, 4, 4, 0, 0, 0, 0];
-
-// The relations' keys: in a log that counts, rows alike in the first so many columns are alike in all. A strap has one rower in a session and one rate at a
-// tick; 0 is no key.
-pub const KEYS: [usize; OWN_RELATIONS] = [0, 0, 2, 0, 0, 0, 2, 0, 0, 0];
-
 // The most atoms of the question or a list, and of a view; the most lists; the most views; the most rows, of all views together.
 pub const MOST_ATOMS: usize = 6;
 
@@ -61,6 +51,112 @@ pub const MOST_RELATIONS: usize = 32;
 pub const TABLE_FIELDS: usize = 4;
 
 pub const MOST_COLUMNS: usize = 4;
+
+// A relation as plain numbers: its columns, key and parent; and those of a table.
+pub const RELATION_NUMBERS: usize = 3;
+
+pub const TABLE_NUMBERS: usize = MOST_RELATIONS * RELATION_NUMBERS;
+
+// The library's own table: Rower, Strap, Worn, Sig, Beat, Noise, Pulse, Coach, Seat, Pause. In a log that counts, rows alike in a relation's key are alike in all
+// columns, and a relation's parent has each of its rows: a strap has one rower in a session and one rate at a tick, and beats and noise are signals.
+pub const OWN_TABLE: [usize; TABLE_NUMBERS] = [
+    2,
+    0,
+    0,
+    1,
+    0,
+    0,
+    3,
+    2,
+    0,
+    2,
+    0,
+    0,
+    2,
+    0,
+    4,
+    2,
+    0,
+    4,
+    3,
+    2,
+    0,
+    2,
+    0,
+    0,
+    4,
+    0,
+    0,
+    1,
+    0,
+    0,
+    0,
+    0,
+    0,
+    0,
+    0,
+    0,
+    0,
+    0,
+    0,
+    0,
+    0,
+    0,
+    0,
+    0,
+    0,
+    0,
+    0,
+    0,
+    0,
+    0,
+    0,
+    0,
+    0,
+    0,
+    0,
+    0,
+    0,
+    0,
+    0,
+    0,
+    0,
+    0,
+    0,
+    0,
+    0,
+    0,
+    0,
+    0,
+    0,
+    0,
+    0,
+    0,
+    0,
+    0,
+    0,
+    0,
+    0,
+    0,
+    0,
+    0,
+    0,
+    0,
+    0,
+    0,
+    0,
+    0,
+    0,
+    0,
+    0,
+    0,
+    0,
+    0,
+    0,
+    0,
+    0,
+    0,
+];
 
 // The lines of an accepted sheet, at most: this follows from the limits above.
 pub const MOST_LINES: usize = 107;

@@ -16,7 +16,7 @@ use Rattle.sheet_format.specs.Field.{fits}
 use Rattle.sheet_format.specs.Line.{Line, all, count, isZero, wordLine, wellFormedWords}
 use Rattle.sheet_format.specs.Cause.{Kind, rest, second, terms, term, constant, above, atomsOf, cause, inPlace, possible, wrongColumns, outOfRange, tooMany, kindOf, next, nextBy, stepOf}
 use Rattle.sheet_format.specs.Cause.Kind.{question, saved, view, atom, row}
-use Rattle.sheet_format.specs.Relations.{columnsOf}
+use Rattle.sheet_format.specs.Table.{Table, columnsOf}
 use Rattle.sheet_format.specs.declared.Seen.{Seen}
 use Rattle.sheet_format.specs.declared.LineStep.the-variants.{Goes, Stops}
 use Rattle.sheet_line_causes.specs.Parts.{causeBy, CountedFields, fieldCount, fields}
@@ -167,34 +167,34 @@ module _ {ws : List ℤ} {n : ℕ} (h : CountedFields ws n) where
 
   -- ---- the cause of each kind
 
-  module _ (g : Seen) where
-    pub question-cause : causeBy g [] question (fields n ws)
+  module _ (table : Table) (g : Seen) where
+    pub question-cause : causeBy table g [] question (fields n ws)
         ≡ cond (not (eqb (g .block) 0 && leb n 5)) 3 (cond (not (all term (slice 2 (n + 1) ws))) 5 0)
     question-cause = rw (fields-rest n ws, fields-length)
 
-    pub saved-cause : causeBy g [] saved (fields n ws)
+    pub saved-cause : causeBy table g [] saved (fields n ws)
         ≡ cond (not ((leb 1 (g .block) && leb (g .block) 2) && leb n 5)) 3 (cond (not (all term (slice 2 (n + 1) ws))) 5 (cond (leb most-lists (g .lists)) 6 (cond (not (eqb (n - 1) (g .asked))) 7 0)))
     saved-cause = rw (fields-rest n ws, fields-length, rest-length)
 
-    pub view-cause : causeBy g [] view (fields n ws)
+    pub view-cause : causeBy table g [] view (fields n ws)
         ≡ cond (not (leb 2 (g .block) && leb n 5)) 3 (cond (not (all term (slice 2 (n + 1) ws))) 5 (cond (leb 8 (g .views)) 6 0))
     view-cause = rw (fields-rest n ws, fields-length)
 
     -- an atom in its place, whose relation has k columns
-    pub atom-cause : 1 ≤ g .last → g .last ≤ 4 → 3 ≤ n → (k : ℕ) → k ≡ columnsOf (getD ws 2 (pos 0)) → causeBy g [] atom (fields n ws) ≡ atomRest g n ws k
+    pub atom-cause : 1 ≤ g .last → g .last ≤ 4 → 3 ≤ n → (k : ℕ) → k ≡ columnsOf table (getD ws 2 (pos 0)) → causeBy table g [] atom (fields n ws) ≡ atomRest g n ws k
     atom-cause p q l k e =
         let m : 2 ≤ n = omega arith in
         rw (le-leb 1 (g .last) p, le-leb (g .last) 4 q, fields-terms m, fields-second m, fields-length, terms-length, le-leb 3 n l, le-leb n 6 (h .most), ← e)
 
-    pub atom-short : 1 ≤ g .last → g .last ≤ 4 → n < 3 → causeBy g [] atom (fields n ws) ≡ 3
+    pub atom-short : 1 ≤ g .last → g .last ≤ 4 → n < 3 → causeBy table g [] atom (fields n ws) ≡ 3
     atom-short p q l = rw (le-leb 1 (g .last) p, le-leb (g .last) 4 q, fields-length, lt-leb 3 n l)
 
     -- a row of n fields
-    pub row-place : (b : Line) → causeBy g b row (fields n ws) ≡ cond (not (eqb (g .block) 3 && leb 4 (g .last) && leb n 5)) 3 (rowRest g b n ws (all constant (slice 2 (n + 1) ws)))
+    pub row-place : (b : Line) → causeBy table g b row (fields n ws) ≡ cond (not (eqb (g .block) 3 && leb 4 (g .last) && leb n 5)) 3 (rowRest g b n ws (all constant (slice 2 (n + 1) ws)))
     row-place b = rw (fields-rest n ws, fields-length, rest-length)
 
     -- a row in its place, whose columns are constants or not
-    pub row-cause : (b : Line) → g .block ≡ 3 → 4 ≤ g .last → n ≤ 5 → (r : Bool) → r ≡ all constant (slice 2 (n + 1) ws) → causeBy g b row (fields n ws) ≡ rowRest g b n ws r
+    pub row-cause : (b : Line) → g .block ≡ 3 → 4 ≤ g .last → n ≤ 5 → (r : Bool) → r ≡ all constant (slice 2 (n + 1) ws) → causeBy table g b row (fields n ws) ≡ rowRest g b n ws r
     row-cause b p q l r e = row-place b ∙ rw (eq-eqb (g .block) 3 p, le-leb 4 (g .last) q, le-leb n 5 l, ← e)
 
 -- ---- a line that goes on has room for one more
@@ -210,10 +210,10 @@ passed : (a : Bool) (v x : ℕ) → cond a (suc v) x ≡ 0 → (a ≡ false) × 
 passed true v x e = absurd (omega arith)
 passed false v x e = (refl, e)
 
-pub room : (g : Seen) (b : Line) (k : Kind) (l : Line) (n : ℕ) → n ≡ causeBy g b k l → n ≡ 0 → tooMany g k ≡ false
-room g b k l n d z =
-    let e : causeBy g b k l ≡ 0 = sym d ∙ z in
-    passed (tooMany g k) 5 _ (passed (outOfRange k l) 4 _ (passed (wrongColumns k l) 3 _ (passed (not (inPlace g k && possible k (length l))) 2 _ e .1) .1) .1) .0
+pub room : (table : Table) (g : Seen) (b : Line) (k : Kind) (l : Line) (n : ℕ) → n ≡ causeBy table g b k l → n ≡ 0 → tooMany g k ≡ false
+room table g b k l n d z =
+    let e : causeBy table g b k l ≡ 0 = sym d ∙ z in
+    passed (tooMany g k) 5 _ (passed (outOfRange k l) 4 _ (passed (wrongColumns table k l) 3 _ (passed (not (inPlace g k && possible k (length l))) 2 _ e .1) .1) .1) .0
 
 -- ---- the step
 
@@ -222,26 +222,26 @@ counted ws n h e z =
     let m = line-fields ws h .1 in
     record { seven = h; least = omega (arith, z); most = omega arith }
 
-step-none : (g : Seen) (b l : Line) → length l ≡ 0 → stepOf g b l ≡ Stops 2
+step-none : (table : Table) (g : Seen) (b l : Line) → length l ≡ 0 → stepOf table g b l ≡ Stops 2
 unfolding stepOf cause
-step-none g b [] e = refl
-step-none g b (z ∷ l) e = absurd (omega arith)
+step-none table g b [] e = refl
+step-none table g b (z ∷ l) e = absurd (omega arith)
 
-pub step-malformed : (g : Seen) (b : Line) (ws : List ℤ) (n : ℕ) → n ≡ length (wordLine ws) → n ≡ 0 → Stops 2 ≡ stepOf g b (wordLine ws)
-step-malformed g b ws n e z = sym (step-none g b (wordLine ws) (sym e ∙ z))
+pub step-malformed : (table : Table) (g : Seen) (b : Line) (ws : List ℤ) (n : ℕ) → n ≡ length (wordLine ws) → n ≡ 0 → Stops 2 ≡ stepOf table g b (wordLine ws)
+step-malformed table g b ws n e z = sym (step-none table g b (wordLine ws) (sym e ∙ z))
 
-module _ (g : Seen) (b : Line) (ws : List ℤ) (n : ℕ) (h : CountedFields ws n) (e : n ≡ length (wordLine ws)) where
+module _ (table : Table) (g : Seen) (b : Line) (ws : List ℤ) (n : ℕ) (h : CountedFields ws n) (e : n ≡ length (wordLine ws)) where
   line-is-fields : wordLine ws ≡ getD ws 1 (pos 0) ∷ slice 2 (n + 1) ws
   line-is-fields = line-fields ws (h .seven) .0 ∙ ap (λ k. fields k ws) (sym e) ∙ fields-cons h
 
-  line-cause : cause g b (wordLine ws) ≡ causeBy g b (kindOf (getD ws 1 (pos 0))) (fields n ws)
+  line-cause : cause table g b (wordLine ws) ≡ causeBy table g b (kindOf (getD ws 1 (pos 0))) (fields n ws)
   unfolding cause
   line-cause = rw (line-is-fields, fields-cons h)
 
-  pub step-stops : (k : ℕ) → k ≡ causeBy g b (kindOf (getD ws 1 (pos 0))) (fields n ws) → (k ≡ 0 → ⊥) → Stops k ≡ stepOf g b (wordLine ws)
+  pub step-stops : (k : ℕ) → k ≡ causeBy table g b (kindOf (getD ws 1 (pos 0))) (fields n ws) → (k ≡ 0 → ⊥) → Stops k ≡ stepOf table g b (wordLine ws)
   unfolding stepOf
   step-stops k c z = rw (line-cause, ← c, ne-eqb k 0 z)
 
-  pub step-goes : (k : ℕ) → k ≡ causeBy g b (kindOf (getD ws 1 (pos 0))) (fields n ws) → k ≡ 0 → Goes (nextBy g (kindOf (getD ws 1 (pos 0))) (n - 1)) ≡ stepOf g b (wordLine ws)
+  pub step-goes : (k : ℕ) → k ≡ causeBy table g b (kindOf (getD ws 1 (pos 0))) (fields n ws) → k ≡ 0 → Goes (nextBy g (kindOf (getD ws 1 (pos 0))) (n - 1)) ≡ stepOf table g b (wordLine ws)
   unfolding stepOf next
   step-goes k c z = rw (line-cause, ← c, z, line-is-fields, rest-length h)

@@ -10,6 +10,7 @@ use lib.Seq.{slice}
 use Rattle.sheet_format.specs.Limits.{line-words, most-fields}
 use Rattle.sheet_format.specs.Field.{fits}
 use Rattle.sheet_format.specs.Line.{Line, isZero, natural}
+use Rattle.sheet_format.specs.Table.{Table}
 use Rattle.sheet_format.specs.Cause.{Kind, inPlace, possible, wrongColumns, outOfRange, tooMany, wrongLength, notAbove, term, constant}
 use Rattle.sheet_format.specs.declared.Seen.{Seen}
 use Rattle.sheet_line_causes.specs.declared.Test.{Test}
@@ -36,11 +37,11 @@ pub record CountedFields (ws : List ℤ) (n : ℕ) : Type 0 where
 abbrev pub fields : ℕ → List ℤ → Line
 fields n ws = slice 1 (n + 1) ws
 
--- the cause of a line that is well formed, by its kind
-abbrev pub causeBy : Seen → Line → Kind → Line → ℕ
-causeBy g before k l =
+-- the cause of a line that is well formed, by its kind; the table matters to atoms only
+abbrev pub causeBy : Table → Seen → Line → Kind → Line → ℕ
+causeBy t g before k l =
     cond (not (inPlace g k && possible k (length l))) 3
-    (cond (wrongColumns k l) 4
+    (cond (wrongColumns t k l) 4
     (cond (outOfRange k l) 5
     (cond (tooMany g k) 6
     (cond (wrongLength g k l) 7

@@ -37,6 +37,7 @@ ghost use Rattle.sheet_format.specs.Cause.{above, atomsOf, constant, kindOf, ne
 ghost use Rattle.sheet_format.specs.Cause.Kind.{question, saved, view, atom, row};
 ghost use Rattle.sheet_format.specs.Field.{fits};
 ghost use Rattle.sheet_format.specs.Line.{all, isZero, wordLine};
+ghost use Rattle.sheet_format.specs.Table.{Table, tableIn};
 ghost use Rattle.sheet_line_causes.specs.Parts.{causeBy, CountedFields, fieldCount, fields, passes};
 
 // The largest field count, as a word.
@@ -147,7 +148,7 @@ fn count(words: &[i32]) -> usize
 // The question's head: its block comes first.
 fn question_cause(g: Seen, words: &[i32], n: usize) -> usize
     requires { ⌜ CountedFields (now words) n ⌝ }
-    ensures { λ r. ⌜ r ≡ causeBy g [] question (fields n (now (words .entry))) ⌝ }
+    ensures { λ r. ⌜ ((t : Table) → r ≡ causeBy t g [] question (fields n (now (words .entry)))) ⌝ }
 {
     let block = g.block;
     if block != 0 {
@@ -165,7 +166,7 @@ fn question_cause(g: Seen, words: &[i32], n: usize) -> usize
 // A list's head: in the question's block or a list's, and as long as the question's head.
 fn saved_cause(g: Seen, words: &[i32], n: usize) -> usize
     requires { ⌜ CountedFields (now words) n ⌝ }
-    ensures { λ r. ⌜ r ≡ causeBy g [] saved (fields n (now (words .entry))) ⌝ }
+    ensures { λ r. ⌜ ((t : Table) → r ≡ causeBy t g [] saved (fields n (now (words .entry)))) ⌝ }
 {
     let block = g.block;
     let lists = g.lists;
@@ -194,7 +195,7 @@ fn saved_cause(g: Seen, words: &[i32], n: usize) -> usize
 // A view's head: in a list's block or a view's.
 fn view_cause(g: Seen, words: &[i32], n: usize) -> usize
     requires { ⌜ CountedFields (now words) n ⌝ }
-    ensures { λ r. ⌜ r ≡ causeBy g [] view (fields n (now (words .entry))) ⌝ }
+    ensures { λ r. ⌜ ((t : Table) → r ≡ causeBy t g [] view (fields n (now (words .entry)))) ⌝ }
 {
     let block = g.block;
     let views = g.views;
@@ -224,9 +225,9 @@ fn most_atoms(block: usize) -> usize
 }
 
 // An atom: after a head or an atom, with the columns of its relation.
-fn atom_cause(g: Seen, words: &[i32], n: usize) -> usize
+fn atom_cause(table: &[usize], g: Seen, words: &[i32], n: usize) -> usize
     requires { ⌜ CountedFields (now words) n ⌝ }
-    ensures { λ r. ⌜ r ≡ causeBy g [] atom (fields n (now (words .entry))) ⌝ }
+    ensures { λ r. ⌜ r ≡ causeBy (tableIn (now (table .entry))) g [] atom (fields n (now (words .entry))) ⌝ }
 {
     let last = g.last;
     let atoms = g.atoms;
@@ -239,7 +240,7 @@ fn atom_cause(g: Seen, words: &[i32], n: usize) -> usize
     if n < LEAST_ATOM_FIELDS {
         return MISPLACED;
     }
-    let columns = sheet_terms::columns(words[2]);
+    let columns = sheet_terms::columns(table, words[2]);
     if columns == 0 {
         return WRONG_COLUMNS;
     }
@@ -293,7 +294,7 @@ fn not_above(last: usize, before: &[i32], words: &[i32], n: usize) -> bool
 // A row: after a view's atom or a row, constants only, as long as its head, and above the row before it.
 fn row_cause(g: Seen, before: &[i32], words: &[i32], n: usize) -> usize
     requires { ⌜ (length (now before) ≡ 7) × CountedFields (now words) n ⌝ }
-    ensures { λ r. ⌜ r ≡ causeBy g (wordLine (now (before .entry))) row (fields n (now (words .entry))) ⌝ }
+    ensures { λ r. ⌜ ((t : Table) → r ≡ causeBy t g (wordLine (now (before .entry))) row (fields n (now (words .entry)))) ⌝ }
 {
     let block = g.block;
     let last = g.last;
@@ -324,16 +325,16 @@ fn row_cause(g: Seen, before: &[i32], words: &[i32], n: usize) -> usize
 }
 
 // The cause of a line by the kind that its first field names.
-fn line_cause(g: Seen, before: &[i32], words: &[i32], n: usize) -> usize
+fn line_cause(table: &[usize], g: Seen, before: &[i32], words: &[i32], n: usize) -> usize
     requires { ⌜ (length (now before) ≡ 7) × CountedFields (now words) n ⌝ }
-    ensures { λ r. ⌜ r ≡ causeBy g (wordLine (now (before .entry))) (kindOf (getD (now (words .entry)) 1 (pos 0))) (fields n (now (words .entry))) ⌝ }
+    ensures { λ r. ⌜ r ≡ causeBy (tableIn (now (table .entry))) g (wordLine (now (before .entry))) (kindOf (getD (now (words .entry)) 1 (pos 0))) (fields n (now (words .entry))) ⌝ }
 {
     let kind = words[1];
     match kind {
         1 => question_cause(g, words, n),
         2 => saved_cause(g, words, n),
         3 => view_cause(g, words, n),
-        4 => atom_cause(g, words, n),
+        4 => atom_cause(table, g, words, n),
         5 => row_cause(g, before, words, n),
         -2147483648..=0 | 6..=2147483647 => MISPLACED,
     }
@@ -400,14 +401,14 @@ fn next(g: Seen, kind: i32, n: usize) -> Seen
 }
 
 // What a line does, after the line before it and what the lines so far leave.
-pub fn step(g: Seen, before: &[i32; 7], l: &[i32; 7]) -> LineStep
-    ensures { λ r. ⌜ r ≡ stepOf g (wordLine (now (before .entry))) (wordLine (now (l .entry))) ⌝ }
+pub fn step(table: &[usize], g: Seen, before: &[i32; 7], l: &[i32; 7]) -> LineStep
+    ensures { λ r. ⌜ r ≡ stepOf (tableIn (now (table .entry))) g (wordLine (now (before .entry))) (wordLine (now (l .entry))) ⌝ }
 {
     let n = count(l);
     if n == 0 {
         return LineStep::Stops(MALFORMED);
     }
-    let number = line_cause(g, before, l, n);
+    let number = line_cause(table, g, before, l, n);
     if number != 0 {
         return LineStep::Stops(number);
     }

@@ -2,20 +2,21 @@
 use mathlib.Core.Path.{_≡_, refl, sym, ap, _∙_}
 use mathlib.Core.Bool.{true}
 use mathlib.Core.List.{List, [], _∷_, _++_, append-assoc, append-nil}
-use Prim.Native.Nat.{ℕ, zero, suc, _+_, _*_, _/_, _%_, _<_, _≤_}
+use Prim.Native.Nat.{ℕ, zero, suc, _+_, _-_, _*_, _/_, _%_, _<_, _≤_}
 use native.Mathlib.Omega.{arith}
-use borrow.Author.Tests.{eqb-true}
-use lib.Dec.{eqb}
+use borrow.Author.Tests.{eqb-true, leb-true}
+use lib.Dec.{eqb, leb}
 use lib.IntN.{pos}
-use lib.ListN.{length, getD, take, length-append, drop-of-length-le, List·getD-append}
+use lib.ListN.{length, getD, take, replicate, length-append, drop-of-length-le, List·getD-append}
 use lib.Seq.{getD-append-add, getD-append-seam, take-length}
 use Rattle.list_laws.specs.Wrote.{Wrote}
 use Rattle.list_laws.proofs.Laws.{wrote-over}
+use Rattle.sheet_format.specs.Limits.{table-numbers}
 use Rattle.sheet_format.specs.Relations.{relations, keyNumbers, parentNumbers}
-use Rattle.sheet_format.specs.Table.{Table, unknown, ten}
+use Rattle.sheet_format.specs.Table.{Relation, unknown, tenRelations}
 use Rattle.sheet_format.specs.Field.{fieldBytes}
 use Rattle.sheet_format.specs.Line.{Line, all, gather, lineBytes, bytesOf}
-use Rattle.sheet_format.proofs.Lists.{both}
+use Rattle.sheet_format.proofs.Lists.{both, all-at}
 use Rattle.sheet_format.proofs.FieldLaws.{field-length}
 use Rattle.sheet_format.proofs.LineLaws.{bytes-length}
 use Rattle.sheet_format.proofs.TableLaws.{line-of}
@@ -88,18 +89,18 @@ four-at (l ∷ ls) h (suc n) lt = four-at ls (rest-four l ls h) n (omega arith)
 
 -- ---- the own table
 
-lines-at : (t : Table) (m n : ℕ) → n < length t → getD (linesOf m t) n [] ≡ pos (m + n) ∷ pos (getD t n unknown .columns) ∷ pos (getD t n unknown .key) ∷ pos (getD t n unknown .parent) ∷ []
+lines-at : (rs : List Relation) (m n : ℕ) → n < length rs → getD (linesOf m rs) n [] ≡ pos (m + n) ∷ pos (getD rs n unknown .columns) ∷ pos (getD rs n unknown .key) ∷ pos (getD rs n unknown .parent) ∷ []
 lines-at [] m n lt = absurd (omega arith)
-lines-at (r ∷ t) m zero lt = ap (λ k. pos k ∷ pos (r .columns) ∷ pos (r .key) ∷ pos (r .parent) ∷ []) (let q : m ≡ m + 0 = omega arith in q)
-lines-at (r ∷ t) m (suc n) lt =
-    lines-at t (m + 1) n (omega arith)
-    ∙ ap (λ k. pos k ∷ pos (getD t n unknown .columns) ∷ pos (getD t n unknown .key) ∷ pos (getD t n unknown .parent) ∷ []) (let q : m + 1 + n ≡ m + suc n = omega arith in q)
+lines-at (r ∷ rs) m zero lt = ap (λ k. pos k ∷ pos (r .columns) ∷ pos (r .key) ∷ pos (r .parent) ∷ []) (let q : m ≡ m + 0 = omega arith in q)
+lines-at (r ∷ rs) m (suc n) lt =
+    lines-at rs (m + 1) n (omega arith)
+    ∙ ap (λ k. pos k ∷ pos (getD rs n unknown .columns) ∷ pos (getD rs n unknown .key) ∷ pos (getD rs n unknown .parent) ∷ []) (let q : m + 1 + n ≡ m + suc n = omega arith in q)
 
 -- line n, from 0
 pub own-line : (n : ℕ) → n < 10 → getD ownLines n [] ≡ pos (n + 1) ∷ pos (getD relations n 0) ∷ pos (getD keyNumbers n 0) ∷ pos (getD parentNumbers n 0) ∷ []
 own-line n lt =
     let (c, k, p) = line-of relations keyNumbers parentNumbers n refl refl in
-    lines-at ten 1 n lt ∙ rw (c, k, p) (ap (λ m. pos m ∷ pos (getD relations n 0) ∷ pos (getD keyNumbers n 0) ∷ pos (getD parentNumbers n 0) ∷ []) (let q : 1 + n ≡ n + 1 = omega arith in q))
+    lines-at tenRelations 1 n lt ∙ rw (c, k, p) (ap (λ m. pos m ∷ pos (getD relations n 0) ∷ pos (getD keyNumbers n 0) ∷ pos (getD parentNumbers n 0) ∷ []) (let q : 1 + n ≡ n + 1 = omega arith in q))
 
 pub own-length : length ownBytes ≡ 330
 unfolding ownBytes
@@ -131,6 +132,26 @@ last-field (suc (suc (suc j))) lt a b c = omega arith
 -- field k of line n is what stands there
 pub own-is : (n j k : ℕ) → n < 10 → j ≡ k → getD (pos (n + 1) ∷ pos (getD relations n 0) ∷ pos (getD keyNumbers n 0) ∷ pos (getD parentNumbers n 0) ∷ []) k (pos 0) ≡ getD (getD ownLines n []) j (pos 0)
 own-is n j k lt e = sym (ap (λ l. getD l j (pos 0)) (own-line n lt) ∙ ap (λ i. getD (pos (n + 1) ∷ pos (getD relations n 0) ∷ pos (getD keyNumbers n 0) ∷ pos (getD parentNumbers n 0) ∷ []) i (pos 0)) e)
+
+-- the ten relations' numbers, and 0 up to the table's end
+abbrev ownNumbers : List ℕ
+ownNumbers = gather (λ (r : Relation). r .columns ∷ r .key ∷ r .parent ∷ []) tenRelations ++ replicate (table-numbers - 30) 0
+
+pub own-numbers : (n : ℕ) → n < 10 → (getD ownNumbers (n * 3) 0 ≡ getD relations n 0) × (getD ownNumbers (n * 3 + 1) 0 ≡ getD keyNumbers n 0) × (getD ownNumbers (n * 3 + 2) 0 ≡ getD parentNumbers n 0)
+own-numbers zero lt = (refl, refl, refl)
+own-numbers (suc zero) lt = (refl, refl, refl)
+own-numbers (suc (suc zero)) lt = (refl, refl, refl)
+own-numbers (suc (suc (suc zero))) lt = (refl, refl, refl)
+own-numbers (suc (suc (suc (suc zero)))) lt = (refl, refl, refl)
+own-numbers (suc (suc (suc (suc (suc zero))))) lt = (refl, refl, refl)
+own-numbers (suc (suc (suc (suc (suc (suc zero)))))) lt = (refl, refl, refl)
+own-numbers (suc (suc (suc (suc (suc (suc (suc zero))))))) lt = (refl, refl, refl)
+own-numbers (suc (suc (suc (suc (suc (suc (suc (suc zero)))))))) lt = (refl, refl, refl)
+own-numbers (suc (suc (suc (suc (suc (suc (suc (suc (suc zero))))))))) lt = (refl, refl, refl)
+own-numbers (suc (suc (suc (suc (suc (suc (suc (suc (suc (suc n)))))))))) lt = absurd (omega arith)
+
+pub own-most : (i : ℕ) → i < 96 → getD ownNumbers i 0 ≤ 10
+own-most i lt = leb-true (getD ownNumbers i 0) 10 (all-at (λ n. leb n 10) 0 ownNumbers refl i lt)
 
 -- the table's bytes, written from the first on
 pub own-written : (a b : List ℕ) (i : ℕ) → length a ≡ 330 → i ≡ 330 → Wrote a b 0 i (take i ownBytes) → b ≡ ownBytes

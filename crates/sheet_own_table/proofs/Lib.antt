@@ -1,2 +1,2 @@
-pub mod Own
+pub mod Means
 pub mod Bytes

@@ -2,16 +2,16 @@
 use mathlib.Core.List.{List, [], _∷_}
 use Prim.Native.Nat.{ℕ, _+_}
 use lib.IntN.{pos}
-use Rattle.sheet_format.specs.Table.{Table, ten}
+use Rattle.sheet_format.specs.Table.{Relation, tenRelations}
 use Rattle.sheet_format.specs.Line.{Line, bytesOf}
 
--- the lines of a table, from number n on
-abbrev pub linesOf : ℕ → Table → List Line
+-- the lines of relations, from number n on
+abbrev pub linesOf : ℕ → List Relation → List Line
 linesOf n [] = []
-linesOf n (r ∷ t) = (pos n ∷ pos (r .columns) ∷ pos (r .key) ∷ pos (r .parent) ∷ []) ∷ linesOf (n + 1) t
+linesOf n (r ∷ rs) = (pos n ∷ pos (r .columns) ∷ pos (r .key) ∷ pos (r .parent) ∷ []) ∷ linesOf (n + 1) rs
 
 abbrev pub ownLines : List Line
-ownLines = linesOf 1 ten
+ownLines = linesOf 1 tenRelations
 
 unfoldable pub ownBytes : List ℕ
 ownBytes = bytesOf ownLines

@@ -1,15 +1,16 @@
-// The library's own table of relations, as bytes.
-use sheet_format::COLUMNS;
+// The library's own table of relations, as bytes and as a table that was read.
 use sheet_format::FIELD_BYTES;
-use sheet_format::KEYS;
 use sheet_format::OWN_RELATIONS;
-use sheet_format::PARENTS;
+use sheet_format::OWN_TABLE;
+use sheet_format::RELATION_NUMBERS;
 use sheet_format::TABLE_FIELDS;
+use sheet_table::Loaded;
 ghost use mathlib.Core.Path.{_≡_};
 ghost use mathlib.Core.List.{[]};
 ghost use Prim.Native.Nat.{_<_, _≤_};
 ghost use lib.IntN.{pos};
 ghost use lib.ListN.{getD};
+ghost use Rattle.sheet_table.specs.Loads.{Loads};
 ghost use Rattle.sheet_own_table.specs.Own.{ownLines, ownBytes};
 
 // The bytes of a line up to its end, and with it.
@@ -24,11 +25,12 @@ fn own_field(n: usize, j: usize) -> usize
     requires { ⌜ (n < 10) × (j < 4) ⌝ }
     ensures { λ r. ⌜ (pos r ≡ getD (getD ownLines n []) j (pos 0)) × (r ≤ 10) ⌝ }
 {
+    let at = n * RELATION_NUMBERS;
     match j {
         0 => n + 1,
-        1 => COLUMNS[n],
-        2 => KEYS[n],
-        _ => PARENTS[n],
+        1 => OWN_TABLE[at],
+        2 => OWN_TABLE[at + 1],
+        _ => OWN_TABLE[at + 2],
     }
 }
 
@@ -56,4 +58,16 @@ pub fn own_table() -> [u8; OWN_TABLE_BYTES]
         i += 1;
     }
     bytes
+}
+
+// The own table as if its bytes had been read.
+pub fn own() -> Loaded
+    ensures { λ r. ⌜ Loads ownBytes r ⌝ }
+{
+    let numbers = sheet_terms::own_table();
+    Loaded {
+        number: 0,
+        line: 0,
+        numbers: numbers,
+    }
 }

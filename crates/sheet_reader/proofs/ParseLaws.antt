@@ -10,6 +10,7 @@ use lib.ListN.{length, take, drop, getD, replicate, length-append, length-drop, 
 use lib.Seq.{drop-drop, take-length}
 use Rattle.sheet_format.specs.Limits.{most-lines, line-words}
 use Rattle.sheet_format.specs.Line.{Line, all, null, byteLines, lineOf, lineWords, wordsOf}
+use Rattle.sheet_format.specs.Table.{Table}
 use Rattle.sheet_format.specs.Cause.{scan, start, refusalOf}
 use Rattle.sheet_format.proofs.Lists.{no-way, append-nil, gather-append}
 use Rattle.sheet_format.proofs.Good.{FittingLine, Goods, nil-good}
@@ -57,18 +58,18 @@ parsing-none s ws h = record { lines = []; count = refl; few = omega arith; insi
 
 -- lines that are the front of the sheet's, and refused at one of them
 parsed-front : (s : List ℕ) (ws : List ℤ) (n : ℕ) (p q : List Line) → length p ≡ n → n ≤ most-lines + 1 → take (n * 7) ws ≡ wordsOf p → Goods p → byteLines s ≡ p ++ q
-    → 0 < scan start [] 1 p .line → (refusalOf p .number ≡ 0 → ⊥) → Parsed s ws n
-parsed-front s ws n p q l f w g e h never = record { lines = p; count = l; few = f; words = w; good = g; alike = sym (ap refusalOf e ∙ refused-front p q h); whole = λ z. absurd (never z) }
+    → ((t : Table) → 0 < scan t start [] 1 p .line) → ((t : Table) → refusalOf t p .number ≡ 0 → ⊥) → Parsed s ws n
+parsed-front s ws n p q l f w g e h never = record { lines = p; count = l; few = f; words = w; good = g; alike = λ t. sym (ap (refusalOf t) e ∙ refused-front t p q (h t)); whole = λ t z. absurd (never t z) }
 
 pub parsed-long : (s : List ℕ) (ws : List ℤ) (n at : ℕ) → n ≡ most-lines + 1 → Parsing s ws n at → Parsed s ws n
 parsed-long s ws n at e p =
     let c = p .count in
-    parsed-front s ws n (p .lines) (byteLines (drop at s)) c (p .few) (p .words) (p .good) (p .rest) (scan-long (p .lines) (omega arith)) (λ z. let k = accepted-length (p .lines) z in omega arith)
+    parsed-front s ws n (p .lines) (byteLines (drop at s)) c (p .few) (p .words) (p .good) (p .rest) (λ t. scan-long t (p .lines) (omega arith)) (λ t z. let k = accepted-length t (p .lines) z in omega arith)
 
 pub parsed-all : (s : List ℕ) (ws : List ℤ) (n at : ℕ) → length s ≤ at → Parsing s ws n at → Parsed s ws n
 parsed-all s ws n at le p =
     let e : p .lines ≡ byteLines s = sym (p .rest ∙ ap (λ x. p .lines ++ byteLines x) (drop-of-length-le s le) ∙ ap (λ x. p .lines ++ x) lines-none ∙ append-nil (p .lines)) in
-    record { lines = p .lines; count = p .count; few = p .few; words = p .words; good = p .good; alike = ap refusalOf e; whole = λ z. e }
+    record { lines = p .lines; count = p .count; few = p .few; words = p .words; good = p .good; alike = λ t. ap (refusalOf t) e; whole = λ t z. e }
 
 -- one line more
 words-snoc : (p : List Line) (l : Line) → wordsOf (p ++ (l ∷ [])) ≡ wordsOf p ++ lineWords l
@@ -106,7 +107,7 @@ parsed-malformed : (s : List ℕ) (ws us : List ℤ) (n at : ℕ) (q : List Line
 parsed-malformed s ws us n at q p f e w =
     parsed-front s us (n + 1) (p .lines ++ ([] ∷ [])) q (count-more (p .lines) [] n (p .count)) (omega arith) (words-more ws us n (p .lines) [] (p .words) w)
     (goods-append (p .lines) ([] ∷ []) (p .good) (nil-good, tt)) (p .rest ∙ ap (λ x. p .lines ++ x) e ∙ sym (append-assoc (p .lines) ([] ∷ []) q))
-    (scan-malformed (p .lines)) (λ z. not-formed (p .lines) (accepted-lines (p .lines ++ ([] ∷ [])) z))
+    (λ t. scan-malformed t (p .lines)) (λ t z. not-formed (p .lines) (accepted-lines t (p .lines ++ ([] ∷ [])) z))
 
 pub parsed-open : (s : List ℕ) (ws us : List ℤ) (n at : ℕ) → Parsing s ws n at → n < most-lines + 1 → at < length s → at + beforeEnd (drop at s) ≡ length s
     → Wrote ws us (n * 7) (n * 7 + 7) (replicate 7 (pos 0)) → Parsed s us (n + 1)

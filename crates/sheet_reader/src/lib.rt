@@ -1,9 +1,10 @@
-// A sheet's bytes to its number form.
+// A sheet's bytes to its number form, by a table of relations.
 ghost use mathlib.Core.Path.{_≡_};
 ghost use Prim.Native.Nat.{_+_, _-_, _*_, _≤_};
 ghost use lib.ListN.{length, take, drop};
 ghost use Rattle.sheet_format.specs.Limits.{most-lines, line-words};
 ghost use Rattle.sheet_format.specs.Line.{lineOf, lineWords};
+ghost use Rattle.sheet_format.specs.Table.{tableIn};
 ghost use Rattle.sheet_format.specs.Sheet.{readEnding, readWords, returned, readReturned};
 ghost use Rattle.list_laws.specs.Wrote.{Wrote};
 ghost use Rattle.sheet_reader.specs.Parsed.{Parsed};
@@ -113,16 +114,16 @@ fn copy(ws: &[i32], n: usize, out: &mut [i32])
     }
 }
 
-// A sheet's bytes to its number form in the lent words.
-pub fn read(sheet: &[u8], out: &mut [i32]) -> Ending
-    ensures { λ r. ⌜ (r ≡ readEnding (now (sheet .entry)) (length (now (out .entry)))) × (now (out .exit) ≡ readWords (now (sheet .entry)) (now (out .entry))) × (returned r ≡ readReturned (now (sheet .entry)) (length (now (out .entry)))) ⌝ }
+// A sheet's bytes to its number form in the lent words, by a table in plain numbers.
+pub fn read(table: &[usize], sheet: &[u8], out: &mut [i32]) -> Ending
+    ensures { λ r. ⌜ (r ≡ readEnding (tableIn (now (table .entry))) (now (sheet .entry)) (length (now (out .entry)))) × (now (out .exit) ≡ readWords (tableIn (now (table .entry))) (now (sheet .entry)) (now (out .entry))) × (returned r ≡ readReturned (tableIn (now (table .entry))) (now (sheet .entry)) (length (now (out .entry)))) ⌝ }
 {
     if MOST_SHEET_BYTES < sheet.len() {
         return Ending::Refused(TOO_LONG, 0);
     }
     let mut ws = [0i32; WORDS];
     let n = parse(sheet, &mut ws);
-    let r = sheet_causes::refusal(&ws[..n * LINE_WORDS]);
+    let r = sheet_causes::refusal(table, &ws[..n * LINE_WORDS]);
     if r.number != 0 {
         return Ending::Refused(r.number, r.line);
     }

@@ -2,5 +2,5 @@ pub mod Rules
 pub mod Numbers
 pub mod Lines
 pub mod Reading
-pub mod Returned
 pub mod Sound
+pub mod Loads

@@ -10,7 +10,7 @@ use lib.IntN.{ℤ, pos, negsuc}
 use lib.ListN.{length, take, drop, getD, length-map}
 use lib.Seq.{drop-drop}
 use Rattle.sheet_format.specs.Limits.{field-bytes, field-end, most-fields, most-relations}
-use Rattle.sheet_format.specs.Table.{Relation, Table, unknown, relation}
+use Rattle.sheet_format.specs.Table.{Relation, unknown, relation}
 use Rattle.sheet_format.specs.Field.{fieldOf, fieldAt}
 use Rattle.sheet_format.specs.Line.{all, natural, eights, isNumber, number, fieldsIn, wellFormed, lineOf}
 use Rattle.sheet_format.specs.declared.Field.{Field}
@@ -18,8 +18,8 @@ use Rattle.sheet_format.specs.declared.Field.the-variants.{Number, Malformed}
 use Rattle.sheet_format.proofs.Lists.{both, no-way}
 use Rattle.sheet_format.proofs.LineLaws.{line-by, eights-length}
 use Rattle.sheet_reader.proofs.LineOf.{eights-take, part-length}
-use Rattle.sheet_table.specs.Tables.{numberIn, relationIn, notNegative, relationNumbers, tableNumbers, fourFields, parentRight, relationRight, lineRight}
-use Rattle.sheet_table.specs.Numbers.{plainOf, parentFits, lineFits, putRelation, TakenLine}
+use Rattle.sheet_table.specs.Tables.{numberIn, relationIn, notNegative, fourFields, parentRight, relationRight, lineRight}
+use Rattle.sheet_table.specs.Numbers.{plainOf, relationNumbers, tableNumbers, parentFits, lineFits, putRelation, TakenLine}
 use Rattle.sheet_table.proofs.Numbers.{numbers-at, numbers-more}
 
 and-no : (b : Bool) → b && false ≡ false
@@ -31,56 +31,56 @@ entry c k p = record { columns = c; key = k; parent = p }
 
 -- ---- a number that no field holds is refused
 
-module _ (t : Table) (m c k p : ℕ) (few : length t < most-relations) where
-  bad-number : relationRight t field-end (entry c k p) ≡ false
-  bad-number = rw (ne-eqb field-end (length t + 1) (λ e. omega arith))
+module _ (rs : List Relation) (m c k p : ℕ) (few : length rs < most-relations) where
+  bad-number : relationRight rs field-end (entry c k p) ≡ false
+  bad-number = rw (ne-eqb field-end (length rs + 1) (λ e. omega arith))
 
-  bad-columns : relationRight t m (entry field-end k p) ≡ false
-  bad-columns = and-no (eqb m (length t + 1))
+  bad-columns : relationRight rs m (entry field-end k p) ≡ false
+  bad-columns = and-no (eqb m (length rs + 1))
 
-  bad-key : relationRight t m (entry c field-end p) ≡ false
-  bad-key = ap (λ b. eqb m (length t + 1) && b) (go (leb 1 c && leb c 4) refl) ∙ and-no (eqb m (length t + 1))
+  bad-key : relationRight rs m (entry c field-end p) ≡ false
+  bad-key = ap (λ b. eqb m (length rs + 1) && b) (go (leb 1 c && leb c 4) refl) ∙ and-no (eqb m (length rs + 1))
     where
-      go : (b : Bool) → leb 1 c && leb c 4 ≡ b → (b && (ltb field-end c && parentRight t (entry c field-end p))) ≡ false
+      go : (b : Bool) → leb 1 c && leb c 4 ≡ b → (b && (ltb field-end c && parentRight rs (entry c field-end p))) ≡ false
       go true e = let h = leb-true c 4 (both (leb 1 c) (leb c 4) e .1) in rw (le-ltb field-end c (omega arith))
       go false e = refl
 
-  bad-parent : relationRight t m (entry c k field-end) ≡ false
+  bad-parent : relationRight rs m (entry c k field-end) ≡ false
   bad-parent =
-      rw (lt-leb field-end (length t) (omega arith), and-no (ltb k c), and-no (leb 1 c && leb c 4), and-no (eqb m (length t + 1)))
+      rw (lt-leb field-end (length rs) (omega arith), and-no (ltb k c), and-no (leb 1 c && leb c 4), and-no (eqb m (length rs + 1)))
 
 -- ---- four fields
 
-module _ (t : Table) (few : length t < most-relations) where
-  four : (f g h i : Field) → lineRight t (cond (all isNumber (f ∷ g ∷ h ∷ i ∷ [])) (map number (f ∷ g ∷ h ∷ i ∷ [])) []) ≡ relationRight t (plainOf f) (entry (plainOf g) (plainOf h) (plainOf i))
+module _ (rs : List Relation) (few : length rs < most-relations) where
+  four : (f g h i : Field) → lineRight rs (cond (all isNumber (f ∷ g ∷ h ∷ i ∷ [])) (map number (f ∷ g ∷ h ∷ i ∷ [])) []) ≡ relationRight rs (plainOf f) (entry (plainOf g) (plainOf h) (plainOf i))
   unfolding lineRight
-  four Malformed g h i = sym (bad-number t 0 (plainOf g) (plainOf h) (plainOf i) few)
-  four (Number (negsuc a)) g h i = go (all isNumber (g ∷ h ∷ i ∷ [])) ∙ sym (bad-number t 0 (plainOf g) (plainOf h) (plainOf i) few)
+  four Malformed g h i = sym (bad-number rs 0 (plainOf g) (plainOf h) (plainOf i) few)
+  four (Number (negsuc a)) g h i = go (all isNumber (g ∷ h ∷ i ∷ [])) ∙ sym (bad-number rs 0 (plainOf g) (plainOf h) (plainOf i) few)
     where
-      go : (b : Bool) → lineRight t (cond b (negsuc a ∷ number g ∷ number h ∷ number i ∷ []) []) ≡ false
+      go : (b : Bool) → lineRight rs (cond b (negsuc a ∷ number g ∷ number h ∷ number i ∷ []) []) ≡ false
       go true = refl
       go false = refl
-  four (Number (pos a)) Malformed h i = sym (bad-columns t a 0 (plainOf h) (plainOf i) few)
-  four (Number (pos a)) (Number (negsuc b)) h i = go (all isNumber (h ∷ i ∷ [])) ∙ sym (bad-columns t a 0 (plainOf h) (plainOf i) few)
+  four (Number (pos a)) Malformed h i = sym (bad-columns rs a 0 (plainOf h) (plainOf i) few)
+  four (Number (pos a)) (Number (negsuc b)) h i = go (all isNumber (h ∷ i ∷ [])) ∙ sym (bad-columns rs a 0 (plainOf h) (plainOf i) few)
     where
-      go : (x : Bool) → lineRight t (cond x (pos a ∷ negsuc b ∷ number h ∷ number i ∷ []) []) ≡ false
+      go : (x : Bool) → lineRight rs (cond x (pos a ∷ negsuc b ∷ number h ∷ number i ∷ []) []) ≡ false
       go true = refl
       go false = refl
-  four (Number (pos a)) (Number (pos b)) Malformed i = sym (bad-key t a b 0 (plainOf i) few)
-  four (Number (pos a)) (Number (pos b)) (Number (negsuc c)) i = go (all isNumber (i ∷ [])) ∙ sym (bad-key t a b 0 (plainOf i) few)
+  four (Number (pos a)) (Number (pos b)) Malformed i = sym (bad-key rs a b 0 (plainOf i) few)
+  four (Number (pos a)) (Number (pos b)) (Number (negsuc c)) i = go (all isNumber (i ∷ [])) ∙ sym (bad-key rs a b 0 (plainOf i) few)
     where
-      go : (x : Bool) → lineRight t (cond x (pos a ∷ pos b ∷ negsuc c ∷ number i ∷ []) []) ≡ false
+      go : (x : Bool) → lineRight rs (cond x (pos a ∷ pos b ∷ negsuc c ∷ number i ∷ []) []) ≡ false
       go true = refl
       go false = refl
-  four (Number (pos a)) (Number (pos b)) (Number (pos c)) Malformed = sym (bad-parent t a b c 0 few)
-  four (Number (pos a)) (Number (pos b)) (Number (pos c)) (Number (negsuc d)) = sym (bad-parent t a b c 0 few)
+  four (Number (pos a)) (Number (pos b)) (Number (pos c)) Malformed = sym (bad-parent rs a b c 0 few)
+  four (Number (pos a)) (Number (pos b)) (Number (pos c)) (Number (negsuc d)) = sym (bad-parent rs a b c 0 few)
   four (Number (pos a)) (Number (pos b)) (Number (pos c)) (Number (pos d)) = refl
 
 -- a right line's plain numbers are the relation's
-plain-four : (t : Table) (f g h i : Field) → lineRight t (cond (all isNumber (f ∷ g ∷ h ∷ i ∷ [])) (map number (f ∷ g ∷ h ∷ i ∷ [])) []) ≡ true
+plain-four : (rs : List Relation) (f g h i : Field) → lineRight rs (cond (all isNumber (f ∷ g ∷ h ∷ i ∷ [])) (map number (f ∷ g ∷ h ∷ i ∷ [])) []) ≡ true
     → relationIn (cond (all isNumber (f ∷ g ∷ h ∷ i ∷ [])) (map number (f ∷ g ∷ h ∷ i ∷ [])) []) ≡ entry (plainOf g) (plainOf h) (plainOf i)
 unfolding lineRight
-plain-four t f g h i e = go (all isNumber (f ∷ g ∷ h ∷ i ∷ [])) refl e
+plain-four rs f g h i e = go (all isNumber (f ∷ g ∷ h ∷ i ∷ [])) refl e
   where
     line : Bool → List ℤ
     line b = cond b (map number (f ∷ g ∷ h ∷ i ∷ [])) []
@@ -90,7 +90,7 @@ plain-four t f g h i e = go (all isNumber (f ∷ g ∷ h ∷ i ∷ [])) refl e
     plain (Number (negsuc n)) p q = no-way q
     plain Malformed p q = no-way p
 
-    go : (b : Bool) → all isNumber (f ∷ g ∷ h ∷ i ∷ []) ≡ b → lineRight t (line b) ≡ true → relationIn (line b) ≡ entry (plainOf g) (plainOf h) (plainOf i)
+    go : (b : Bool) → all isNumber (f ∷ g ∷ h ∷ i ∷ []) ≡ b → lineRight rs (line b) ≡ true → relationIn (line b) ≡ entry (plainOf g) (plainOf h) (plainOf i)
     go false q r = no-way r
     go true q r =
         let ns = both (isNumber f) _ q .1 in
@@ -108,27 +108,27 @@ plain-four t f g h i e = go (all isNumber (f ∷ g ∷ h ∷ i ∷ [])) refl e
 
 -- ---- the rules over the numbers of the relations before
 
-parent-same : (t : Table) (c k p : ℕ) → length t < most-relations → parentFits (tableNumbers t) (length t) c p ≡ parentRight t (entry c k p)
+parent-same : (rs : List Relation) (c k p : ℕ) → length rs < most-relations → parentFits (tableNumbers rs) (length rs) c p ≡ parentRight rs (entry c k p)
 unfolding parentFits relation
-parent-same t c k zero few = refl
-parent-same t c k (suc p) few = rw (ne-eqb (suc p) 0 (λ e. omega arith)) (go (leb (suc p) (length t)) refl)
+parent-same rs c k zero few = refl
+parent-same rs c k (suc p) few = rw (ne-eqb (suc p) 0 (λ e. omega arith)) (go (leb (suc p) (length rs)) refl)
   where
     -- number j of the parent
-    at : (j : ℕ) → j < 3 → p < most-relations → getD (tableNumbers t) ((suc p - 1) * 3 + j) 0 ≡ getD (relationNumbers (getD t p unknown)) j 0
-    at j lt h = ap (λ i. getD (tableNumbers t) (i * 3 + j) 0) (let e : suc p - 1 ≡ p = omega arith in e) ∙ numbers-at most-relations p j t h lt
+    at : (j : ℕ) → j < 3 → p < most-relations → getD (tableNumbers rs) ((suc p - 1) * 3 + j) 0 ≡ getD (relationNumbers (getD rs p unknown)) j 0
+    at j lt h = ap (λ i. getD (tableNumbers rs) (i * 3 + j) 0) (let e : suc p - 1 ≡ p = omega arith in e) ∙ numbers-at most-relations p j rs h lt
 
-    go : (b : Bool) → leb (suc p) (length t) ≡ b
-        → (b && (eqb (getD (tableNumbers t) ((suc p - 1) * 3) 0) c && eqb (getD (tableNumbers t) ((suc p - 1) * 3 + 2) 0) 0)) ≡ (b && (eqb (getD t p unknown .columns) c && eqb (getD t p unknown .parent) 0))
+    go : (b : Bool) → leb (suc p) (length rs) ≡ b
+        → (b && (eqb (getD (tableNumbers rs) ((suc p - 1) * 3) 0) c && eqb (getD (tableNumbers rs) ((suc p - 1) * 3 + 2) 0) 0)) ≡ (b && (eqb (getD rs p unknown .columns) c && eqb (getD rs p unknown .parent) 0))
     go false e = refl
     go true e =
-        let h = leb-true (suc p) (length t) e in
-        let z = ap (λ i. getD (tableNumbers t) i 0) (let q : (suc p - 1) * 3 ≡ (suc p - 1) * 3 + 0 = omega arith in q) ∙ at 0 (omega arith) (omega arith) in
-        ap (λ x. eqb x c && eqb (getD (tableNumbers t) ((suc p - 1) * 3 + 2) 0) 0) z
-        ∙ ap (λ x. eqb (getD t p unknown .columns) c && eqb x 0) (at 2 (omega arith) (omega arith))
+        let h = leb-true (suc p) (length rs) e in
+        let z = ap (λ i. getD (tableNumbers rs) i 0) (let q : (suc p - 1) * 3 ≡ (suc p - 1) * 3 + 0 = omega arith in q) ∙ at 0 (omega arith) (omega arith) in
+        ap (λ x. eqb x c && eqb (getD (tableNumbers rs) ((suc p - 1) * 3 + 2) 0) 0) z
+        ∙ ap (λ x. eqb (getD rs p unknown .columns) c && eqb x 0) (at 2 (omega arith) (omega arith))
 
-rules-same : (t : Table) (m c k p : ℕ) → length t < most-relations → lineFits (tableNumbers t) (length t) m c k p ≡ relationRight t m (entry c k p)
+rules-same : (rs : List Relation) (m c k p : ℕ) → length rs < most-relations → lineFits (tableNumbers rs) (length rs) m c k p ≡ relationRight rs m (entry c k p)
 unfolding lineFits
-rules-same t m c k p few = ap (λ b. eqb m (length t + 1) && ((leb 1 c && leb c 4) && (ltb k c && b))) (parent-same t c k p few)
+rules-same rs m c k p few = ap (λ b. eqb m (length rs + 1) && ((leb 1 c && leb c 4) && (ltb k c && b))) (parent-same rs c k p few)
 
 -- ---- the line's bytes
 
@@ -136,17 +136,17 @@ field-there : (s : List ℕ) (at j : ℕ) → at + j + 8 ≤ length s → fieldA
 field-there s at j le = rw (le-leb (at + j + field-bytes) (length s) (omega arith), drop-drop j at s)
 
 -- a line of another length has not four fields
-pub other-length : (s : List ℕ) (t : Table) → (length s ≡ 32 → ⊥) → false ≡ lineRight t (lineOf s)
+pub other-length : (s : List ℕ) (rs : List Relation) → (length s ≡ 32 → ⊥) → false ≡ lineRight rs (lineOf s)
 unfolding lineRight
-other-length s t h = go (wellFormed s) refl
+other-length s rs h = go (wellFormed s) refl
   where
-    go : (b : Bool) → wellFormed s ≡ b → false ≡ lineRight t (lineOf s)
-    go false e = ap (lineRight t) (sym (line-by s false e))
+    go : (b : Bool) → wellFormed s ≡ b → false ≡ lineRight rs (lineOf s)
+    go false e = ap (lineRight rs) (sym (line-by s false e))
     go true e =
         let r = eqb-true (length s % field-bytes) 0 (both (eqb (length s % field-bytes) 0) _ e .0) in
         let l : length (map number (fieldsIn s)) ≡ length s / field-bytes = length-map (fieldsIn s) number ∙ length-map (eights (length s / field-bytes) s) fieldOf ∙ eights-length (length s / field-bytes) s in
         let q : fourFields (map number (fieldsIn s)) ≡ false = rw (ne-eqb (length (map number (fieldsIn s))) 4 (λ x. h (omega arith))) in
-        ap (λ b. b && relationRight t (numberIn (map number (fieldsIn s))) (relationIn (map number (fieldsIn s)))) (sym q) ∙ ap (lineRight t) (sym (line-by s true e))
+        ap (λ b. b && relationRight rs (numberIn (map number (fieldsIn s))) (relationIn (map number (fieldsIn s)))) (sym q) ∙ ap (lineRight rs) (sym (line-by s true e))
 
 module _ (s : List ℕ) (at e : ℕ) (le : at ≤ e) (inside : e ≤ length s) (size : e - at ≡ 32) where
   abbrev part : List ℕ
@@ -176,44 +176,44 @@ module _ (s : List ℕ) (at e : ℕ) (le : at ≤ e) (inside : e ≤ length s) (
   part-line = line-by part (all isNumber fields) part-formed ∙ ap (λ x. cond (all isNumber fields) (map number x) []) part-fields
 
   -- the line is right where its plain numbers fit
-  pub right-by : (t : Table) → length t < most-relations
-      → lineFits (tableNumbers t) (length t) (plainOf (fieldAt s at)) (plainOf (fieldAt s (at + 8))) (plainOf (fieldAt s (at + 16))) (plainOf (fieldAt s (at + 24))) ≡ lineRight t (lineOf part)
-  right-by t few = rules-same t _ _ _ _ few ∙ sym (ap (lineRight t) part-line ∙ four t few (fieldAt s at) (fieldAt s (at + 8)) (fieldAt s (at + 16)) (fieldAt s (at + 24)))
+  pub right-by : (rs : List Relation) → length rs < most-relations
+      → lineFits (tableNumbers rs) (length rs) (plainOf (fieldAt s at)) (plainOf (fieldAt s (at + 8))) (plainOf (fieldAt s (at + 16))) (plainOf (fieldAt s (at + 24))) ≡ lineRight rs (lineOf part)
+  right-by rs few = rules-same rs _ _ _ _ few ∙ sym (ap (lineRight rs) part-line ∙ four rs few (fieldAt s at) (fieldAt s (at + 8)) (fieldAt s (at + 16)) (fieldAt s (at + 24)))
 
   -- and then they are the relation's
-  pub relation-by : (t : Table) → lineRight t (lineOf part) ≡ true → relationIn (lineOf part) ≡ entry (plainOf (fieldAt s (at + 8))) (plainOf (fieldAt s (at + 16))) (plainOf (fieldAt s (at + 24)))
-  relation-by t h = ap relationIn part-line ∙ plain-four t (fieldAt s at) (fieldAt s (at + 8)) (fieldAt s (at + 16)) (fieldAt s (at + 24)) (sym (ap (lineRight t) part-line) ∙ h)
+  pub relation-by : (rs : List Relation) → lineRight rs (lineOf part) ≡ true → relationIn (lineOf part) ≡ entry (plainOf (fieldAt s (at + 8))) (plainOf (fieldAt s (at + 16))) (plainOf (fieldAt s (at + 24)))
+  relation-by rs h = ap relationIn part-line ∙ plain-four rs (fieldAt s at) (fieldAt s (at + 8)) (fieldAt s (at + 16)) (fieldAt s (at + 24)) (sym (ap (lineRight rs) part-line) ∙ h)
 
 -- ---- a line that is taken, or not
 
 -- whether the line is right, and then the numbers to put
 pub record LineRead (s : List ℕ) (at e : ℕ) (ns : List ℕ) (n c k p : ℕ) (r : Bool) : Type 0 where
-  pub right : (t : Table) → length t ≡ n → ns ≡ tableNumbers t → r ≡ lineRight t (lineOf (take (e - at) (drop at s)))
-  pub put : (t : Table) → length t ≡ n → ns ≡ tableNumbers t → r ≡ true → putRelation ns n c k p ≡ tableNumbers (t ++ (relationIn (lineOf (take (e - at) (drop at s))) ∷ []))
+  pub right : (rs : List Relation) → length rs ≡ n → ns ≡ tableNumbers rs → r ≡ lineRight rs (lineOf (take (e - at) (drop at s)))
+  pub put : (rs : List Relation) → length rs ≡ n → ns ≡ tableNumbers rs → r ≡ true → putRelation ns n c k p ≡ tableNumbers (rs ++ (relationIn (lineOf (take (e - at) (drop at s))) ∷ []))
 
 pub not-four : (s : List ℕ) (at e : ℕ) (ns us : List ℕ) (n : ℕ) → at ≤ e → e ≤ length s → (e - at ≡ 32 → ⊥) → TakenLine s at e ns us n false
 not-four s at e ns us n le inside h =
-    record { right = λ t l q. other-length (take (e - at) (drop at s)) t (λ x. h (sym (part-length s at e le inside) ∙ x)); put = λ t l q x. no-way x }
+    record { right = λ rs l q. other-length (take (e - at) (drop at s)) rs (λ x. h (sym (part-length s at e le inside) ∙ x)); put = λ rs l q x. no-way x }
 
 module _ (s : List ℕ) (at e : ℕ) (le : at ≤ e) (inside : e ≤ length s) (size : e - at ≡ 32) (ns : List ℕ) (n : ℕ) (few : n < most-relations) (m c k p : ℕ)
     (ms : m ≡ plainOf (fieldAt s at)) (cs : c ≡ plainOf (fieldAt s (at + 8))) (ks : k ≡ plainOf (fieldAt s (at + 16))) (ps : p ≡ plainOf (fieldAt s (at + 24))) where
   abbrev line : List ℤ
   line = lineOf (take (e - at) (drop at s))
 
-  fits-right : (t : Table) → length t ≡ n → ns ≡ tableNumbers t → lineFits ns n m c k p ≡ lineRight t line
-  fits-right t l q = rw (q, sym l, ms, cs, ks, ps) (right-by s at e le inside size t (omega arith))
+  fits-right : (rs : List Relation) → length rs ≡ n → ns ≡ tableNumbers rs → lineFits ns n m c k p ≡ lineRight rs line
+  fits-right rs l q = rw (q, sym l, ms, cs, ks, ps) (right-by s at e le inside size rs (omega arith))
 
   pub line-read : (r : Bool) → r ≡ lineFits ns n m c k p → LineRead s at e ns n c k p r
   line-read r h = record {
-    right = λ t l q. h ∙ fits-right t l q;
-    put = λ t l q is.
-        let x = relation-by s at e le inside size t (sym (fits-right t l q) ∙ sym h ∙ is) in
-        rw (q, sym l, cs, ks, ps, x) (numbers-more most-relations t (entry (plainOf (fieldAt s (at + 8))) (plainOf (fieldAt s (at + 16))) (plainOf (fieldAt s (at + 24)))) (omega arith));
+    right = λ rs l q. h ∙ fits-right rs l q;
+    put = λ rs l q is.
+        let x = relation-by s at e le inside size rs (sym (fits-right rs l q) ∙ sym h ∙ is) in
+        rw (q, sym l, cs, ks, ps, x) (numbers-more most-relations rs (entry (plainOf (fieldAt s (at + 8))) (plainOf (fieldAt s (at + 16))) (plainOf (fieldAt s (at + 24)))) (omega arith));
   }
 
 module _ {s : List ℕ} {at e : ℕ} {ns : List ℕ} {n c k p : ℕ} {r : Bool} (d : LineRead s at e ns n c k p r) where
   pub not-taken : (us : List ℕ) → r ≡ false → TakenLine s at e ns us n false
-  not-taken us is = record { right = λ t l q. sym is ∙ d .right t l q; put = λ t l q x. no-way x }
+  not-taken us is = record { right = λ rs l q. sym is ∙ d .right rs l q; put = λ rs l q x. no-way x }
 
   pub taken : (us : List ℕ) → r ≡ true → us ≡ putRelation ns n c k p → TakenLine s at e ns us n true
-  taken us is w = record { right = λ t l q. sym is ∙ d .right t l q; put = λ t l q x. w ∙ d .put t l q is }
+  taken us is w = record { right = λ rs l q. sym is ∙ d .right rs l q; put = λ rs l q x. w ∙ d .put rs l q is }

@@ -8,17 +8,16 @@ use borrow.Author.Tests.{ltb-true, ltb-false, lt-ltb, le-ltb}
 use lib.Dec.{ltb}
 use lib.ListN.{length, take, drop, replicate, length-append, length-drop, length-map, drop-of-length-le}
 use Rattle.sheet_format.specs.Limits.{most-relations}
-use Rattle.sheet_format.specs.Table.{Table}
+use Rattle.sheet_format.specs.Table.{Relation}
 use Rattle.sheet_format.specs.Line.{Line, null, lineOf, byteLines}
 use Rattle.sheet_format.specs.Cause.{refusal, none}
-use Rattle.sheet_format.specs.declared.Ending.the-variants.{Done, Refused}
 use Rattle.sheet_format.proofs.Lists.{append-nil, map-append}
 use Rattle.sheet_format.proofs.LineLaws.{lines-none}
 use Rattle.sheet_line_ends.specs.Before.{beforeEnd}
 use Rattle.sheet_line_ends.proofs.Laws.{before-le}
 use Rattle.sheet_reader.proofs.ParseLaws.{line-closes, line-stays-open}
-use Rattle.sheet_table.specs.Tables.{relationIn, lineRight, linesRefusal, tableRefusal, tableOf, tableNumbers, numbersOf, endingBy, tableEnding}
-use Rattle.sheet_table.specs.Numbers.{TakenLine, ReadLines}
+use Rattle.sheet_table.specs.Tables.{relationIn, lineRight, linesRefusal, tableRefusal, relationsOf}
+use Rattle.sheet_table.specs.Numbers.{tableNumbers, numbersOf, TakenLine, ReadLines}
 
 -- what is left of the bytes has a line
 next-line : (s : List ℕ) (at : ℕ) → at < length s → (l : Line) × (q : List Line) × (byteLines (drop at s) ≡ l ∷ q)
@@ -52,36 +51,36 @@ not-null [] q l = refl
 not-null (k ∷ p) q l = refl
 
 module _ (s ns : List ℕ) (n at : ℕ) (r : Reading s ns n at) where
-  abbrev table : Table
-  table = map relationIn (r .lines)
+  abbrev taken : List Relation
+  taken = map relationIn (r .lines)
 
-  table-length : length table ≡ n
-  table-length = length-map (r .lines) relationIn ∙ r .count
+  taken-length : length taken ≡ n
+  taken-length = length-map (r .lines) relationIn ∙ r .count
 
   -- ---- a line that is not right, or is one too many
 
-  refused-here : (l : Line) (q : List Line) → byteLines (drop at s) ≡ l ∷ q → ltb (length table) most-relations && lineRight table l ≡ false → tableRefusal s ≡ refusal 15 (n + 1)
+  refused-here : (l : Line) (q : List Line) → byteLines (drop at s) ≡ l ∷ q → ltb (length taken) most-relations && lineRight taken l ≡ false → tableRefusal s ≡ refusal 15 (n + 1)
   unfolding tableRefusal linesRefusal
   refused-here l q e h =
       rw (ap null (r .rest ∙ ap (λ x. r .lines ++ x) e) ∙ not-null (r .lines) q l)
-      (r .so-far ∙ ap (linesRefusal table) e ∙ rw h (ap (λ k. refusal 15 (k + 1)) table-length))
+      (r .so-far ∙ ap (linesRefusal taken) e ∙ rw h (ap (λ k. refusal 15 (k + 1)) taken-length))
 
   pub too-many : n ≡ most-relations → at < length s → tableRefusal s ≡ refusal 15 (n + 1)
   too-many e lt =
-      let t = table-length in
+      let t = taken-length in
       let (l, q, is) = next-line s at lt in
-      refused-here l q is (rw (le-ltb (length table) most-relations (omega arith)))
+      refused-here l q is (rw (le-ltb (length taken) most-relations (omega arith)))
 
   and-no : (a b : Bool) → b ≡ false → (a && b) ≡ false
   and-no true b e = e
   and-no false b e = refl
 
-  no-line : lineRight table [] ≡ false
+  no-line : lineRight taken [] ≡ false
   unfolding lineRight
   no-line = refl
 
   pub unclosed : at < length s → at + beforeEnd (drop at s) ≡ length s → tableRefusal s ≡ refusal 15 (n + 1)
-  unclosed lt e = refused-here [] [] (line-stays-open s at lt e) (and-no (ltb (length table) most-relations) (lineRight table []) no-line)
+  unclosed lt e = refused-here [] [] (line-stays-open s at lt e) (and-no (ltb (length taken) most-relations) (lineRight taken []) no-line)
 
   -- ---- a closed line
 
@@ -97,11 +96,11 @@ module _ (s ns : List ℕ) (n at : ℕ) (r : Reading s ns n at) where
 
     not-right : TakenLine s at e ns us n false → tableRefusal s ≡ refusal 15 (n + 1)
     not-right w =
-        refused-here line after closes (and-no (ltb (length table) most-relations) (lineRight table line) (sym (w .right table table-length (r .numbers))))
+        refused-here line after closes (and-no (ltb (length taken) most-relations) (lineRight taken line) (sym (w .right taken taken-length (r .numbers))))
 
-    goes-on : n < most-relations → lineRight table line ≡ true → linesRefusal table (line ∷ after) ≡ linesRefusal (table ++ (relationIn line ∷ [])) after
+    goes-on : n < most-relations → lineRight taken line ≡ true → linesRefusal taken (line ∷ after) ≡ linesRefusal (taken ++ (relationIn line ∷ [])) after
     unfolding linesRefusal
-    goes-on f h = let t = table-length in rw (lt-ltb (length table) most-relations (omega arith), h)
+    goes-on f h = let t = taken-length in rw (lt-ltb (length taken) most-relations (omega arith), h)
 
     reading-more : n < most-relations → TakenLine s at e ns us n true → Reading s us (n + 1) (e + 1)
     reading-more f w =
@@ -111,9 +110,9 @@ module _ (s ns : List ℕ) (n at : ℕ) (r : Reading s ns n at) where
           count = length-append (r .lines) (line ∷ []) ∙ ap (λ k. k + 1) (r .count);
           few = omega arith;
           inside = omega arith;
-          numbers = w .put table table-length (r .numbers) refl ∙ ap tableNumbers (sym m);
+          numbers = w .put taken taken-length (r .numbers) refl ∙ ap tableNumbers (sym m);
           rest = r .rest ∙ ap (λ x. r .lines ++ x) closes ∙ sym (append-assoc (r .lines) (line ∷ []) after);
-          so-far = r .so-far ∙ ap (linesRefusal table) closes ∙ goes-on f (sym (w .right table table-length (r .numbers))) ∙ ap (λ x. linesRefusal x after) (sym m);
+          so-far = r .so-far ∙ ap (linesRefusal taken) closes ∙ goes-on f (sym (w .right taken taken-length (r .numbers))) ∙ ap (λ x. linesRefusal x after) (sym m);
         }
 
   -- ---- the end of the bytes
@@ -139,18 +138,14 @@ module _ (s ns : List ℕ) (n at : ℕ) (r : Reading s ns n at) where
 
     accepted : (n ≡ 0 → ⊥) → tableRefusal s ≡ none
     unfolding tableRefusal linesRefusal
-    accepted h = rw (ap null whole ∙ some-lines (r .lines) (λ e. h (sym (r .count) ∙ e))) (r .so-far ∙ ap (linesRefusal table) none-left)
+    accepted h = rw (ap null whole ∙ some-lines (r .lines) (λ e. h (sym (r .count) ∙ e))) (r .so-far ∙ ap (linesRefusal taken) none-left)
 
-    read-whole : tableOf s ≡ table
-    unfolding tableOf
+    read-whole : relationsOf s ≡ taken
+    unfolding relationsOf
     read-whole = ap (map relationIn) whole
 
-    pub read-done : (n ≡ 0 → ⊥) → ReadLines s ns (Done n)
-    unfolding tableEnding
-    read-done h = record {
-      answer = sym (ap (λ x. endingBy x (length (tableOf s))) (accepted h) ∙ ap Done (ap length read-whole ∙ table-length));
-      numbers = λ z. r .numbers ∙ ap tableNumbers (sym read-whole);
-    }
+    pub read-done : (n ≡ 0 → ⊥) → ReadLines s ns none
+    read-done h = record { answer = sym (accepted h); numbers = λ z. r .numbers ∙ ap tableNumbers (sym read-whole) }
 
 -- a line that closes at e, taken behind the lines so far; whether it is right
 pub record LineTaken (s ns us : List ℕ) (n at e : ℕ) (r : Bool) : Type 0 where
@@ -167,9 +162,8 @@ wrong-line {s} {ns} {us} {n} {at} {e} t is = not-right s ns n at (t .so-far) us 
 pub right-line : {s ns us : List ℕ} {n at e : ℕ} {r : Bool} → LineTaken s ns us n at e r → r ≡ true → Reading s us (n + 1) (e + 1)
 right-line {s} {ns} {us} {n} {at} {e} t is = reading-more s ns n at (t .so-far) us e (t .end) (t .closed) (t .room) (subst (TakenLine s at e ns us n) is (t .line))
 
-pub read-refused : (s us : List ℕ) (k : ℕ) → tableRefusal s ≡ refusal 15 k → ReadLines s us (Refused 15 k)
-unfolding tableEnding
+pub read-refused : (s us : List ℕ) (k : ℕ) → tableRefusal s ≡ refusal 15 k → ReadLines s us (refusal 15 k)
 read-refused s us k e = record {
-  answer = sym (ap (λ x. endingBy x (length (tableOf s))) e);
+  answer = sym e;
   numbers = λ z. let q : _≡_ {A = ℕ} 15 0 = sym (ap (λ x. x .number) e) ∙ z in absurd (omega arith);
 }

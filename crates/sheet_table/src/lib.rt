@@ -1,25 +1,21 @@
 // A table of relations, from its bytes to plain numbers.
-use sheet_format::Ending;
 use sheet_format::FIELD_BYTES;
 use sheet_format::FIELD_END;
 use sheet_format::Field;
 use sheet_format::MOST_COLUMNS;
 use sheet_format::MOST_RELATIONS;
+use sheet_format::RELATION_NUMBERS;
+use sheet_format::Refusal;
 use sheet_format::TABLE_FIELDS;
+use sheet_format::TABLE_NUMBERS;
 use sheet_format::WRONG_TABLE;
 ghost use mathlib.Core.Path.{_≡_};
 ghost use Prim.Native.Nat.{_≤_, _<_};
 ghost use lib.ListN.{length, replicate};
 ghost use Rattle.sheet_format.specs.Limits.{most-relations};
 ghost use Rattle.sheet_format.specs.Field.{fieldAt};
-ghost use Rattle.sheet_format.specs.Sheet.{returned};
-ghost use Rattle.sheet_table.specs.Tables.{tableEnding, tableReturned, readNumbers};
+ghost use Rattle.sheet_table.specs.Loads.{Loads};
 ghost use Rattle.sheet_table.specs.Numbers.{plainNumber, plainOf, parentFits, lineFits, putRelation, TakenLine, ReadLines};
-
-// The numbers of a relation: its columns, key and parent. Those of a table, as many for each relation that it may have.
-const RELATION_NUMBERS: usize = 3;
-
-pub const TABLE_NUMBERS: usize = MOST_RELATIONS * RELATION_NUMBERS;
 
 const TABLE_LINE_BYTES: usize = TABLE_FIELDS * FIELD_BYTES;
 
@@ -128,8 +124,8 @@ fn take_line(s: &[u8], at: usize, e: usize, ns: &mut [usize; TABLE_NUMBERS], n: 
     false
 }
 
-// The table's lines one after the other, up to the first that is not right.
-fn read_lines(s: &[u8], ns: &mut [usize; TABLE_NUMBERS]) -> Ending
+// The table's lines one after the other, up to the first that is not right: why they are sent back.
+fn read_lines(s: &[u8], ns: &mut [usize; TABLE_NUMBERS]) -> Refusal
     requires { ⌜ now ns ≡ replicate 96 0 ⌝ }
     ensures { λ r. ⌜ ReadLines (now (s .entry)) (now (ns .exit)) r ⌝ }
 {
@@ -137,33 +133,59 @@ fn read_lines(s: &[u8], ns: &mut [usize; TABLE_NUMBERS]) -> Ending
     let mut at = 0;
     while at < s.len() {
         if n == MOST_RELATIONS {
-            return Ending::Refused(WRONG_TABLE, n + 1);
+            return Refusal {
+                number: WRONG_TABLE,
+                line: n + 1,
+            };
         }
         let e = sheet_line_ends::line_end(s, at);
         if e == s.len() {
-            return Ending::Refused(WRONG_TABLE, n + 1);
+            return Refusal {
+                number: WRONG_TABLE,
+                line: n + 1,
+            };
         }
         if !take_line(s, at, e, ns, n) {
-            return Ending::Refused(WRONG_TABLE, n + 1);
+            return Refusal {
+                number: WRONG_TABLE,
+                line: n + 1,
+            };
         }
         n += 1;
         at = e + 1;
     }
     if n == 0 {
-        return Ending::Refused(WRONG_TABLE, 0);
+        return Refusal {
+            number: WRONG_TABLE,
+            line: 0,
+        };
     }
-    Ending::Done(n)
+    Refusal { number: 0, line: 0 }
 }
 
-// A table's bytes to the lent numbers: columns, key and parent of each relation. How many relations there are.
-pub fn read_table(s: &[u8], out: &mut [usize; TABLE_NUMBERS]) -> Ending
-    ensures { λ r. ⌜ (r ≡ tableEnding (now (s .entry))) × (now (out .exit) ≡ readNumbers (now (s .entry)) (now (out .entry))) × (returned r ≡ tableReturned (now (s .entry))) ⌝ }
+// A table that was read: why it is sent back, 0 where it is not, and its relations in plain numbers.
+pub struct Loaded {
+    pub number: usize,
+    pub line: usize,
+    pub numbers: [usize; TABLE_NUMBERS],
+}
+
+// The table of the bytes; one without relations where they are sent back.
+pub fn load(s: &[u8]) -> Loaded
+    ensures { λ r. ⌜ Loads (now (s .entry)) r ⌝ }
 {
     let mut ns = [0usize; TABLE_NUMBERS];
     let r = read_lines(s, &mut ns);
-    let Ending::Done(n) = r else {
-        return r;
-    };
-    *out = ns;
-    Ending::Done(n)
+    if r.number != 0 {
+        return Loaded {
+            number: r.number,
+            line: r.line,
+            numbers: [0usize; TABLE_NUMBERS],
+        };
+    }
+    Loaded {
+        number: r.number,
+        line: r.line,
+        numbers: ns,
+    }
 }

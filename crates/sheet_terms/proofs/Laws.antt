@@ -2,19 +2,20 @@
 use mathlib.Core.Path.{_≡_, refl, sym, ap}
 use mathlib.Core.Bool.{true, false}
 use mathlib.Core.List.{List, [], _∷_}
-use Prim.Native.Nat.{ℕ, zero, suc, _<_, _≤_, _-_}
-use native.Mathlib.Nat.{zero-add}
+use Prim.Native.Nat.{ℕ, zero, suc, _+_, _*_, _<_, _≤_, min}
+use native.Mathlib.Nat.{zero-add, add-zero}
 use native.Mathlib.Omega.{arith}
 use lib.Dec.{leb}
 use lib.IntN.{ℤ, pos, negsuc, _-ℤ_}
-use lib.ListN.{getD, List·getD-eq-default}
+use lib.ListN.{getD}
 use lib.Signed.{ltZ}
 use borrow.Author.Tests.{ltb-true, ltb-false, lt-ltb, le-ltb, leb-true}
-use Rattle.sheet_format.specs.Limits.{constant-end}
+use Rattle.sheet_format.specs.Limits.{constant-end, most-columns, relation-numbers}
 use Rattle.sheet_format.specs.Line.{all, natural}
-use Rattle.sheet_format.proofs.Lists.{no-way, both}
+use Rattle.sheet_format.proofs.Lists.{no-way}
+use Rattle.sheet_format.proofs.TableLaws.{Narrow}
 use Rattle.sheet_format.specs.Cause.{termOf, orOut}
-use Rattle.sheet_format.specs.Relations.{columnsOf, keyOf, keyNumbers, parentOf, parentNumbers, relations}
+use Rattle.sheet_format.specs.Table.{Table, unknown, relation, columnsOf, tableIn}
 use Rattle.sheet_format.specs.declared.FieldTerm.the-variants.{Constant, Variable, OutOfRange}
 
 -- ---- terms
@@ -48,75 +49,52 @@ term-high (negsuc n) e = no-way (sym e)
 
 -- ---- relations
 
-pub no-columns : (z : ℤ) → ltZ z (pos 1) ≡ true → 0 ≡ columnsOf z
-unfolding columnsOf
-no-columns (pos zero) e = refl
-no-columns (pos (suc n)) e = let h = ltb-true (suc n) 1 e in absurd (omega arith)
-no-columns (negsuc n) e = refl
-
 -- from 1 on
-pub relation : (z : ℤ) → ltZ z (pos 1) ≡ false → (n : ℕ) × (z ≡ pos (suc n))
-relation (pos zero) e = let h = ltb-false 0 1 e in absurd (omega arith)
-relation (pos (suc n)) e = (n, refl)
-relation (negsuc n) e = no-way (sym e)
+pub numbered : (z : ℤ) → ltZ z (pos 1) ≡ false → (n : ℕ) × (z ≡ pos (suc n))
+numbered (pos zero) e = let h = ltb-false 0 1 e in absurd (omega arith)
+numbered (pos (suc n)) e = (n, refl)
+numbered (negsuc n) e = no-way (sym e)
 
--- the table's entry is the relation's columns, and past its end there is none
-pub columns-at : (n : ℕ) → getD relations (suc n - 1) 0 ≡ columnsOf (pos (suc n))
-unfolding columnsOf
-columns-at n =
-    let e : suc n - 1 ≡ n = omega arith in
-    ap (λ k. getD relations k 0) e
+pub no-columns : (t : Table) (z : ℤ) → ltZ z (pos 1) ≡ true → 0 ≡ columnsOf t z
+unfolding columnsOf relation
+no-columns t (pos zero) e = refl
+no-columns t (pos (suc n)) e = let h = ltb-true (suc n) 1 e in absurd (omega arith)
+no-columns t (negsuc n) e = refl
 
-pub columns-past : (n : ℕ) → 10 ≤ n → 0 ≡ columnsOf (pos (suc n))
-unfolding columnsOf
-columns-past n h = sym (List·getD-eq-default relations 0 h)
+pub suc-of : (n : ℕ) → (n ≡ 0 → ⊥) → (m : ℕ) × (n ≡ suc m)
+suc-of zero h = absurd (h refl)
+suc-of (suc n) h = (n, refl)
 
--- no entry is more than a row has columns
-pub table-most : (l : List ℕ) → all (λ n. leb n 4) l ≡ true → (n : ℕ) → getD l n 0 ≤ 4
-table-most [] e n = omega arith
-table-most (x ∷ l) e zero = leb-true x 4 (both (leb x 4) _ e .0)
-table-most (x ∷ l) e (suc n) = table-most l (both (leb x 4) _ e .1) n
+-- a number of a relation that plain numbers give
+module _ (ns : List ℕ) (n : ℕ) where
+  pub columns-at : min most-columns (getD ns (n * relation-numbers + 0) 0) ≡ columnsOf (tableIn ns) (pos (suc n))
+  unfolding columnsOf relation
+  columns-at = ap (λ i. min most-columns (getD ns i 0)) (add-zero (n * relation-numbers))
 
--- so it is with keys, of which none is longer than a row
-pub key-few : (n : ℕ) → keyOf n ≤ 4
-unfolding keyOf
-key-few zero = omega arith
-key-few (suc n) = table-most keyNumbers refl n
+  pub key-at : min most-columns (getD ns (n * relation-numbers + 1) 0) ≡ relation (tableIn ns) (suc n) .key
+  unfolding relation
+  key-at = refl
 
-pub key-none : (n : ℕ) → n ≡ 0 → 0 ≡ keyOf n
-unfolding keyOf
-key-none zero e = refl
-key-none (suc n) e = absurd (omega arith)
+  pub parent-at : getD ns (n * relation-numbers + 2) 0 ≡ relation (tableIn ns) (suc n) .parent
+  unfolding relation
+  parent-at = refl
 
-pub key-past : (n : ℕ) → 10 < n → 0 ≡ keyOf n
-unfolding keyOf
-key-past zero h = refl
-key-past (suc n) h = let l : 10 ≤ n = omega arith in sym (List·getD-eq-default keyNumbers 0 l)
+pub none-at : (t : Table) (n : ℕ) → n ≡ 0 → relation t n ≡ unknown
+unfolding relation
+none-at t zero e = refl
+none-at t (suc n) e = absurd (omega arith)
 
-pub key-at : (n : ℕ) → (n ≡ 0 → ⊥) → getD keyNumbers (n - 1) 0 ≡ keyOf n
-unfolding keyOf
-key-at zero ne = absurd (ne refl)
-key-at (suc n) ne =
-    let e : suc n - 1 ≡ n = omega arith in
-    ap (λ k. getD keyNumbers k 0) e
+-- neither columns nor keys are more than a fact has values
+pub columns-most : (ns : List ℕ) → Narrow (tableIn ns)
+unfolding columnsOf relation
+columns-most ns (pos zero) = omega arith
+columns-most ns (pos (suc n)) = omega arith
+columns-most ns (negsuc n) = omega arith
 
--- and with parents
-pub parent-none : (n : ℕ) → n ≡ 0 → 0 ≡ parentOf n
-unfolding parentOf
-parent-none zero e = refl
-parent-none (suc n) e = absurd (omega arith)
-
-pub parent-past : (n : ℕ) → 10 < n → 0 ≡ parentOf n
-unfolding parentOf
-parent-past zero h = refl
-parent-past (suc n) h = let l : 10 ≤ n = omega arith in sym (List·getD-eq-default parentNumbers 0 l)
-
-pub parent-at : (n : ℕ) → (n ≡ 0 → ⊥) → getD parentNumbers (n - 1) 0 ≡ parentOf n
-unfolding parentOf
-parent-at zero ne = absurd (ne refl)
-parent-at (suc n) ne =
-    let e : suc n - 1 ≡ n = omega arith in
-    ap (λ k. getD parentNumbers k 0) e
+pub key-most : (ns : List ℕ) (n : ℕ) → relation (tableIn ns) n .key ≤ most-columns
+unfolding relation
+key-most ns zero = omega arith
+key-most ns (suc n) = omega arith
 
 -- ---- numbers
 

@@ -15,6 +15,7 @@ use Rattle.sheet_format.proofs.WordLines.{sevens-get}
 use Rattle.sheet_format.proofs.WordLines as words
 use Rattle.sheet_format.specs.Field.{fieldBytes}
 use Rattle.sheet_format.specs.Line.{Line, all, gather, null, count, wordLine, sevens, wordLines, lineBytes, bytesOf}
+use Rattle.sheet_format.specs.Table.{Table}
 use Rattle.sheet_format.specs.Cause.{refusalOf}
 use Rattle.sheet_format.proofs.Lists.{append-nil, gather-append, all-at}
 use Rattle.sheet_format.proofs.Good.{Goods}
@@ -72,15 +73,15 @@ goods-take zero ls g = tt
 goods-take (suc n) [] g = tt
 goods-take (suc n) (l ∷ ls) g = (g .0, goods-take n ls (g .1))
 
-module _ (ws : List ℤ) (clean : refusalOf (wordLines ws) .number ≡ 0) where
+module _ (table : Table) (ws : List ℤ) (clean : refusalOf table (wordLines ws) .number ≡ 0) where
   pub few-lines : length ws / 7 ≤ most-lines
-  few-lines = let e = sevens-length (length ws / 7) ws in let h = accepted-length (wordLines ws) clean in omega arith
+  few-lines = let e = sevens-length (length ws / 7) ws in let h = accepted-length table (wordLines ws) clean in omega arith
 
   pub line-formed : (i : ℕ) → i < length ws / 7 → null (wordLine (sevenAt ws i)) ≡ false
   line-formed i lt =
       let e = sevens-length (length ws / 7) ws in
       not-true (null (wordLine (sevenAt ws i)))
-      (ap (λ l. not (null l)) (sym (sevens-at (length ws / 7) i ws lt)) ∙ all-at (λ l. not (null l)) [] (wordLines ws) (accepted-lines (wordLines ws) clean) i (omega arith))
+      (ap (λ l. not (null l)) (sym (sevens-at (length ws / 7) i ws lt)) ∙ all-at (λ l. not (null l)) [] (wordLines ws) (accepted-lines table (wordLines ws) clean) i (omega arith))
 
   -- the lines so far have at most 49 bytes each
   pub at-small : (i at : ℕ) (a b : List ℕ) → i ≤ length ws / 7 → Wrote a b 0 at (bytesOf (take i (wordLines ws))) → at ≤ i * 49

@@ -1,4 +1,4 @@
-// A number form to its sheet's bytes.
+// A number form to its sheet's bytes, by a table of relations.
 ghost use mathlib.Core.Path.{_≡_};
 ghost use mathlib.Core.Bool.{false};
 ghost use Prim.Native.Nat.{_+_, _*_, _≤_};
@@ -7,6 +7,7 @@ ghost use Rattle.sheet_format.specs.Limits.{most-bytes};
 ghost use Rattle.sheet_format.specs.Field.{fieldBytes};
 ghost use Rattle.sheet_format.specs.Line.{lineBytes, bytesOf, wordLine, wordLines, null};
 ghost use Rattle.sheet_format.specs.Cause.{refusalOf};
+ghost use Rattle.sheet_format.specs.Table.{Table, tableIn};
 ghost use Rattle.sheet_format.specs.Sheet.{writeEnding, writeBytes, returned, writeReturned};
 ghost use Rattle.list_laws.specs.Wrote.{Wrote};
 use sheet_format::Ending;
@@ -57,7 +58,7 @@ fn put_bytes(words: &[i32], i: usize, out: &mut [u8], at: usize) -> usize
 
 // The bytes of all lines of the words; how many they are.
 fn put_lines(words: &[i32], out: &mut [u8]) -> usize
-    requires { ⌜ (refusalOf (wordLines (now words)) .number ≡ 0) × (most-bytes ≤ length (now out)) ⌝ }
+    requires { ⌜ ((t : Table) × (refusalOf t (wordLines (now words)) .number ≡ 0) × (most-bytes ≤ length (now out))) ⌝ }
     ensures { λ r. ⌜ Wrote (now (out .entry)) (now (out .exit)) 0 r (bytesOf (wordLines (now (words .entry)))) ⌝ }
 {
     let n = words.len() / LINE_WORDS;
@@ -70,9 +71,9 @@ fn put_lines(words: &[i32], out: &mut [u8]) -> usize
     at
 }
 
-// A number form to its sheet's bytes in the lent bytes.
-pub fn write(words: &[i32], out: &mut [u8]) -> Ending
-    ensures { λ r. ⌜ (r ≡ writeEnding (now (words .entry)) (length (now (out .entry)))) × (now (out .exit) ≡ writeBytes (now (words .entry)) (now (out .entry))) × (returned r ≡ writeReturned (now (words .entry)) (length (now (out .entry)))) ⌝ }
+// A number form to its sheet's bytes in the lent bytes, by a table in plain numbers.
+pub fn write(table: &[usize], words: &[i32], out: &mut [u8]) -> Ending
+    ensures { λ r. ⌜ (r ≡ writeEnding (tableIn (now (table .entry))) (now (words .entry)) (length (now (out .entry)))) × (now (out .exit) ≡ writeBytes (tableIn (now (table .entry))) (now (words .entry)) (now (out .entry))) × (returned r ≡ writeReturned (tableIn (now (table .entry))) (now (words .entry)) (length (now (out .entry)))) ⌝ }
 {
     if MOST_WORDS < words.len() {
         return Ending::Refused(TOO_LONG, 0);
@@ -80,7 +81,7 @@ pub fn write(words: &[i32], out: &mut [u8]) -> Ending
     if words.len() % LINE_WORDS != 0 {
         return Ending::Refused(MALFORMED, 0);
     }
-    let r = sheet_causes::refusal(words);
+    let r = sheet_causes::refusal(table, words);
     if r.number != 0 {
         return Ending::Refused(r.number, r.line);
     }

@@ -1,7 +1,7 @@
 -- The plan of a sheet: where its tableau, listed rows, blocks and counts stand among plain numbers, every size and place behind one name. No
 -- promise to a caller rests on these.
 use Prim.Native.Nat.{ℕ, _+_, _*_}
-use Rattle.sheet_format.specs.Limits.{most-atoms, most-view-atoms, most-lists, most-views, most-rows}
+use Rattle.sheet_format.specs.Limits.{most-atoms, most-view-atoms, most-lists, most-views, most-rows, table-numbers}
 use Rattle.query_layout.specs.Layout.{names, row-columns, fact-width, block-width}
 
 -- a copy of the question and one of its view's block for each listed row; each copy has slots of its own
@@ -48,7 +48,7 @@ blocks-at = rows-at + most-rows * row-width
 abbrev pub sizes-at : ℕ
 sizes-at = blocks-at + most-blocks * block-width
 
--- the counts at the end: the tableau's atoms, the question's among them, the listed rows, the views, the lists
+-- the counts after them: the tableau's atoms, the question's among them, the listed rows, the views, the lists
 abbrev pub tableau-size-at : ℕ
 tableau-size-at = sizes-at + most-blocks
 
@@ -64,5 +64,9 @@ view-count-at = tableau-size-at + 3
 abbrev pub list-count-at : ℕ
 list-count-at = tableau-size-at + 4
 
+-- the table of relations after them
+abbrev pub table-at : ℕ
+table-at = tableau-size-at + 5
+
 abbrev pub plan-numbers : ℕ
-plan-numbers = tableau-size-at + 5
+plan-numbers = table-at + table-numbers

@@ -9,6 +9,7 @@ use sheet_format::MOST_LISTS;
 use sheet_format::MOST_ROWS;
 use sheet_format::MOST_VIEW_ATOMS;
 use sheet_format::MOST_VIEWS;
+use sheet_format::TABLE_NUMBERS;
 
 // A copy of the question and one of its view's block for each listed row; each copy has slots of its own.
 pub const MOST_COPIES: usize = 1 + MOST_ROWS;
@@ -41,7 +42,7 @@ pub const BLOCKS_AT: usize = ROWS_AT + MOST_ROWS * ROW_NUMBERS;
 
 pub const SIZES_AT: usize = BLOCKS_AT + MOST_BLOCKS * BLOCK_NUMBERS;
 
-// The counts at the end: the tableau's atoms, the question's among them, the listed rows, the views, the lists.
+// The counts after them: the tableau's atoms, the question's among them, the listed rows, the views, the lists.
 pub const TABLEAU_SIZE_AT: usize = SIZES_AT + MOST_BLOCKS;
 
 pub const ASKED_SIZE_AT: usize = TABLEAU_SIZE_AT + 1;
@@ -52,4 +53,7 @@ pub const VIEW_COUNT_AT: usize = TABLEAU_SIZE_AT + 3;
 
 pub const LIST_COUNT_AT: usize = TABLEAU_SIZE_AT + 4;
 
-pub const PLAN_NUMBERS: usize = TABLEAU_SIZE_AT + 5;
+// The table of relations after them.
+pub const TABLE_AT: usize = TABLEAU_SIZE_AT + 5;
+
+pub const PLAN_NUMBERS: usize = TABLE_AT + TABLE_NUMBERS;

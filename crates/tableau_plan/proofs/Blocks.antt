@@ -16,6 +16,7 @@ use Rattle.query_layout.specs.Layout.{block-width}
 use Rattle.tableau_layout.specs.Layout.{blocks-at, most-blocks, plan-numbers, question-block, list-block, view-block}
 use Rattle.list_laws.proofs.Lists.{part-get, part-length, drop-next}
 use Rattle.sheet_format.proofs.Lists.{neither}
+use Rattle.sheet_format.specs.Table.{Table}
 use Rattle.sheet_format.specs.Line.{Line}
 use Rattle.sheet_format.specs.Cause.{Kind, question, saved, view, atom, row, other, kind, rest, tooMany, start, nextBy, next, scan}
 use Rattle.sheet_format.specs.declared.Seen.{Seen}
@@ -23,7 +24,7 @@ use Rattle.sheet_format.proofs.ScanLaws.{accepted-scan}
 use Rattle.query_meaning.specs.Blocks.{View, viewOf, blocks, allBlocks, blockAt}
 use Rattle.query_encoding.specs.Encoding.{BlockNumbers, BlockFound, isBlock}
 use Rattle.query_blocks.proofs.Accepted.{scan-first}
-use Rattle.case_verdicts.specs.Sheets.{isSaved, isView, sheetOf}
+use Rattle.case_verdicts.specs.Sheets.{isSaved, isView, listsIn}
 use Rattle.case_verdicts.proofs.Order.{block-question, lists-few, block-list, block-view, block-count}
 use Rattle.tableau_plan.specs.Plan.{blockNumbers, blockSize}
 use Rattle.tableau_plan.specs.Parts.{BlockStored, Blocks, placeOf}
@@ -40,15 +41,15 @@ next-views g atom n v ws h e ih = ih h
 next-views g row n v ws h e ih = ih h
 next-views g other n v ws h e ih = ih h
 
-few-views : (ls : List Line) (g : Seen) (b : Line) (n : ℕ) → g .views ≤ most-views → scan g b n ls .number ≡ 0 → g .views + length (blocks isView ls) ≤ most-views
+few-views : (table : Table) (ls : List Line) (g : Seen) (b : Line) (n : ℕ) → g .views ≤ most-views → scan table g b n ls .number ≡ 0 → g .views + length (blocks isView ls) ≤ most-views
 unfolding next blocks
-few-views [] g b n h s = omega arith
-few-views (l ∷ ls) g b n h s =
-    let (c, r) = scan-first l ls g b n s in
-    next-views g (kind l) (length (rest l)) (viewOf l ls) (blocks isView ls) h (c .room) (λ i. few-views ls (next g l) l (n + 1) i r)
+few-views table [] g b n h s = omega arith
+few-views table (l ∷ ls) g b n h s =
+    let (c, r) = scan-first table l ls g b n s in
+    next-views g (kind l) (length (rest l)) (viewOf l ls) (blocks isView ls) h (c .room) (λ i. few-views table ls (next g l) l (n + 1) i r)
 
 pub accepted-views : (ls : List Line) → AcceptedLines ls → length (blocks isView ls) ≤ most-views
-accepted-views ls ok = let h = few-views ls start [] 1 (omega arith) (eqb-true _ 0 (accepted-scan ls ok)) in omega arith
+accepted-views ls ok = let h = few-views (ok .0) ls start [] 1 (omega arith) (eqb-true _ 0 (accepted-scan (ok .0) ls (ok .1))) in omega arith
 
 -- ---- whether there is a block
 
@@ -93,7 +94,7 @@ module _ (ls : List Line) (i n : ℕ) (lt : i < length ls) (h : ListsSoFar ls i 
       let o = ap length (no-list (getD ls i []) (drop (i + 1) ls) e) in
       omega arith
 
-pub lists-all : (ls : List Line) (i n : ℕ) → length ls ≤ i → ListsSoFar ls i n → n ≡ length (sheetOf ls .lists)
+pub lists-all : (ls : List Line) (i n : ℕ) → length ls ≤ i → ListsSoFar ls i n → n ≡ length (listsIn ls)
 unfolding blocks
 lists-all ls i n le h =
     let d = ap (λ m. length (blocks isSaved m)) (drop-of-length-le ls le) in
@@ -150,8 +151,8 @@ pub numbers-same : (p q : List ℕ) (c : ℕ) (k : List ℕ → Type 0) → leng
 numbers-same p q c k s t lt e h = subst k (sym (part-same p q (blocks-at + c * block-width) block-width (omega arith) (t ∙ sym s) e)) h
 
 -- one block more, at its place
-pub begun-more : (p q : List ℕ) (ls : List Line) (lists b : ℕ) (some : Bool) (n : ℕ) (blk : List ℕ) → placeOf lists b < most-blocks → length p ≡ plan-numbers → BlockStored p q (placeOf lists b) n blk → some ≡ true
-    → BlockFound ls (b + 1) some n blk → BlocksSoFar p ls lists b → BlocksSoFar q ls lists (b + 1)
+pub begun-more : {table : Table} (p q : List ℕ) (ls : List Line) (lists b : ℕ) (some : Bool) (n : ℕ) (blk : List ℕ) → placeOf lists b < most-blocks → length p ≡ plan-numbers → BlockStored p q (placeOf lists b) n blk → some ≡ true
+    → BlockFound table ls (b + 1) some n blk → BlocksSoFar p ls lists b → BlocksSoFar q ls lists (b + 1)
 begun-more p q ls lists b some n blk lt s w is f h =
     let t = w .long in
     let i : isBlock ls (b + 1) ≡ true = sym (f .found) ∙ is in
@@ -169,34 +170,34 @@ begun-more p q ls lists b some n blk lt s w is f h =
     }
 
 -- all of them: the question, the lists and the views are where they belong
-module _ (p : List ℕ) (ls : List Line) (lists b : ℕ) (ok : AcceptedLines ls) (so : lists ≡ length (sheetOf ls .lists)) (h : BlocksSoFar p ls lists b) where
+module _ (p : List ℕ) (ls : List Line) (lists b : ℕ) (ok : AcceptedLines ls) (so : lists ≡ length (listsIn ls)) (h : BlocksSoFar p ls lists b) where
   by-number : length (allBlocks ls) ≤ b → Blocks p ls b
   by-number all =
       let w = h .within in
-      let c = block-count ls ok in
-      let few = lists-few ls ok in
+      let c = block-count (ok .0) ls (ok .1) in
+      let few = lists-few (ok .0) ls (ok .1) in
       record {
         count = omega arith;
-        question = subst (λ x. BlockNumbers (blockNumbers p question-block) (blockSize p question-block) x) (block-question ls ok)
+        question = subst (λ x. BlockNumbers (blockNumbers p question-block) (blockSize p question-block) x) (block-question (ok .0) ls (ok .1))
             (subst (λ k. BlockNumbers (blockNumbers p k) (blockSize p k) (blockAt ls 1)) (place-low lists 0 (omega arith)) (h .each 0 (omega arith)));
-        list = λ i lt. subst (λ x. BlockNumbers (blockNumbers p (list-block i)) (blockSize p (list-block i)) x) (block-list ls ok i lt)
+        list = λ i lt. subst (λ x. BlockNumbers (blockNumbers p (list-block i)) (blockSize p (list-block i)) x) (block-list (ok .0) ls (ok .1) i lt)
             (subst (λ k. BlockNumbers (blockNumbers p k) (blockSize p k) (blockAt ls (suc (suc i)))) (let e = place-low lists (suc i) (omega arith) in let f : placeOf lists (suc i) ≡ list-block i = omega arith in f) (h .each (suc i) (omega arith)));
         view = λ v lt. subst (λ x. BlockNumbers (blockNumbers p (view-block v)) (blockSize p (view-block v)) x)
-            (ap (λ k. blockAt ls (suc (suc (k + v)))) so ∙ block-view ls ok v)
+            (ap (λ k. blockAt ls (suc (suc (k + v)))) so ∙ block-view (ok .0) ls (ok .1) v)
             (subst (λ k. BlockNumbers (blockNumbers p k) (blockSize p k) (blockAt ls (suc (suc (lists + v))))) (let e = place-high lists (suc (lists + v)) (omega arith) in let f : placeOf lists (suc (lists + v)) ≡ view-block v = omega arith in f) (h .each (suc (lists + v)) (omega arith)));
       }
 
-  pub begun-end : (n : ℕ) (blk : List ℕ) (some : Bool) → some ≡ false → BlockFound ls (b + 1) some n blk → Blocks p ls b
+  pub begun-end : {table : Table} (n : ℕ) (blk : List ℕ) (some : Bool) → some ≡ false → BlockFound table ls (b + 1) some n blk → Blocks p ls b
   begun-end n blk some is f = by-number (no-block ls b (sym (f .found) ∙ is))
 
   -- there are no more blocks than places
   pub begun-all : most-blocks ≤ b → Blocks p ls b
-  begun-all le = let v = accepted-views ls ok in let c = block-count ls ok in let l = lists-few ls ok in by-number (omega arith)
+  begun-all le = let v = accepted-views ls ok in let c = block-count (ok .0) ls (ok .1) in let l = lists-few (ok .0) ls (ok .1) in by-number (omega arith)
 
-  pub begun-out : (some : Bool) (n : ℕ) (blk : List ℕ) → some ≡ true → BlockFound ls (b + 1) some n blk → most-blocks ≤ placeOf lists b → Blocks p ls b
+  pub begun-out : {table : Table} (some : Bool) (n : ℕ) (blk : List ℕ) → some ≡ true → BlockFound table ls (b + 1) some n blk → most-blocks ≤ placeOf lists b → Blocks p ls b
   begun-out some n blk is f le =
       let i = is-block ls (b + 1) (sym (f .found) ∙ is) in
       let v = accepted-views ls ok in
-      let c = block-count ls ok in
-      let l = lists-few ls ok in
+      let c = block-count (ok .0) ls (ok .1) in
+      let l = lists-few (ok .0) ls (ok .1) in
       ⊎-elim (λ k. let e = place-low lists b k in absurd (omega arith)) (λ k. let e = place-high lists b k in absurd (omega arith)) (at-most b lists)

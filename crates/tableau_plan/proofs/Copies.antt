@@ -11,7 +11,7 @@ use Rattle.query_layout.specs.Layout.{block-width}
 use Rattle.tableau_layout.specs.Layout.{blocks-at, plan-numbers, rows-at, sizes-at, tableau-atoms, view-block}
 use Rattle.sheet_format.specs.Limits.{most-atoms, most-rows}
 use Rattle.sheet_format.specs.Line.{gather}
-use Rattle.sheet_format.specs.Relations.{parentOf}
+use Rattle.sheet_format.specs.Table.{Table, relation}
 use Rattle.sheet_format.proofs.Lists.{map-append}
 use Rattle.query_encoding.proofs.Lists.{at-in}
 use Rattle.list_laws.proofs.Ranges.{kept-set, kept-wide}
@@ -30,8 +30,8 @@ source-same : (p q : List ℕ) (k : ℕ) → KeptOutside p q 0 rows-at → sourc
 source-same p q zero h = refl
 source-same p q (suc r) h = ap view-block (h .above (rows-at + r * 5 + 0) (omega arith))
 
-pub sources-kept : (p q : List ℕ) (n : ℕ) (bs : List Block) → length p ≡ plan-numbers → KeptOutside p q 0 rows-at → Sources p n bs → Sources q n bs
-sources-kept p q n bs s h d = record {
+pub sources-kept : (table : Table) (p q : List ℕ) (n : ℕ) (bs : List Block) → length p ≡ plan-numbers → KeptOutside p q 0 rows-at → Sources table p n bs → Sources table q n bs
+sources-kept table p q n bs s h d = record {
   count = d .count;
   low = λ k l. let e = source-same p q k h in let w = d .low k l in omega arith;
   numbers = λ k l.
@@ -108,33 +108,33 @@ atom-same p q from a low k h = record {
 }
 
 -- an atom and what it owes, by whether it owes
-pub owes-none : (k parent : ℕ) (a : Atom) (left : List PlacedAtom) → parent ≡ parentOf (a .rel) → parent ≡ 0 → placedIn k (withOwed a) ++ left ≡ placedAtom k (a .rel) a ∷ left
-owes-none k parent a left e z = ap (λ n. placedIn k (a ∷ owedAtoms n (a .terms)) ++ left) (sym e ∙ z)
+pub owes-none : (table : Table) (k parent : ℕ) (a : Atom) (left : List PlacedAtom) → parent ≡ relation table (a .rel) .parent → parent ≡ 0 → placedIn k (withOwed table a) ++ left ≡ placedAtom k (a .rel) a ∷ left
+owes-none table k parent a left e z = ap (λ n. placedIn k (a ∷ owedAtoms n (a .terms)) ++ left) (sym e ∙ z)
 
-pub owes-one : (k parent : ℕ) (a : Atom) (left : List PlacedAtom) → parent ≡ parentOf (a .rel) → (parent ≡ 0 → ⊥) → placedIn k (withOwed a) ++ left ≡ placedAtom k (a .rel) a ∷ (placedAtom k parent a ∷ left)
-owes-one k parent a left e ne = ap (λ n. placedIn k (a ∷ owedAtoms n (a .terms)) ++ left) (sym e) ∙ go parent ne
+pub owes-one : (table : Table) (k parent : ℕ) (a : Atom) (left : List PlacedAtom) → parent ≡ relation table (a .rel) .parent → (parent ≡ 0 → ⊥) → placedIn k (withOwed table a) ++ left ≡ placedAtom k (a .rel) a ∷ (placedAtom k parent a ∷ left)
+owes-one table k parent a left e ne = ap (λ n. placedIn k (a ∷ owedAtoms n (a .terms)) ++ left) (sym e) ∙ go parent ne
   where
     go : (n : ℕ) → (n ≡ 0 → ⊥) → placedIn k (a ∷ owedAtoms n (a .terms)) ++ left ≡ placedAtom k (a .rel) a ∷ (placedAtom k n a ∷ left)
     go zero some = absurd (some refl)
     go (suc n) some = refl
 
 -- the first of the atoms that are left, and the others
-pub own-first : (k j : ℕ) (own : List Atom) (left : List PlacedAtom) → j < length own
-    → ownAtoms k (drop j own) ++ left ≡ placedIn k (withOwed (atomAt own j)) ++ (ownAtoms k (drop (j + 1) own) ++ left)
-own-first k j own left lt =
+pub own-first : (table : Table) (k j : ℕ) (own : List Atom) (left : List PlacedAtom) → j < length own
+    → ownAtoms table k (drop j own) ++ left ≡ placedIn k (withOwed table (atomAt own j)) ++ (ownAtoms table k (drop (j + 1) own) ++ left)
+own-first table k j own left lt =
     let a = atomAt own j in
     let rest = drop (suc j) own in
-    ap (λ t. ownAtoms k t ++ left) (drop-cons own j (record { rel = 0; terms = [] }) lt)
-    ∙ ap (λ t. t ++ left) (map-append (λ b. record { number = k; atom = b }) (withOwed a) (gather withOwed rest))
-    ∙ append-assoc (placedIn k (withOwed a)) (ownAtoms k rest) left
-    ∙ ap (λ n. placedIn k (withOwed a) ++ (ownAtoms k (drop n own) ++ left)) (sym (add-one j))
+    ap (λ t. ownAtoms table k t ++ left) (drop-cons own j (record { rel = 0; terms = [] }) lt)
+    ∙ ap (λ t. t ++ left) (map-append (λ b. record { number = k; atom = b }) (withOwed table a) (gather (withOwed table) rest))
+    ∙ append-assoc (placedIn k (withOwed table a)) (ownAtoms table k rest) left
+    ∙ ap (λ n. placedIn k (withOwed table a) ++ (ownAtoms table k (drop n own) ++ left)) (sym (add-one j))
 
-pub own-none : (k j : ℕ) (own : List Atom) (left : List PlacedAtom) → length own ≤ j → ownAtoms k (drop j own) ++ left ≡ left
-own-none k j own left le = ap (λ t. ownAtoms k t ++ left) (drop-of-length-le own le)
+pub own-none : (table : Table) (k j : ℕ) (own : List Atom) (left : List PlacedAtom) → length own ≤ j → ownAtoms table k (drop j own) ++ left ≡ left
+own-none table k j own left le = ap (λ t. ownAtoms table k t ++ left) (drop-of-length-le own le)
 
 -- ---- one copy more
 
-module _ (p : List ℕ) (n : ℕ) (bs : List Block) (k b : ℕ) (is : b ≡ sourceOf p k) (d : Sources p n bs) (lt : k < length bs) where
+module _ (table : Table) (p : List ℕ) (n : ℕ) (bs : List Block) (k b : ℕ) (is : b ≡ sourceOf p k) (d : Sources table p n bs) (lt : k < length bs) where
   abbrev pub copyBlock : Block
   copyBlock = getD bs k emptyBlock
 
@@ -161,23 +161,23 @@ module _ (p : List ℕ) (n : ℕ) (bs : List Block) (k b : ℕ) (is : b ≡ sour
       }
 
 -- what is left begins with the copy's atoms
-pub copy-ahead : (k : ℕ) (bs : List Block) → k < length bs → atomsFrom k (drop k bs) ≡ ownAtoms k (getD bs k emptyBlock .atoms) ++ atomsFrom (suc k) (drop (suc k) bs)
-copy-ahead k bs lt = ap (atomsFrom k) (drop-cons bs k emptyBlock lt)
+pub copy-ahead : (table : Table) (k : ℕ) (bs : List Block) → k < length bs → atomsFrom table k (drop k bs) ≡ ownAtoms table k (getD bs k emptyBlock .atoms) ++ atomsFrom table (suc k) (drop (suc k) bs)
+copy-ahead table k bs lt = ap (atomsFrom table k) (drop-cons bs k emptyBlock lt)
 
-pub copies-start : (p : List ℕ) (bs : List Block) → TableauDone p 0 0 bs
-copies-start p bs = record { within = omega arith; ahead = refl; each = λ i h. absurd (omega arith) }
+pub copies-start : (table : Table) (p : List ℕ) (bs : List Block) → TableauDone table p 0 0 bs
+copies-start table p bs = record { within = omega arith; ahead = refl; each = λ i h. absurd (omega arith) }
 
 -- how many atoms have been stored
-pub copies-length : (p : List ℕ) (k m : ℕ) (bs : List Block) → TableauDone p k m bs → length (atomsFrom 0 bs) ≡ m + length (atomsFrom k (drop k bs))
-copies-length p k m bs h =
-    let a : length (drop m (atomsFrom 0 bs)) ≡ length (atomsFrom k (drop k bs)) = ap length (h .ahead) in
-    let b = length-drop m (atomsFrom 0 bs) in
+pub copies-length : (table : Table) (p : List ℕ) (k m : ℕ) (bs : List Block) → TableauDone table p k m bs → length (atomsFrom table 0 bs) ≡ m + length (atomsFrom table k (drop k bs))
+copies-length table p k m bs h =
+    let a : length (drop m (atomsFrom table 0 bs)) ≡ length (atomsFrom table k (drop k bs)) = ap length (h .ahead) in
+    let b = length-drop m (atomsFrom table 0 bs) in
     let w = h .within in
     omega arith
 
 -- all copies have been stored: all atoms are there
-pub copies-all : (p : List ℕ) (k m : ℕ) (bs : List Block) → length bs ≤ k → TableauDone p k m bs → m ≡ length (atomsFrom 0 bs)
-copies-all p k m bs le h =
-    let a = copies-length p k m bs h in
-    let b : length (atomsFrom k (drop k bs)) ≡ 0 = ap (λ l. length (atomsFrom k l)) (drop-of-length-le bs le) in
+pub copies-all : (table : Table) (p : List ℕ) (k m : ℕ) (bs : List Block) → length bs ≤ k → TableauDone table p k m bs → m ≡ length (atomsFrom table 0 bs)
+copies-all table p k m bs le h =
+    let a = copies-length table p k m bs h in
+    let b : length (atomsFrom table k (drop k bs)) ≡ 0 = ap (λ l. length (atomsFrom table k l)) (drop-of-length-le bs le) in
     omega arith

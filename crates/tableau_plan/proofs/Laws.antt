@@ -3,10 +3,13 @@ use mathlib.Core.Path.{_≡_, refl, sym, ap, _∙_}
 use mathlib.Core.List.{List}
 use Prim.Native.Nat.{ℕ, zero, suc, _+_, _-_, _*_, _<_, _≤_}
 use native.Mathlib.Omega.{arith}
-use lib.ListN.{length, getD, take, drop, set, length-set}
-use lib.Seq.{getD-set-same, getD-set-other, ext-getD}
+use lib.ListN.{length, getD, take, drop, set, length-set, length-drop}
+use lib.Seq.{getD-set-same, getD-set-other, getD-drop, ext-getD}
 use Rattle.query_layout.specs.Layout.{block-width}
-use Rattle.tableau_layout.specs.Layout.{asked-size-at, blocks-at, list-count-at, most-blocks, plan-numbers, row-count-at, rows-at, sizes-at, tableau-size-at, view-block, view-count-at}
+use Rattle.sheet_format.specs.Limits.{table-numbers}
+use Rattle.sheet_format.specs.Table.{tableIn}
+use Rattle.tableau_plan.specs.Plan.{planTable}
+use Rattle.tableau_layout.specs.Layout.{asked-size-at, blocks-at, list-count-at, most-blocks, plan-numbers, row-count-at, rows-at, sizes-at, table-at, tableau-size-at, view-block, view-count-at}
 use Rattle.list_laws.proofs.Lists.{part-get, part-length}
 use Rattle.tableau_plan.specs.Parts.{KeptOutside, BlockStored, sourceOf, Closed}
 
@@ -91,3 +94,20 @@ module _ (p : List ℕ) (a k l n v : ℕ) (s : length p ≡ plan-numbers) where
         lists-is = getD-set-same four list-count-at n 0 (omega arith);
         views-is = getD-set-other four list-count-at view-count-at n 0 (λ g. absurd (omega arith)) ∙ getD-set-same three view-count-at v 0 (omega arith);
       }
+
+-- the counts stay where the table is written behind them
+pub closed-kept : (p q r : List ℕ) (a k l n v : ℕ) → Closed p q a k l n v → KeptOutside q r table-at (table-at + table-numbers) → Closed p r a k l n v
+closed-kept p q r a k l n v c h = record {
+  same = h .same ∙ c .same;
+  kept = λ y lt. h .below y (omega arith) ∙ c .kept y lt;
+  atoms-is = h .below tableau-size-at (omega arith) ∙ c .atoms-is;
+  asked-is = h .below asked-size-at (omega arith) ∙ c .asked-is;
+  listed-is = h .below row-count-at (omega arith) ∙ c .listed-is;
+  lists-is = h .below list-count-at (omega arith) ∙ c .lists-is;
+  views-is = h .below view-count-at (omega arith) ∙ c .views-is;
+}
+
+-- the table's numbers at their place are the table
+pub table-stands : (p table : List ℕ) → length p ≡ plan-numbers → length table ≡ table-numbers → ((x : ℕ) → x < table-numbers → getD p (table-at + x) 0 ≡ getD table x 0) → tableIn table ≡ planTable p
+table-stands p table long size each =
+    ap tableIn (sym (ext-getD 0 (drop table-at p) table (let d = length-drop table-at p in omega arith) (λ x lt. getD-drop table-at p x 0 ∙ each x (let d = length-drop table-at p in omega arith))))

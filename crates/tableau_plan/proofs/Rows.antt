@@ -10,6 +10,7 @@ use lib.IntN.{ℤ, pos, negsuc}
 use lib.ListN.{length, getD, drop}
 use borrow.Author.Tests.{eqb-true, leb-true, ne-eqb}
 use Rattle.query_encoding.proofs.Lists.{in-at}
+use Rattle.sheet_format.specs.Table.{Table}
 use Rattle.sheet_format.specs.Line.{Line, natural, gather}
 use Rattle.sheet_format.specs.Cause.{Kind, question, saved, view, atom, row, other, kindAt, kindOf, kind, rest, inPlace, start, nextBy, next, scan, atoms}
 use Rattle.sheet_format.specs.declared.Seen.{Seen}
@@ -142,17 +143,17 @@ walked-by g v l ls row n p ih =
     record { outside = λ h. absurd (h e); before = λ h i. r; after = λ h i. r }
 walked-by g v l ls other n p ih = no-way p
 
-walked : (ls : List Line) (g : Seen) (b : Line) (n : ℕ) → scan g b n ls .number ≡ 0 → (v : ℕ) → WalkedIn g v ls
+walked : (table : Table) (ls : List Line) (g : Seen) (b : Line) (n : ℕ) → scan table g b n ls .number ≡ 0 → (v : ℕ) → WalkedIn g v ls
 unfolding rowsFrom rows blocks next front atoms
-walked [] g b n s v = record { outside = λ h. refl; before = λ h i. refl; after = λ h i. refl }
-walked (l ∷ ls) g b n s v =
-    let (c, r) = scan-first l ls g b n s in
+walked table [] g b n s v = record { outside = λ h. refl; before = λ h i. refl; after = λ h i. refl }
+walked table (l ∷ ls) g b n s v =
+    let (c, r) = scan-first table l ls g b n s in
     subst (λ f. RowsRead (g .block) (g .last) v (rowsFrom v (l ∷ ls)) f (rows (l ∷ ls)) (flatFrom v (blocks isView (l ∷ ls)))) (sym (front-by l ls (kind l) refl))
-    (walked-by g v l ls (kind l) (length (rest l)) (c .placed) (λ u. walked ls (next g l) l (n + 1) r u))
+    (walked-by g v l ls (kind l) (length (rest l)) (c .placed) (λ u. walked table ls (next g l) l (n + 1) r u))
 
 -- the rows by the lines are the rows by the views
 pub rows-walked : (ls : List Line) → AcceptedLines ls → rowsFrom 0 ls ≡ flatFrom 0 (blocks isView ls)
-rows-walked ls ok = walked ls start [] 1 (eqb-true _ 0 (accepted-scan ls ok)) 0 .outside (λ z. omega arith)
+rows-walked ls ok = walked (ok .0) ls start [] 1 (eqb-true _ 0 (accepted-scan (ok .0) ls (ok .1))) 0 .outside (λ z. omega arith)
 
 -- ---- the jobs of the views, row by row
 

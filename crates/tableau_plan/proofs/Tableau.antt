@@ -10,7 +10,6 @@ use Rattle.query_layout.specs.Layout.{names}
 use Rattle.sheet_format.specs.Limits.{constant-end, most-rows}
 use Rattle.tableau_layout.specs.Layout.{slot-end}
 use Rattle.sheet_format.specs.Line.{gather}
-use Rattle.sheet_format.specs.Relations.{parentOf}
 use Rattle.sheet_format.proofs.Lists.{map-append}
 use Rattle.query_meaning.specs.Meaning.{Term, con, var, Fact, value, row, fact, factOf, Atom, Block}
 use Rattle.query_encoding.specs.Encoding.{termNumber, termAt, FactNumbers}
@@ -109,17 +108,17 @@ owed-placed : (s : State) (k n : ℕ) (ts : List Term) → map (placedFact s) (p
 owed-placed s k zero ts = refl
 owed-placed s k (suc n) ts = refl
 
--- a table with the format's parents
-module _ (table : Table) (same : (n : ℕ) → relation table n .parent ≡ parentOf n) where
-  with-owed : (s : State) (k : ℕ) (a : Atom) → map (placedFact s) (placedIn k (withOwed a)) ≡ withParents table (factOf (copy s k) a)
-  with-owed s k a = ap (λ t. factOf (copy s k) a ∷ t) (owed-placed s k (parentOf (a .rel)) (a .terms) ∙ ap (λ n. owed n (row (copy s k) (a .terms))) (sym (same (a .rel))))
+-- by a table
+module _ (table : Table) where
+  with-owed : (s : State) (k : ℕ) (a : Atom) → map (placedFact s) (placedIn k (withOwed table a)) ≡ withParents table (factOf (copy s k) a)
+  with-owed s k a = ap (λ t. factOf (copy s k) a ∷ t) (owed-placed s k (relation table (a .rel) .parent) (a .terms))
 
-  placed-map : (s : State) (k : ℕ) (l : List Atom) → map (placedFact s) (ownAtoms k l) ≡ gather (withParents table) (map (factOf (copy s k)) l)
+  placed-map : (s : State) (k : ℕ) (l : List Atom) → map (placedFact s) (ownAtoms table k l) ≡ gather (withParents table) (map (factOf (copy s k)) l)
   placed-map s k [] = refl
   placed-map s k (a ∷ l) =
-      ap (map (placedFact s)) (map-append (λ b. record { number = k; atom = b }) (withOwed a) (gather withOwed l))
-      ∙ map-append (placedFact s) (placedIn k (withOwed a)) (ownAtoms k l)
-      ∙ ap (λ t. t ++ map (placedFact s) (ownAtoms k l)) (with-owed s k a)
+      ap (map (placedFact s)) (map-append (λ b. record { number = k; atom = b }) (withOwed table a) (gather (withOwed table) l))
+      ∙ map-append (placedFact s) (placedIn k (withOwed table a)) (ownAtoms table k l)
+      ∙ ap (λ t. t ++ map (placedFact s) (ownAtoms table k l)) (with-owed s k a)
       ∙ ap (λ t. withParents table (factOf (copy s k) a) ++ t) (placed-map s k l)
 
   -- the facts of jobs whose numbers start at m
@@ -129,7 +128,7 @@ module _ (table : Table) (same : (n : ℕ) → relation table n .parent ≡ pare
   from-next : (s : State) (m : ℕ) (c : Copy) → from s m (later c) ≡ from s (suc m) c
   from-next s m c = ap (λ n. gather (withParents table) (map (factOf (copy s n)) (c .job .block .atoms))) (let e : m + suc (c .number) ≡ suc m + c .number = omega arith in e)
 
-  facts-from : (s : State) (m : ℕ) (js : List Job) → gather (from s m) (numbered js) ≡ map (placedFact s) (atomsFrom m (blocksOf js))
+  facts-from : (s : State) (m : ℕ) (js : List Job) → gather (from s m) (numbered js) ≡ map (placedFact s) (atomsFrom table m (blocksOf js))
   unfolding blocksOf
   facts-from s m [] = refl
   facts-from s m (j ∷ js) =
@@ -137,18 +136,18 @@ module _ (table : Table) (same : (n : ℕ) → relation table n .parent ≡ pare
       ap (λ n. gather (withParents table) (map (factOf (copy s n)) (j .block .atoms)) ++ gather (from s m) (map later (numbered js))) z
       ∙ ap (λ t. gather (withParents table) (map (factOf (copy s m)) (j .block .atoms)) ++ t)
       (gather-map (from s m) later (numbered js) ∙ gather-same (λ c. from s m (later c)) (from s (suc m)) (from-next s m) (numbered js) ∙ facts-from s (suc m) js)
-      ∙ ap (λ t. t ++ map (placedFact s) (atomsFrom (suc m) (blocksOf js))) (sym (placed-map s m (j .block .atoms)))
-      ∙ sym (map-append (placedFact s) (ownAtoms m (j .block .atoms)) (atomsFrom (suc m) (blocksOf js)))
+      ∙ ap (λ t. t ++ map (placedFact s) (atomsFrom table (suc m) (blocksOf js))) (sym (placed-map s m (j .block .atoms)))
+      ∙ sym (map-append (placedFact s) (ownAtoms table m (j .block .atoms)) (atomsFrom table (suc m) (blocksOf js)))
 
   copies-from : (s : State) (c : Copy) → gather (withParents table) (copyFacts s c) ≡ from s 0 c
   copies-from s c = ap (λ n. gather (withParents table) (map (factOf (copy s n)) (c .job .block .atoms))) (let e : c .number ≡ 0 + c .number = omega arith in e)
 
-pub log-placed : (x : Sheet) (s : State) → ((n : ℕ) → relation (x .table) n .parent ≡ parentOf n) → tableauLog x s ≡ map (placedFact s) (atomsFrom 0 (map (λ (j : Job). j .block) (jobs x)))
+pub log-placed : (x : Sheet) (s : State) → tableauLog x s ≡ map (placedFact s) (atomsFrom (x .table) 0 (map (λ (j : Job). j .block) (jobs x)))
 unfolding blocksOf tableauLog
-log-placed x s same =
+log-placed x s =
     gather-twice (withParents (x .table)) (copyFacts s) (numbered (jobs x))
-    ∙ gather-same (λ c. gather (withParents (x .table)) (copyFacts s c)) (from (x .table) same s 0) (copies-from (x .table) same s) (numbered (jobs x))
-    ∙ facts-from (x .table) same s 0 (jobs x)
+    ∙ gather-same (λ c. gather (withParents (x .table)) (copyFacts s c)) (from (x .table) s 0) (copies-from (x .table) s) (numbered (jobs x))
+    ∙ facts-from (x .table) s 0 (jobs x)
 
-pub bare-placed : (x : Sheet) (s : State) → ((n : ℕ) → relation (x .table) n .parent ≡ parentOf n) → tableauLog (bare x) s ≡ map (placedFact s) (atomsFrom 1 (map (λ (j : Job). j .block) (gather listed (x .views))))
-bare-placed x s same = log-placed (bare x) s same
+pub bare-placed : (x : Sheet) (s : State) → tableauLog (bare x) s ≡ map (placedFact s) (atomsFrom (x .table) 1 (map (λ (j : Job). j .block) (gather listed (x .views))))
+bare-placed x s = log-placed (bare x) s

@@ -106,7 +106,7 @@ few-listed ls ok =
     let e : length (gather listed (blocks isView ls)) ≡ length (map (jobOf f) (flatFrom 0 (blocks isView ls))) = ap length (view-jobs f 0 (blocks isView ls) (views-all (blocks isView ls))) in
     let m : length (map (jobOf f) (flatFrom 0 (blocks isView ls))) ≡ length (flatFrom 0 (blocks isView ls)) = length-map (flatFrom 0 (blocks isView ls)) (jobOf f) in
     let w = ap length (rows-walked ls ok) in
-    let j = accepted-jobs ls ok in
+    let j = accepted-jobs (ok .0) ls (ok .1) in
     omega arith
 
 row-sized : (k : Kind) (n : ℕ) → k ≡ row → possible k n ≡ true → n ≤ 5
@@ -150,7 +150,7 @@ module _ (ws : List ℤ) (i : ℕ) (lt : i < length ws / 7) (a : AcceptedLines (
   pub line-values : (q : List ℕ) (r : ℕ) → kind (getD (wordLines ws) i []) ≡ row → ((c : ℕ) → c < 4 → getD q (rows-at + r * 5 + 1 + c) 0 ≡ natural (getD ws (7 * i + 2 + c) (pos 0)))
       → rowValues q r ≡ padded (map natural (rest (getD (wordLines ws) i [])))
   line-values q r e h =
-      let s = rest-few (getD (wordLines ws) i []) (row-sized _ _ e (accepted-clean (wordLines ws) a i (inside ws i lt a) .1 .sized)) in
+      let s = rest-few (getD (wordLines ws) i []) (row-sized _ _ e (accepted-clean (a .0) (wordLines ws) (a .1) i (inside ws i lt a) .1 .sized)) in
       let n = length-map (rest (getD (wordLines ws) i [])) natural in
       let o = padded-four (map natural (rest (getD (wordLines ws) i []))) (omega arith) in
       let v0 : rowAt q r 1 ≡ getD (map natural (rest (getD (wordLines ws) i []))) 0 0 = place 1 0 refl ∙ h 0 (omega arith) ∙ line-value 0 (omega arith) in

@@ -10,7 +10,8 @@ use Rattle.tableau_layout.specs.Layout.{blocks-at, most-blocks, plan-numbers, r
 use Rattle.sheet_format.specs.Limits.{most-rows}
 use Rattle.query_encoding.proofs.Lists.{at-in}
 use Rattle.sheet_format.specs.Line.{Line, gather}
-use Rattle.sheet_format.specs.Relations.{parentOf}
+use Rattle.sheet_format.specs.Table.{Table, relation}
+use Rattle.sheet_format.specs.Cause.{refusalOf}
 use Rattle.query_meaning.specs.Meaning.{Term, con, Atom, Block, In}
 use Rattle.query_meaning.specs.Blocks.{View, blocks, nth, blockAt}
 use Rattle.query_encoding.specs.Encoding.{BlockNumbers, FactNumbers, padded}
@@ -22,9 +23,8 @@ use Rattle.case_verdicts.specs.Tableau.{Job, State, listed, jobs, tableauLog, b
 use Rattle.case_verdicts.proofs.Lists.{total, total-each, total-append, total-map}
 use Rattle.case_verdicts.proofs.Order.{lists-few, block-count}
 use Rattle.case_verdicts.proofs.Sizes.{accepted-size}
-use Rattle.case_verdicts.proofs.Tables.{ten-parents}
-use Rattle.case_verdicts.proofs.Accepted.{accepted-sheet}
-use Rattle.tableau_plan.specs.Plan.{rowAt, rowValues, blockNumbers, blockSize, tableauSize, askedSize, rowCount, viewCount, listCount, listAt, tableauFacts, RowOf, Plan}
+use Rattle.case_verdicts.proofs.Accepted.{asked-fine, listed-fine}
+use Rattle.tableau_plan.specs.Plan.{rowAt, rowValues, blockNumbers, blockSize, tableauSize, askedSize, rowCount, viewCount, listCount, planTable, listAt, tableauFacts, RowOf, Plan}
 use Rattle.tableau_plan.specs.Parts.{KeptOutside, Blocks, ViewRow, unlisted, rowsFrom, RowNumbers, RowsDone, sourceOf, emptyBlock, PlacedAtom, unplaced, owedAtoms, withOwed, ownAtoms, atomsFrom, Sources, PlacedNumbers, TableauDone, Closed}
 use Rattle.query_blocks.specs.Parts.{AcceptedLines}
 use Rattle.tableau_plan.proofs.Blocks.{accepted-views, numbers-same}
@@ -55,21 +55,21 @@ owed-few zero ts = omega arith
 owed-few (suc n) ts = omega arith
 
 -- each owes at most one
-own-few : (l : List Atom) → length (gather withOwed l) ≤ length l * 2
-own-few [] = omega arith
-own-few (a ∷ l) =
-    let e = length-append (withOwed a) (gather withOwed l) in
-    let o = owed-few (parentOf (a .rel)) (a .terms) in
-    let r = own-few l in
+own-few : (table : Table) (l : List Atom) → length (gather (withOwed table) l) ≤ length l * 2
+own-few table [] = omega arith
+own-few table (a ∷ l) =
+    let e = length-append (withOwed table a) (gather (withOwed table) l) in
+    let o = owed-few (relation table (a .rel) .parent) (a .terms) in
+    let r = own-few table l in
     omega arith
 
-atoms-few : (k : ℕ) (js : List Job) → length (atomsFrom k (map (λ (j : Job). j .block) js)) ≤ total jobSize js * 2
-atoms-few k [] = omega arith
-atoms-few k (j ∷ js) =
-    let a = length-append (ownAtoms k (j .block .atoms)) (atomsFrom (suc k) (map (λ (j : Job). j .block) js)) in
-    let b : length (ownAtoms k (j .block .atoms)) ≡ length (gather withOwed (j .block .atoms)) = length-map (gather withOwed (j .block .atoms)) _ in
-    let c = own-few (j .block .atoms) in
-    let d = atoms-few (suc k) js in
+atoms-few : (table : Table) (k : ℕ) (js : List Job) → length (atomsFrom table k (map (λ (j : Job). j .block) js)) ≤ total jobSize js * 2
+atoms-few table k [] = omega arith
+atoms-few table k (j ∷ js) =
+    let a = length-append (ownAtoms table k (j .block .atoms)) (atomsFrom table (suc k) (map (λ (j : Job). j .block) js)) in
+    let b : length (ownAtoms table k (j .block .atoms)) ≡ length (gather (withOwed table) (j .block .atoms)) = length-map (gather (withOwed table) (j .block .atoms)) _ in
+    let c = own-few table (j .block .atoms) in
+    let d = atoms-few table (suc k) js in
     omega arith
 
 view-size : (w : View) → total jobSize (listed w) ≡ length (w .rows) * length (w .block .atoms)
@@ -96,9 +96,12 @@ block-moved q p b k lt a h =
     subst (λ z. BlockNumbers (blockNumbers p b) z k) (sym (a .same (sizes-at + b) (omega arith) (omega arith)))
     (numbers-same q p b (λ z. BlockNumbers z (blockSize q b) k) (a .long) (a .long-too) lt (λ y g w. a .same y (omega arith) (omega arith)) h)
 
-module _ (ls : List Line) (ok : AcceptedLines ls) where
+module _ (table : Table) (ls : List Line) (clean : refusalOf table ls .number ≡ 0) where
+  ok : AcceptedLines ls
+  ok = (table, clean)
+
   abbrev sheet : Sheet
-  sheet = sheetOf ls
+  sheet = sheetOf table ls
 
   abbrev views : List View
   views = blocks isView ls
@@ -134,18 +137,18 @@ module _ (ls : List Line) (ok : AcceptedLines ls) where
       let d : Job = record { block = emptyBlock; is = [] } in
       map-get (λ (j : Job). j .block) d emptyBlock rest i (omega arith) ∙ ap (λ (j : Job). j .block) (rest-at i h d)
 
-  few-atoms : length (atomsFrom 0 blockList) ≤ tableau-atoms
+  few-atoms : length (atomsFrom table 0 blockList) ≤ tableau-atoms
   few-atoms =
-      let a = atoms-few 0 (jobs sheet) in
+      let a = atoms-few table 0 (jobs sheet) in
       let b = rows-size views in
-      let c = accepted-size ls ok in
+      let c = accepted-size table ls clean in
       omega arith
 
   question-fine : (a : Atom) → In a (sheet .question .atoms) → Fine top (a .terms)
-  question-fine a m = accepted-sheet ls ok .question .atoms a m .terms
+  question-fine a m = asked-fine table ls clean .atoms a m .terms
 
   view-fine : (j : ℕ) → j < length views → (a : Atom) → In a (nth views j .block .atoms) → Fine top (a .terms)
-  view-fine j h a m = accepted-sheet ls ok .views (nth views j) (nth-in views j h) .atoms a m .terms
+  view-fine j h a m = listed-fine table ls clean (nth views j) (nth-in views j h) .atoms a m .terms
 
   -- ---- the blocks of the copies stand in q
   module _ (q : List ℕ) (r : ℕ) (stored : (v : ℕ) → v < length views → BlockNumbers (blockNumbers q (view-block v)) (blockSize q (view-block v)) (nth views v .block))
@@ -174,7 +177,7 @@ module _ (ls : List Line) (ok : AcceptedLines ls) where
         let n = list-length in
         view-fine (getD (rowsFrom 0 ls) i unlisted .view) (row-of i (omega arith) .low) a (subst (λ b. In a (b .atoms)) (list-at i (omega arith)) m)
 
-    sources : Sources q r blockList
+    sources : Sources table q r blockList
     sources =
         let v = accepted-views ls ok in
         record {
@@ -187,13 +190,13 @@ module _ (ls : List Line) (ok : AcceptedLines ls) where
 
   -- ---- all parts together
   module _ (q1 q2 q3 q4 p : List ℕ) (nb nl i v r a m : ℕ) (s : length q1 ≡ plan-numbers) (so : nl ≡ length (sheet .lists)) (bl : Blocks q1 ls nb) (k2 : KeptOutside q1 q2 rows-at blocks-at) (few : r ≤ most-rows) (end : length ls ≤ i) (rd : RowsDone q2 ls i v r)
-      (k3 : KeptOutside q2 q3 0 rows-at) (first : (n : ℕ) (bs : List Block) → 0 < length bs → Sources q2 n bs → TableauDone q2 0 0 bs → TableauDone q3 1 a bs)
-      (k4 : KeptOutside q3 q4 0 rows-at) (most : m ≤ tableau-atoms) (td : (bs : List Block) → Sources q3 r bs → TableauDone q3 1 a bs → TableauDone q4 (r + 1) m bs) (cl : Closed q4 p m a r nl (nb - (1 + nl))) where
+      (k3 : KeptOutside q2 q3 0 rows-at) (first : (n : ℕ) (bs : List Block) → 0 < length bs → Sources table q2 n bs → TableauDone table q2 0 0 bs → TableauDone table q3 1 a bs)
+      (k4 : KeptOutside q3 q4 0 rows-at) (most : m ≤ tableau-atoms) (td : (bs : List Block) → Sources table q3 r bs → TableauDone table q3 1 a bs → TableauDone table q4 (r + 1) m bs) (cl : Closed q4 p m a r nl (nb - (1 + nl))) (tables : table ≡ planTable p) where
     count : r ≡ length (rowsFrom 0 ls)
     count = all-taken q2 ls i v r end rd
 
     blocks-count : nb ≡ 1 + nl + length views
-    blocks-count = let c = so in bl .count ∙ block-count ls ok ∙ omega arith
+    blocks-count = let c = so in bl .count ∙ block-count table ls clean ∙ omega arith
 
     agree2 : SameFrom q1 q2 blocks-at
     agree2 = record { long = s; long-too = k2 .same ∙ s; same = λ y g h. k2 .above y g }
@@ -221,21 +224,21 @@ module _ (ls : List Line) (ok : AcceptedLines ls) where
     row-numbers : (k : ℕ) → k < r → RowNumbers p k (getD (rowsFrom 0 ls) k unlisted)
     row-numbers k h = row-same q2 p k (getD (rowsFrom 0 ls) k unlisted) (λ c f. agree .same (rows-at + k * 5 + c) (omega arith) (omega arith)) (rd .each k h)
 
-    standing : Sources q2 r blockList
+    standing : Sources table q2 r blockList
     standing = sources q2 r (λ v h. stood2 (view-block v) (nth views v .block) (view-low v h) (bl .view v h)) (stood2 question-block (sheet .question) (omega arith) (bl .question)) count (rd .each)
 
     -- the question's copy
-    asked : TableauDone q3 1 a blockList
-    asked = first r blockList (let l = list-length in omega arith) standing (copies-start q2 blockList)
+    asked : TableauDone table q3 1 a blockList
+    asked = first r blockList (let l = list-length in omega arith) standing (copies-start table q2 blockList)
 
-    done : TableauDone q4 (r + 1) m blockList
-    done = td blockList (sources-kept q2 q3 r blockList (k2 .same ∙ s) k3 standing) asked
+    done : TableauDone table q4 (r + 1) m blockList
+    done = td blockList (sources-kept table q2 q3 r blockList (k2 .same ∙ s) k3 standing) asked
 
     abbrev placed : List PlacedAtom
-    placed = atomsFrom 0 blockList
+    placed = atomsFrom table 0 blockList
 
     size-is : m ≡ length placed
-    size-is = let l = list-length in let c = count in copies-all q4 (r + 1) m blockList (omega arith) done
+    size-is = let l = list-length in let c = count in copies-all table q4 (r + 1) m blockList (omega arith) done
 
     placed-numbers : (k : ℕ) → k < length placed → PlacedNumbers p k (getD placed k unplaced)
     placed-numbers k h =
@@ -246,18 +249,18 @@ module _ (ls : List Line) (ok : AcceptedLines ls) where
     whole-facts t =
         let e : tableauSize p ≡ length placed = cl .atoms-is ∙ size-is in
         let f = placed-facts p t placed 0 (λ k h. let z : 0 + k ≡ k = omega arith in subst (λ y. PlacedNumbers p y (getD placed k unplaced)) (sym z) (placed-numbers k h)) in
-        subst (λ n. FactNumbers (tableauFacts p t 0 n) (tableauLog sheet t)) (sym e) (subst (FactNumbers (tableauFacts p t 0 (length placed))) (sym (log-placed sheet t ten-parents)) f)
+        subst (λ n. FactNumbers (tableauFacts p t 0 n) (tableauLog sheet t)) (sym e) (subst (FactNumbers (tableauFacts p t 0 (length placed))) (sym (log-placed sheet t)) f)
 
     -- the question's atoms come first
     abbrev own : List PlacedAtom
-    own = ownAtoms 0 (sheet .question .atoms)
+    own = ownAtoms table 0 (sheet .question .atoms)
 
     abbrev others : List PlacedAtom
-    others = atomsFrom 1 (map (λ (j : Job). j .block) rest)
+    others = atomsFrom table 1 (map (λ (j : Job). j .block) rest)
 
     own-length : length own ≡ askedSize p
     own-length =
-        let c = copies-length q3 1 a blockList asked in
+        let c = copies-length table q3 1 a blockList asked in
         let b = length-append own others in
         let e = cl .asked-is in
         omega arith
@@ -272,7 +275,7 @@ module _ (ls : List Line) (ok : AcceptedLines ls) where
         let n : tableauSize p - askedSize p ≡ length others = omega arith in
         let f = placed-facts p t others (askedSize p)
         (λ k h. subst (PlacedNumbers p (askedSize p + k)) (ap (λ l. getD placed (l + k) unplaced) (sym own-length) ∙ getD-append-add own others k unplaced) (placed-numbers (askedSize p + k) (omega arith))) in
-        subst (λ n. FactNumbers (tableauFacts p t (askedSize p) n) (tableauLog (bare sheet) t)) (sym n) (subst (FactNumbers (tableauFacts p t (askedSize p) (length others))) (sym (bare-placed sheet t ten-parents)) f)
+        subst (λ n. FactNumbers (tableauFacts p t (askedSize p) n) (tableauLog (bare sheet) t)) (sym n) (subst (FactNumbers (tableauFacts p t (askedSize p) (length others))) (sym (bare-placed sheet t)) f)
 
     views-count : viewCount p ≡ length views
     views-count = let n = blocks-count in let c = cl .views-is in omega arith
@@ -283,7 +286,7 @@ module _ (ls : List Line) (ok : AcceptedLines ls) where
     list-numbers : (i : ℕ) → i < listCount p → BlockNumbers (blockNumbers p (list-block i)) (blockSize p (list-block i)) (listAt sheet i)
     list-numbers i h =
         let c = lists-count in
-        let n = lists-few ls ok in
+        let n = lists-few table ls clean in
         stood (list-block i) (listAt sheet i) (omega arith) (bl .list i (omega arith))
 
     row-in : (k : ℕ) → k < rowCount p → RowOf p sheet k
@@ -324,10 +327,11 @@ module _ (ls : List Line) (ok : AcceptedLines ls) where
         let w = accepted-views ls ok in
         record {
           size = agree .long-too;
+          table = tables;
           few = omega arith;
           asked = omega arith;
           rows-few = omega arith;
-          lists-few = let c = lists-count in let l = lists-few ls ok in omega arith;
+          lists-few = let c = lists-count in let l = lists-few table ls clean in omega arith;
           views-few = omega arith;
           whole = whole-facts;
           agreeing = agreeing-facts;

@@ -8,7 +8,7 @@ use lib.ListN.{length, getD, drop}
 use Rattle.query_layout.specs.Layout.{block-width, names}
 use Rattle.tableau_layout.specs.Layout.{blocks-at, most-blocks, plan-numbers, sizes-at, slot-end, tableau-atoms, tableau-size-at, question-block, list-block, view-block}
 use Rattle.sheet_format.specs.Limits.{constant-end, most-lists}
-use Rattle.sheet_format.specs.Relations.{parentOf}
+use Rattle.sheet_format.specs.Table.{Table, relation}
 use Rattle.list_laws.specs.Kept as ranges
 use Rattle.sheet_format.specs.Line.{Line, gather, natural}
 use Rattle.sheet_format.specs.Cause.{kind, rest, refusalOf}
@@ -16,9 +16,9 @@ use Rattle.query_meaning.specs.Meaning.{Term, value, Atom, Block, In}
 use Rattle.query_meaning.specs.Blocks.{isRow, allBlocks, nowhere, nth}
 use Rattle.query_encoding.specs.Encoding.{termNumber, termAt, BlockNumbers, padded}
 use Rattle.case_verdicts.specs.Accepted.{Fine}
-use Rattle.case_verdicts.specs.Sheets.{top, isView, sheetOf}
+use Rattle.case_verdicts.specs.Sheets.{top, isView, questionIn, listsIn, viewsIn}
 use Rattle.case_verdicts.specs.Tableau.{State, copy}
-use Rattle.tableau_plan.specs.Plan.{tableauAt, rowAt, rowValues, blockNumbers, blockSize, tableauSize, askedSize, rowCount, viewCount, listCount, listAt, slotValue}
+use Rattle.tableau_plan.specs.Plan.{tableauAt, rowAt, rowValues, blockNumbers, blockSize, tableauSize, askedSize, rowCount, viewCount, listCount, slotValue}
 
 -- q is p but for the places from `from` to before `end`
 abbrev pub KeptOutside : List ℕ → List ℕ → ℕ → ℕ → Type 0
@@ -41,9 +41,9 @@ placeOf lists b = cond (leb b lists) b (b + (most-lists - lists))
 -- all blocks have been stored, and n is how many there are
 pub record Blocks (p : List ℕ) (ls : List Line) (n : ℕ) : Type 0 where
   pub count : n ≡ length (allBlocks ls)
-  pub question : BlockNumbers (blockNumbers p question-block) (blockSize p question-block) (sheetOf ls .question)
-  pub list : (i : ℕ) → i < length (sheetOf ls .lists) → BlockNumbers (blockNumbers p (list-block i)) (blockSize p (list-block i)) (listAt (sheetOf ls) i)
-  pub view : (v : ℕ) → v < length (sheetOf ls .views) → BlockNumbers (blockNumbers p (view-block v)) (blockSize p (view-block v)) (nth (sheetOf ls .views) v .block)
+  pub question : BlockNumbers (blockNumbers p question-block) (blockSize p question-block) (questionIn ls)
+  pub list : (i : ℕ) → i < length (listsIn ls) → BlockNumbers (blockNumbers p (list-block i)) (blockSize p (list-block i)) (getD (listsIn ls) i (nowhere .block))
+  pub view : (v : ℕ) → v < length (viewsIn ls) → BlockNumbers (blockNumbers p (view-block v)) (blockSize p (view-block v)) (nth (viewsIn ls) v .block)
 
 -- ---- the listed rows
 
@@ -104,26 +104,26 @@ abbrev pub owedAtoms : ℕ → List Term → List Atom
 owedAtoms zero ts = []
 owedAtoms (suc p) ts = record { rel = suc p; terms = ts } ∷ []
 
--- an atom and the one that it owes: its terms in its relation's parent
-abbrev pub withOwed : Atom → List Atom
-withOwed a = a ∷ owedAtoms (parentOf (a .rel)) (a .terms)
+-- an atom and the one that it owes by a table: its terms in its relation's parent
+abbrev pub withOwed : Table → Atom → List Atom
+withOwed t a = a ∷ owedAtoms (relation t (a .rel) .parent) (a .terms)
 
 -- so for each atom of copy k
-abbrev pub ownAtoms : ℕ → List Atom → List PlacedAtom
-ownAtoms k l = placedIn k (gather withOwed l)
+abbrev pub ownAtoms : Table → ℕ → List Atom → List PlacedAtom
+ownAtoms t k l = placedIn k (gather (withOwed t) l)
 
 -- the atoms of the blocks, which are copies from k on
-abbrev pub atomsFrom : ℕ → List Block → List PlacedAtom
-atomsFrom k [] = []
-atomsFrom k (b ∷ bs) = ownAtoms k (b .atoms) ++ atomsFrom (suc k) bs
+abbrev pub atomsFrom : Table → ℕ → List Block → List PlacedAtom
+atomsFrom t k [] = []
+atomsFrom t k (b ∷ bs) = ownAtoms t k (b .atoms) ++ atomsFrom t (suc k) bs
 
 -- the blocks of a tableau with n rows stand in p
-pub record Sources (p : List ℕ) (n : ℕ) (bs : List Block) : Type 0 where
+pub record Sources (t : Table) (p : List ℕ) (n : ℕ) (bs : List Block) : Type 0 where
   pub count : length bs ≡ suc n
   pub low : (k : ℕ) → k < length bs → sourceOf p k < most-blocks
   pub numbers : (k : ℕ) → k < length bs → BlockNumbers (blockNumbers p (sourceOf p k)) (blockSize p (sourceOf p k)) (getD bs k emptyBlock)
   pub fine : (k : ℕ) → k < length bs → (a : Atom) → In a (getD bs k emptyBlock .atoms) → Fine top (a .terms)
-  pub few : length (atomsFrom 0 bs) ≤ tableau-atoms
+  pub few : length (atomsFrom t 0 bs) ≤ tableau-atoms
 
 -- atom i of the tableau under every state
 pub record PlacedNumbers (p : List ℕ) (i : ℕ) (a : PlacedAtom) : Type 0 where
@@ -143,8 +143,8 @@ pub record AtomsStored (p : List ℕ) (n : ℕ) (l left : List PlacedAtom) : Typ
   pub each : (i : ℕ) → i < n → PlacedNumbers p i (getD l i unplaced)
 
 -- the atoms of the first k copies, which are n, stand in the tableau
-abbrev pub TableauDone : List ℕ → ℕ → ℕ → List Block → Type 0
-TableauDone p k n bs = AtomsStored p n (atomsFrom 0 bs) (atomsFrom k (drop k bs))
+abbrev pub TableauDone : Table → List ℕ → ℕ → ℕ → List Block → Type 0
+TableauDone t p k n bs = AtomsStored p n (atomsFrom t 0 bs) (atomsFrom t k (drop k bs))
 
 -- ---- the counts
 

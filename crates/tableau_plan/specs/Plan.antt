@@ -7,8 +7,9 @@ use Prim.Native.Nat.{ℕ, zero, suc, _+_, _-_, _*_, _<_, _≤_}
 use lib.Dec.{ltb}
 use lib.ListN.{length, getD, take, drop}
 use Rattle.query_layout.specs.Layout.{block-width}
-use Rattle.tableau_layout.specs.Layout.{asked-size-at, blocks-at, list-count-at, plan-numbers, row-count-at, rows-at, sizes-at, slot-end, tableau-atoms, tableau-size-at, view-count-at, question-block, list-block, view-block}
+use Rattle.tableau_layout.specs.Layout.{asked-size-at, blocks-at, list-count-at, plan-numbers, row-count-at, rows-at, sizes-at, slot-end, table-at, tableau-atoms, tableau-size-at, view-count-at, question-block, list-block, view-block}
 use Rattle.sheet_format.specs.Limits.{most-lists, most-rows, most-views}
+use Rattle.sheet_format.specs.Table.{Table, relation, tableIn}
 use Rattle.query_meaning.specs.Meaning.{Term, con, Block, In}
 use Rattle.query_meaning.specs.Blocks.{View, nowhere, nth}
 use Rattle.query_encoding.specs.Encoding.{BlockNumbers, FactNumbers, padded}
@@ -50,6 +51,17 @@ viewCount p = getD p view-count-at 0
 abbrev pub listCount : List ℕ → ℕ
 listCount p = getD p list-count-at 0
 
+-- the table of relations
+abbrev pub planTable : List ℕ → Table
+planTable p = tableIn (drop table-at p)
+
+-- the key and the parent of a relation, 0 where it has none
+abbrev pub keyIn : List ℕ → ℕ → ℕ
+keyIn p n = relation (planTable p) n .key
+
+abbrev pub parentIn : List ℕ → ℕ → ℕ
+parentIn p n = relation (planTable p) n .parent
+
 -- list i of a sheet
 abbrev pub listAt : Sheet → ℕ → Block
 listAt x i = getD (x .lists) i (nowhere .block)
@@ -84,6 +96,7 @@ pub record Plan (p : List ℕ) (x : Sheet) : Type 0 where
   pub rows-few : rowCount p ≤ most-rows
   pub lists-few : listCount p ≤ most-lists
   pub views-few : viewCount p ≤ most-views
+  pub table : x .table ≡ planTable p
   -- the tableau's facts and the rows that they owe, with the question's and without
   pub whole : (s : State) → FactNumbers (tableauFacts p s 0 (tableauSize p)) (tableauLog x s)
   pub agreeing : (s : State) → FactNumbers (tableauFacts p s (askedSize p) (tableauSize p - askedSize p)) (tableauLog (bare x) s)

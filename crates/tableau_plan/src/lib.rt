@@ -12,6 +12,7 @@ use sheet_format::MOST_ROWS;
 use sheet_format::MOST_VIEWS;
 use sheet_format::ROW_KIND;
 use sheet_format::SAVED_KIND;
+use sheet_format::TABLE_NUMBERS;
 use sheet_format::VIEW_KIND;
 use tableau_layout::BLOCKS_AT;
 use tableau_layout::MOST_BLOCKS;
@@ -20,6 +21,7 @@ use tableau_layout::ROW_NUMBERS;
 use tableau_layout::ROWS_AT;
 use tableau_layout::SIZES_AT;
 use tableau_layout::SLOTS;
+use tableau_layout::TABLE_AT;
 use tableau_layout::TABLEAU_ATOMS;
 use tableau_layout::TABLEAU_SIZE_AT;
 use tableau_layout::VIEW_BLOCKS;
@@ -29,13 +31,14 @@ ghost use Prim.Native.Nat.{ℕ, _+_, _-_, _*_, _/_, _<_, _≤_};
 ghost use lib.IntN.{pos};
 ghost use lib.ListN.{length, getD};
 ghost use Rattle.query_layout.specs.Layout.{block-width};
-ghost use Rattle.tableau_layout.specs.Layout.{blocks-at, most-blocks, plan-numbers, rows-at, tableau-atoms};
-ghost use Rattle.sheet_format.specs.Limits.{most-atoms, most-rows};
+ghost use Rattle.tableau_layout.specs.Layout.{blocks-at, most-blocks, plan-numbers, rows-at, table-at, tableau-atoms};
+ghost use Rattle.sheet_format.specs.Limits.{most-atoms, most-rows, table-numbers};
+ghost use Rattle.sheet_format.specs.Table.{tableIn};
 ghost use Rattle.sheet_format.specs.Line.{natural, wordLines};
 ghost use Rattle.sheet_format.specs.Cause.{refusalOf};
 ghost use Rattle.query_meaning.specs.Meaning.{Atom, Block};
 ghost use Rattle.query_encoding.specs.Encoding.{atomAt};
-ghost use Rattle.case_verdicts.specs.Sheets.{sheetOf};
+ghost use Rattle.case_verdicts.specs.Sheets.{listsIn, sheetOf};
 ghost use Rattle.tableau_plan.specs.Plan.{Plan};
 ghost use Rattle.tableau_plan.specs.Parts.{KeptOutside, BlockStored, Blocks, placeOf, slotOf, sourceOf, RowsDone, PlacedAtom, placedAtom, placedIn, withOwed, ownAtoms, AtomAt, AtomsStored, Sources, TableauDone, Closed};
 ghost use Rattle.query_blocks.specs.Parts.{AcceptedLines};
@@ -83,7 +86,7 @@ fn put_block(p: &mut [usize], b: usize, found: Numbers)
 
 // How many lists there are: their heads are counted.
 fn count_lists(ws: &[i32]) -> usize
-    ensures { λ r. ⌜ (AcceptedLines (wordLines (now (ws .entry))) → r ≡ length (sheetOf (wordLines (now (ws .entry))) .lists)) ⌝ }
+    ensures { λ r. ⌜ (AcceptedLines (wordLines (now (ws .entry))) → r ≡ length (listsIn (wordLines (now (ws .entry))))) ⌝ }
 {
     let n = ws.len() / LINE_WORDS;
     let mut lists = 0;
@@ -116,7 +119,7 @@ fn place(lists: usize, b: usize) -> usize
 // All blocks, and how many there are, where there are so many lists.
 fn put_blocks(ws: &[i32], lists: usize, p: &mut [usize]) -> usize
     requires { ⌜ length (now p) ≡ plan-numbers ⌝ }
-    ensures { λ r. ⌜ (length (now (p .exit)) ≡ plan-numbers) × (AcceptedLines (wordLines (now (ws .entry))) → lists ≡ length (sheetOf (wordLines (now (ws .entry))) .lists) → Blocks (now (p .exit)) (wordLines (now (ws .entry))) r) ⌝ }
+    ensures { λ r. ⌜ (length (now (p .exit)) ≡ plan-numbers) × (AcceptedLines (wordLines (now (ws .entry))) → lists ≡ length (listsIn (wordLines (now (ws .entry)))) → Blocks (now (p .exit)) (wordLines (now (ws .entry))) r) ⌝ }
 {
     let mut b = 0;
     while b < MOST_BLOCKS {
@@ -236,13 +239,19 @@ fn place_atom(p: &mut [usize], copy: usize, relation: usize, from: usize, at: us
 }
 
 // An atom of a copy, and the one that it owes to its relation's parent; the next place.
-fn put_atom(p: &mut [usize], copy: usize, from: usize, at: usize) -> usize
+fn put_atom(
+    table: &[usize; TABLE_NUMBERS],
+    p: &mut [usize],
+    copy: usize,
+    from: usize,
+    at: usize,
+) -> usize
     requires { ⌜ (length (now p) ≡ plan-numbers) × (copy ≤ most-rows) × (rows-at ≤ from) × (from + 5 ≤ plan-numbers) × (at ≤ tableau-atoms) ⌝ }
-    ensures { λ r. ⌜ (r ≤ tableau-atoms) × KeptOutside (now (p .entry)) (now (p .exit)) 0 rows-at × ((l left : List PlacedAtom) (a : Atom) → length l ≤ tableau-atoms → AtomAt (now (p .entry)) from a → AtomsStored (now (p .entry)) at l (placedIn copy (withOwed a) ++ left) → AtomsStored (now (p .exit)) r l left) ⌝ }
+    ensures { λ r. ⌜ (r ≤ tableau-atoms) × KeptOutside (now (p .entry)) (now (p .exit)) 0 rows-at × ((l left : List PlacedAtom) (a : Atom) → length l ≤ tableau-atoms → AtomAt (now (p .entry)) from a → AtomsStored (now (p .entry)) at l (placedIn copy (withOwed (tableIn (now (table .entry))) a) ++ left) → AtomsStored (now (p .exit)) r l left) ⌝ }
 {
     let relation = p[from];
     let next = place_atom(p, copy, relation, from, at);
-    let parent = sheet_terms::parent(relation);
+    let parent = sheet_terms::parent(table, relation);
     if parent == 0 {
         return next;
     }
@@ -250,14 +259,21 @@ fn put_atom(p: &mut [usize], copy: usize, from: usize, at: usize) -> usize
 }
 
 // The n atoms of a copy, each with the one that it owes; the next place.
-fn put_atoms(p: &mut [usize], copy: usize, from: usize, n: usize, at: usize) -> usize
+fn put_atoms(
+    table: &[usize; TABLE_NUMBERS],
+    p: &mut [usize],
+    copy: usize,
+    from: usize,
+    n: usize,
+    at: usize,
+) -> usize
     requires { ⌜ (length (now p) ≡ plan-numbers) × (copy ≤ most-rows) × (n ≤ most-atoms) × (rows-at ≤ from) × (from + n * 5 ≤ plan-numbers) × (at ≤ tableau-atoms) ⌝ }
-    ensures { λ r. ⌜ (r ≤ tableau-atoms) × KeptOutside (now (p .entry)) (now (p .exit)) 0 rows-at × ((l left : List PlacedAtom) (own : List Atom) → length l ≤ tableau-atoms → n ≡ length own → ((j : ℕ) → j < n → AtomAt (now (p .entry)) (from + j * 5) (atomAt own j)) → AtomsStored (now (p .entry)) at l (ownAtoms copy own ++ left) → AtomsStored (now (p .exit)) r l left) ⌝ }
+    ensures { λ r. ⌜ (r ≤ tableau-atoms) × KeptOutside (now (p .entry)) (now (p .exit)) 0 rows-at × ((l left : List PlacedAtom) (own : List Atom) → length l ≤ tableau-atoms → n ≡ length own → ((j : ℕ) → j < n → AtomAt (now (p .entry)) (from + j * 5) (atomAt own j)) → AtomsStored (now (p .entry)) at l (ownAtoms (tableIn (now (table .entry))) copy own ++ left) → AtomsStored (now (p .exit)) r l left) ⌝ }
 {
     let mut next = at;
     let mut j = 0;
     while j < n {
-        next = put_atom(p, copy, from + j * FACT_NUMBERS, next);
+        next = put_atom(table, p, copy, from + j * FACT_NUMBERS, next);
         j += 1;
     }
     next
@@ -279,27 +295,27 @@ fn source(p: &[usize], copy: usize) -> usize
 }
 
 // One copy more, its atoms from atom `at` on; the next place.
-fn put_copy(p: &mut [usize], copy: usize, at: usize) -> usize
+fn put_copy(table: &[usize; TABLE_NUMBERS], p: &mut [usize], copy: usize, at: usize) -> usize
     requires { ⌜ (length (now p) ≡ plan-numbers) × (copy ≤ most-rows) × (at ≤ tableau-atoms) ⌝ }
-    ensures { λ r. ⌜ (r ≤ tableau-atoms) × KeptOutside (now (p .entry)) (now (p .exit)) 0 rows-at × ((n : ℕ) (bs : List Block) → copy < length bs → Sources (now (p .entry)) n bs → TableauDone (now (p .entry)) copy at bs → TableauDone (now (p .exit)) (copy + 1) r bs) ⌝ }
+    ensures { λ r. ⌜ (r ≤ tableau-atoms) × KeptOutside (now (p .entry)) (now (p .exit)) 0 rows-at × ((n : ℕ) (bs : List Block) → copy < length bs → Sources (tableIn (now (table .entry))) (now (p .entry)) n bs → TableauDone (tableIn (now (table .entry))) (now (p .entry)) copy at bs → TableauDone (tableIn (now (table .entry))) (now (p .exit)) (copy + 1) r bs) ⌝ }
 {
     let b = source(p, copy);
     let n = p[SIZES_AT + b];
     if MOST_ATOMS < n {
         return at;
     }
-    put_atoms(p, copy, BLOCKS_AT + b * BLOCK_NUMBERS, n, at)
+    put_atoms(table, p, copy, BLOCKS_AT + b * BLOCK_NUMBERS, n, at)
 }
 
 // The copies of the rows, after the question's, which has the first `asked` atoms; how many atoms the tableau has then.
-fn put_tableau(p: &mut [usize], n: usize, asked: usize) -> usize
+fn put_tableau(table: &[usize; TABLE_NUMBERS], p: &mut [usize], n: usize, asked: usize) -> usize
     requires { ⌜ (length (now p) ≡ plan-numbers) × (n ≤ most-rows) × (asked ≤ tableau-atoms) ⌝ }
-    ensures { λ r. ⌜ (r ≤ tableau-atoms) × KeptOutside (now (p .entry)) (now (p .exit)) 0 rows-at × ((bs : List Block) → Sources (now (p .entry)) n bs → TableauDone (now (p .entry)) 1 asked bs → TableauDone (now (p .exit)) (n + 1) r bs) ⌝ }
+    ensures { λ r. ⌜ (r ≤ tableau-atoms) × KeptOutside (now (p .entry)) (now (p .exit)) 0 rows-at × ((bs : List Block) → Sources (tableIn (now (table .entry))) (now (p .entry)) n bs → TableauDone (tableIn (now (table .entry))) (now (p .entry)) 1 asked bs → TableauDone (tableIn (now (table .entry))) (now (p .exit)) (n + 1) r bs) ⌝ }
 {
     let mut at = asked;
     let mut copy = 1;
     while copy <= n {
-        at = put_copy(p, copy, at);
+        at = put_copy(table, p, copy, at);
         copy += 1;
     }
     at
@@ -334,9 +350,21 @@ fn put_counts(
     p[TABLEAU_SIZE_AT + 4] = lists;
 }
 
-// The plan of an accepted number form, where there are as many words as a plan has; more or fewer words are left as they are.
-pub fn plan(ws: &[i32], p: &mut [usize])
-    ensures { λ r. ⌜ (length (now (p .entry)) ≡ plan-numbers → refusalOf (wordLines (now (ws .entry))) .number ≡ 0 → Plan (now (p .exit)) (sheetOf (wordLines (now (ws .entry))))) ⌝ }
+// The table of relations at its place.
+fn put_table(table: &[usize], p: &mut [usize])
+    requires { ⌜ (length (now table) ≡ table-numbers) × (length (now p) ≡ plan-numbers) ⌝ }
+    ensures { λ r. ⌜ KeptOutside (now (p .entry)) (now (p .exit)) table-at (table-at + table-numbers) × ((x : ℕ) → x < table-numbers → getD (now (p .exit)) (table-at + x) 0 ≡ getD (now (table .entry)) x 0) × (length (now (table .entry)) ≡ table-numbers) ⌝ }
+{
+    let mut x = 0;
+    while x < TABLE_NUMBERS {
+        p[TABLE_AT + x] = table[x];
+        x += 1;
+    }
+}
+
+// The plan of a number form that a table of relations accepts, where there are as many words as a plan has; more or fewer words are left as they are.
+pub fn plan(table: &[usize; TABLE_NUMBERS], ws: &[i32], p: &mut [usize])
+    ensures { λ r. ⌜ (length (now (p .entry)) ≡ plan-numbers → refusalOf (tableIn (now (table .entry))) (wordLines (now (ws .entry))) .number ≡ 0 → Plan (now (p .exit)) (sheetOf (tableIn (now (table .entry))) (wordLines (now (ws .entry))))) ⌝ }
     ensures { λ r. ⌜ ((length (now (p .entry)) ≡ plan-numbers → ⊥) → now (p .exit) ≡ now (p .entry)) ⌝ }
 {
     if p.len() != PLAN_NUMBERS {
@@ -345,7 +373,8 @@ pub fn plan(ws: &[i32], p: &mut [usize])
     let lists = count_lists(ws);
     let blocks = put_blocks(ws, lists, p);
     let listed = put_rows(ws, p);
-    let asked = put_copy(p, 0, 0);
-    let atoms = put_tableau(p, listed, asked);
+    let asked = put_copy(table, p, 0, 0);
+    let atoms = put_tableau(table, p, listed, asked);
     put_counts(p, atoms, asked, listed, lists, views_of(blocks, lists));
+    put_table(table, p);
 }

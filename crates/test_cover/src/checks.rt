@@ -1,4 +1,4 @@
-// What evaluation says of a case that was handed over.
+// What evaluation says of a case that was handed over, by a table of relations: its bytes, or the numbers that are loaded from them.
 //
 // A sheet's words are its number form in the words of the longest sheet: seven to a line, the field count, the kind and the fields after it, and zeros after the
 // last line.
@@ -23,17 +23,6 @@ const LIST: i32 = 2;
 
 const VIEW: i32 = 3;
 
-// The relations of beats, noise and signals.
-const WORN: i32 = 3;
-
-const SIG: i32 = 4;
-
-const BEAT: i32 = 5;
-
-const NOISE: i32 = 6;
-
-const PULSE: i32 = 7;
-
 const ANSWERS: usize = 1024;
 
 const ROOM: usize = ANSWERS * ANSWER;
@@ -42,32 +31,35 @@ const ROOM: usize = ANSWERS * ANSWER;
 pub(crate) fn put_marks(
     out: &mut [u8],
     at: usize,
+    table: &[u8],
     sheet: &[u8],
     facts: &[i32],
     missing: &[usize; 4],
 ) -> usize {
     let mut words = [0i32; MOST_WORDS];
-    sheet::read(sheet, &mut words);
-    let a = test_results::put_mark(out, at, are_facts(sheet, &words, facts));
-    let b = test_results::put_mark(out, a, agrees(sheet, &words, facts));
-    let c = test_results::put_mark(out, b, is_least(sheet, &words, facts, missing));
-    test_results::put_mark(out, c, is_bare(sheet, &words, facts))
+    sheet::read_by_table(table, sheet, &mut words);
+    let a = test_results::put_mark(out, at, are_facts(table, sheet, &words, facts));
+    let b = test_results::put_mark(out, a, agrees(table, sheet, &words, facts));
+    let c = test_results::put_mark(out, b, is_least(table, sheet, &words, facts, missing));
+    test_results::put_mark(out, c, is_bare(table, sheet, &words, facts))
 }
 
 // Whether evaluation takes the facts, and each value stands in the sheet or is made up.
-fn are_facts(sheet: &[u8], words: &[i32], facts: &[i32]) -> bool {
+fn are_facts(table: &[u8], sheet: &[u8], words: &[i32], facts: &[i32]) -> bool {
+    let loaded = sheet_table::load(table);
+    let numbers = loaded.numbers;
     let mut answers = [0i32; ROOM];
-    let ending = evaluate::evaluate(sheet, 1, facts, &mut answers);
+    let ending = evaluate::evaluate_by_table(table, sheet, 1, facts, &mut answers);
     match ending {
-        Ending::Done(_) => are_known(words, facts),
+        Ending::Done(_) => are_known(&numbers, words, facts),
         Ending::Refused(_, _) => false,
     }
 }
 
-fn are_known(words: &[i32], facts: &[i32]) -> bool {
+fn are_known(numbers: &[usize], words: &[i32], facts: &[i32]) -> bool {
     let mut i = 0;
     while i < facts.len() {
-        if !is_known(words, facts, i) {
+        if !is_known(numbers, words, facts, i) {
             return false;
         }
         i += 1;
@@ -76,14 +68,14 @@ fn are_known(words: &[i32], facts: &[i32]) -> bool {
 }
 
 // The same of the word at a place. The relation and unused words are evaluation's to test, and so is the end of the made-up values.
-fn is_known(words: &[i32], facts: &[i32], i: usize) -> bool
+fn is_known(numbers: &[usize], words: &[i32], facts: &[i32], i: usize) -> bool
     requires { ⌜ i < length (now facts) ⌝ }
 {
     let column = i % FACT;
     if column == 0 {
         return true;
     }
-    if sheet_terms::columns(facts[i - column]) < column {
+    if sheet_terms::columns(numbers, facts[i - column]) < column {
         return true;
     }
     if CONSTANT_END <= facts[i] {
@@ -124,66 +116,75 @@ fn is_term(words: &[i32], i: usize, w: i32) -> bool
 }
 
 // Whether the facts are a case of the sheet.
-fn is_case(sheet: &[u8], words: &[i32], facts: &[i32]) -> bool
+fn is_case(table: &[u8], sheet: &[u8], words: &[i32], facts: &[i32]) -> bool
     requires { ⌜ length (now words) ≡ most-words ⌝ }
 {
     let mut asked = [0i32; ROOM];
-    if lacking(sheet, words, facts, &mut asked) == ANSWERS {
+    if lacking(table, sheet, words, facts, &mut asked) == ANSWERS {
         return false;
     }
-    agrees(sheet, words, facts)
+    agrees(table, sheet, words, facts)
 }
 
-// Whether each beat and each noise is a signal, a strap has one rower in a session and one rate at a tick, and each view's answers are its listed rows.
-fn agrees(sheet: &[u8], words: &[i32], facts: &[i32]) -> bool
+// Whether the facts are those of a log that counts, and each view's answers are its listed rows.
+fn agrees(table: &[u8], sheet: &[u8], words: &[i32], facts: &[i32]) -> bool
     requires { ⌜ length (now words) ≡ most-words ⌝ }
 {
-    if !are_signals(facts) {
-        return false;
-    }
-    if !are_settled(facts) {
+    if !is_lawful(table, facts) {
         return false;
     }
     let blocks = heads(words, MOST_LINES, VIEW);
     let mut block = heads(words, MOST_LINES, LIST);
     while block < blocks {
         block += 1;
-        if !is_listed(sheet, words, facts, block) {
+        if !is_listed(table, sheet, words, facts, block) {
             return false;
         }
     }
     true
 }
 
-// Whether the row of each beat and each noise is a signal's too.
-fn are_signals(facts: &[i32]) -> bool {
+// Whether a relation's parent has each of its rows, and no two rows are alike in a key.
+fn is_lawful(table: &[u8], facts: &[i32]) -> bool {
+    let loaded = sheet_table::load(table);
+    let numbers = loaded.numbers;
+    if !have_parents(&numbers, facts) {
+        return false;
+    }
+    are_settled(&numbers, facts)
+}
+
+// Whether the row of each fact is its relation's parent's too.
+fn have_parents(numbers: &[usize], facts: &[i32]) -> bool {
     let mut i = 0;
     while i < facts.len() / FACT {
-        if owes_signal(facts, i) {
-            if !is_signal(facts, i) {
-                return false;
-            }
+        if !has_parent(numbers, facts, i) {
+            return false;
         }
         i += 1;
     }
     true
 }
 
-// Whether fact i is a beat or noise.
-fn owes_signal(facts: &[i32], i: usize) -> bool
+// Whether the relation of fact i has no parent, or one with the same row.
+fn has_parent(numbers: &[usize], facts: &[i32], i: usize) -> bool
     requires { ⌜ i * 5 + 5 ≤ length (now facts) ⌝ }
 {
-    let relation = facts[i * FACT];
-    relation == BEAT || relation == NOISE
+    let relation = sheet_terms::number(facts[i * FACT]);
+    let parent = sheet_terms::parent(numbers, relation);
+    if parent == 0 {
+        return true;
+    }
+    has_row(facts, i, parent)
 }
 
-// Whether the row of fact i is a signal's.
-fn is_signal(facts: &[i32], i: usize) -> bool
+// Whether a relation has the row of fact i.
+fn has_row(facts: &[i32], i: usize, relation: usize) -> bool
     requires { ⌜ i * 5 + 5 ≤ length (now facts) ⌝ }
 {
     let mut k = 0;
     while k < facts.len() / FACT {
-        if facts[k * FACT] == SIG {
+        if sheet_terms::number(facts[k * FACT]) == relation {
             if is_row(facts, k, i) {
                 return true;
             }
@@ -193,11 +194,11 @@ fn is_signal(facts: &[i32], i: usize) -> bool
     false
 }
 
-// Whether no two facts of Worn, or of Pulse, are alike in the first two columns. Facts ascend, so that such ones stand side by side.
-fn are_settled(facts: &[i32]) -> bool {
+// Whether no two facts of a relation are alike in its key. Facts ascend, so that such ones stand side by side.
+fn are_settled(numbers: &[usize], facts: &[i32]) -> bool {
     let mut i = 1;
     while i < facts.len() / FACT {
-        if is_unsettled(facts, i) {
+        if is_unsettled(numbers, facts, i) {
             return false;
         }
         i += 1;
@@ -205,19 +206,34 @@ fn are_settled(facts: &[i32]) -> bool {
     true
 }
 
-// Whether fact i and the one before it are alike in the first two columns, in a relation where these settle the third.
-fn is_unsettled(facts: &[i32], i: usize) -> bool
+// Whether fact i and the one before it are of one relation, which has a key, and alike in it.
+fn is_unsettled(numbers: &[usize], facts: &[i32], i: usize) -> bool
+    requires { ⌜ (1 ≤ i) × (i * 5 + 5 ≤ length (now facts)) ⌝ }
+{
+    let relation = facts[i * FACT];
+    if facts[i * FACT - FACT] != relation {
+        return false;
+    }
+    let key = sheet_terms::key(numbers, sheet_terms::number(relation));
+    if key == 0 {
+        return false;
+    }
+    begins_alike(facts, i, key)
+}
+
+// Whether fact i and the one before it are alike in the first columns, so many of at most three.
+fn begins_alike(facts: &[i32], i: usize, columns: usize) -> bool
     requires { ⌜ (1 ≤ i) × (i * 5 + 5 ≤ length (now facts)) ⌝ }
 {
     let at = i * FACT;
-    let relation = facts[at];
-    if relation != WORN && relation != PULSE {
+    let before = at - FACT;
+    if facts[before + 1] != facts[at + 1] {
         return false;
     }
-    let before = at - FACT;
-    facts[before] == relation
-        && facts[before + 1] == facts[at + 1]
-        && facts[before + 2] == facts[at + 2]
+    if 1 < columns && facts[before + 2] != facts[at + 2] {
+        return false;
+    }
+    columns < 3 || facts[before + 3] == facts[at + 3]
 }
 
 // Whether facts k and i have the same row.
@@ -260,13 +276,13 @@ fn head(kind: i32, last: i32) -> usize
 }
 
 // Whether a view's answers are its listed rows.
-fn is_listed(sheet: &[u8], words: &[i32], facts: &[i32], block: usize) -> bool
+fn is_listed(table: &[u8], sheet: &[u8], words: &[i32], facts: &[i32], block: usize) -> bool
     requires { ⌜ length (now words) ≡ most-words ⌝ }
 {
     let mut listed = [0i32; ROOM];
     let n = list(words, block, &mut listed);
     let mut given = [0i32; ROOM];
-    let ending = evaluate::evaluate(sheet, block, facts, &mut given);
+    let ending = evaluate::evaluate_by_table(table, sheet, block, facts, &mut given);
     let Ending::Done(count) = ending else {
         return false;
     };
@@ -328,11 +344,11 @@ fn are_same(a: &[i32], b: &[i32]) -> bool
 }
 
 // Whether the missing answer is the least that the facts give the question and no list.
-fn is_least(sheet: &[u8], words: &[i32], facts: &[i32], missing: &[usize; 4]) -> bool
+fn is_least(table: &[u8], sheet: &[u8], words: &[i32], facts: &[i32], missing: &[usize; 4]) -> bool
     requires { ⌜ length (now words) ≡ most-words ⌝ }
 {
     let mut asked = [0i32; ROOM];
-    let n = lacking(sheet, words, facts, &mut asked);
+    let n = lacking(table, sheet, words, facts, &mut asked);
     if n == ANSWERS {
         return false;
     }
@@ -360,16 +376,16 @@ fn word(n: usize) -> i32 {
 
 // Puts the question's answers at the start of the room, and returns the number, from 0, of the first that no list has; the number of
 // answers that there is room for where each is a list's, or where there are more.
-fn lacking(sheet: &[u8], words: &[i32], facts: &[i32], asked: &mut [i32]) -> usize
+fn lacking(table: &[u8], sheet: &[u8], words: &[i32], facts: &[i32], asked: &mut [i32]) -> usize
     requires { ⌜ (length (now words) ≡ most-words) × (length (now asked) ≡ 4096) ⌝ }
     ensures { λ r. ⌜ r ≤ 1024 ⌝ }
 {
-    let question = evaluate::evaluate(sheet, 1, facts, asked);
+    let question = evaluate::evaluate_by_table(table, sheet, 1, facts, asked);
     let Ending::Done(n) = question else {
         return ANSWERS;
     };
     let lists = heads(words, MOST_LINES, LIST);
-    first_lacking(sheet, lists, facts, asked, least(n, ANSWERS))
+    first_lacking(table, sheet, lists, facts, asked, least(n, ANSWERS))
 }
 
 fn least(a: usize, b: usize) -> usize
@@ -379,13 +395,20 @@ fn least(a: usize, b: usize) -> usize
 }
 
 // The same of the first n answers, where the blocks from 2 to `lists` are the lists.
-fn first_lacking(sheet: &[u8], lists: usize, facts: &[i32], asked: &[i32], n: usize) -> usize
+fn first_lacking(
+    table: &[u8],
+    sheet: &[u8],
+    lists: usize,
+    facts: &[i32],
+    asked: &[i32],
+    n: usize,
+) -> usize
     requires { ⌜ (lists ≤ 1024) × (n * 4 ≤ length (now asked)) × (n ≤ 1024) ⌝ }
     ensures { λ r. ⌜ r ≤ 1024 ⌝ }
 {
     let mut i = 0;
     while i < n {
-        if !is_in_a_list(sheet, lists, facts, asked, i) {
+        if !is_in_a_list(table, sheet, lists, facts, asked, i) {
             return i;
         }
         i += 1;
@@ -394,13 +417,20 @@ fn first_lacking(sheet: &[u8], lists: usize, facts: &[i32], asked: &[i32], n: us
 }
 
 // Whether some list has answer i.
-fn is_in_a_list(sheet: &[u8], lists: usize, facts: &[i32], asked: &[i32], i: usize) -> bool
+fn is_in_a_list(
+    table: &[u8],
+    sheet: &[u8],
+    lists: usize,
+    facts: &[i32],
+    asked: &[i32],
+    i: usize,
+) -> bool
     requires { ⌜ (lists ≤ 1024) × (i * 4 + 4 ≤ length (now asked)) ⌝ }
 {
     let mut block = 1;
     while block < lists {
         block += 1;
-        if gives(sheet, block, facts, asked, i) {
+        if gives(table, sheet, block, facts, asked, i) {
             return true;
         }
     }
@@ -408,11 +438,11 @@ fn is_in_a_list(sheet: &[u8], lists: usize, facts: &[i32], asked: &[i32], i: usi
 }
 
 // Whether a block has answer i. One with more answers than there is room for is taken to have it.
-fn gives(sheet: &[u8], block: usize, facts: &[i32], asked: &[i32], i: usize) -> bool
+fn gives(table: &[u8], sheet: &[u8], block: usize, facts: &[i32], asked: &[i32], i: usize) -> bool
     requires { ⌜ i * 4 + 4 ≤ length (now asked) ⌝ }
 {
     let mut saved = [0i32; ROOM];
-    let list = evaluate::evaluate(sheet, block, facts, &mut saved);
+    let list = evaluate::evaluate_by_table(table, sheet, block, facts, &mut saved);
     let Ending::Done(m) = list else {
         return true;
     };
@@ -448,12 +478,12 @@ fn is_answer(a: &[i32], k: usize, b: &[i32], i: usize) -> bool
 }
 
 // Whether the facts are no case without any one of them.
-fn is_bare(sheet: &[u8], words: &[i32], facts: &[i32]) -> bool
+fn is_bare(table: &[u8], sheet: &[u8], words: &[i32], facts: &[i32]) -> bool
     requires { ⌜ length (now words) ≡ most-words ⌝ }
 {
     let mut i = 0;
     while i < facts.len() / FACT {
-        if is_case_without(sheet, words, facts, i) {
+        if is_case_without(table, sheet, words, facts, i) {
             return false;
         }
         i += 1;
@@ -462,12 +492,12 @@ fn is_bare(sheet: &[u8], words: &[i32], facts: &[i32]) -> bool
 }
 
 // Whether the facts are a case without fact i.
-fn is_case_without(sheet: &[u8], words: &[i32], facts: &[i32], i: usize) -> bool
+fn is_case_without(table: &[u8], sheet: &[u8], words: &[i32], facts: &[i32], i: usize) -> bool
     requires { ⌜ length (now words) ≡ most-words ⌝ }
 {
     let mut rest = [0i32; LEAST_ROOM];
     let n = put_without(facts, i, &mut rest);
-    is_case(sheet, words, &rest[0..n])
+    is_case(table, sheet, words, &rest[0..n])
 }
 
 // Puts all facts but fact i at the start of out, and returns how many words they have there.

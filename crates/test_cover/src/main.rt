@@ -1,16 +1,17 @@
 // Judges the sheets of standard input, a case to a line, and prints a line for each case.
 //
-//     # TEXT                  a heading, printed as it stands
-//     NAME|ROOM SHOWN|SHEET   judges SHEET, with ROOM lent words
+//     # TEXT                         a heading, printed as it stands
+//     NAME|ROOM SHOWN|SHEET          judges SHEET, with ROOM lent words
+//     NAME|ROOM SHOWN|SHEET|TABLE    the same by the table of relations TABLE
 //
-// In a SHEET "/" stands for byte 10, "," for seven blanks, ";" for six, "\" with two hexadecimal digits for the byte of that number; any
-// other byte stands for itself.
+// In a SHEET and in a TABLE "/" stands for byte 10, "," for seven blanks, ";" for six, "\" with two hexadecimal digits for the byte of that
+// number; any other byte stands for itself. Neither has a bar. A case without a TABLE goes by the library's own.
 //
 // What is printed: the name; the verdict, the number and the line; "=" where the lent words after the facts are as they were lent, and "!"
 // where they are not. Of a case that was handed over four marks more, "=" where it is so and "!" where it is not:
 //
 //     its facts are facts, ascend, and have values that stand in the sheet or are made up
-//     each beat and each noise is a signal, a strap has one rower in a session and one rate at a tick, and each view's answers are its listed rows
+//     the parent of each relation has its rows, rows alike in a key are alike in all columns, and each view's answers are its listed rows
 //     the missing answer is the least of the question's that every list lacks
 //     with any one fact dropped it is no case
 //
@@ -18,6 +19,7 @@
 // which of these are shown, since the case is free: 0 none, 1 the missing answer, 2 all. With any other verdict all are.
 mod checks;
 
+use judge_result::Judgement;
 use judge_result::LEAST_ROOM;
 use libc::STDOUT_FILENO;
 ghost use Prim.Native.Nat.{_≤_};
@@ -27,6 +29,9 @@ const LENT: usize = LEAST_ROOM + 64;
 
 // No result is longer: it has a name of at most 8192 bytes, as many words of twelve bytes each, and eight numbers of some twenty.
 const ROOM: usize = 8192 + LENT * 12 + 512;
+
+// The bytes of a table, at most: more than 33 lines have.
+const TABLE: usize = 2048;
 
 // Runs every case: the count is one that no input reaches.
 fn main() {
@@ -82,26 +87,78 @@ fn run_parts(parts: &[u8], out: &mut [u8], at: usize) -> usize {
     call(&parts[bar + 1..], room, shown, out, at)
 }
 
-// Calls with the bytes that the text stands for.
+// Calls with the bytes that the text stands for: those of a sheet, and after a bar those of a table.
 fn call(text: &[u8], room: usize, shown: usize, out: &mut [u8], at: usize) -> usize {
+    let bar = test_words::place(text, b'|');
     let mut bytes = [0u8; 8704];
-    let n = test_bytes::bytes(text, &mut bytes);
+    let n = test_bytes::bytes(&text[0..bar], &mut bytes);
     let mut lent = [0i32; LENT];
     test_lent::put_marks(&mut lent);
     let k = least(room, LENT);
-    show(&bytes[0..n], shown, &mut lent[0..k], out, at)
+    if bar == text.len() {
+        return show(&bytes[0..n], shown, &mut lent[0..k], out, at);
+    }
+    call_with_table(
+        &text[bar + 1..],
+        &bytes[0..n],
+        shown,
+        &mut lent[0..k],
+        out,
+        at,
+    )
 }
 
-// Calls, and puts what came of it at a place.
+// The same with the bytes that a table's text stands for.
+fn call_with_table(
+    text: &[u8],
+    sheet: &[u8],
+    shown: usize,
+    lent: &mut [i32],
+    out: &mut [u8],
+    at: usize,
+) -> usize {
+    let mut table = [0u8; TABLE];
+    let n = test_bytes::bytes(text, &mut table);
+    show_by_table(&table[0..n], sheet, shown, lent, out, at)
+}
+
+// Judges by the library's own table, and puts what came of it at a place.
 fn show(sheet: &[u8], shown: usize, lent: &mut [i32], out: &mut [u8], at: usize) -> usize {
+    let table = sheet_own_table::own_table();
     let j = judge::judge(sheet, lent);
+    put_judged(out, at, &table, sheet, shown, lent, j)
+}
+
+// Judges by a table, and puts what came of it at a place.
+fn show_by_table(
+    table: &[u8],
+    sheet: &[u8],
+    shown: usize,
+    lent: &mut [i32],
+    out: &mut [u8],
+    at: usize,
+) -> usize {
+    let j = judge::judge_by_table(table, sheet, lent);
+    put_judged(out, at, table, sheet, shown, lent, j)
+}
+
+// Puts a judgement by a table, with what it left in the lent words.
+fn put_judged(
+    out: &mut [u8],
+    at: usize,
+    table: &[u8],
+    sheet: &[u8],
+    shown: usize,
+    lent: &[i32],
+    j: Judgement,
+) -> usize {
     let verdict = j.verdict;
     let count = j.count;
     let missing = j.missing;
     let done = least(words_of(count), lent.len());
     let a = put_ending(out, at, verdict, j.number, j.line);
     let b = test_results::put_mark(out, a, test_lent::are_marked(lent, done));
-    let c = put_checks(out, b, sheet, verdict, &lent[0..done], &missing);
+    let c = put_checks(out, b, table, sheet, verdict, &lent[0..done], &missing);
     put_case(
         out,
         c,
@@ -151,6 +208,7 @@ fn put_ending(out: &mut [u8], at: usize, verdict: usize, number: usize, line: us
 fn put_checks(
     out: &mut [u8],
     at: usize,
+    table: &[u8],
     sheet: &[u8],
     verdict: usize,
     facts: &[i32],
@@ -159,7 +217,7 @@ fn put_checks(
     if verdict != 1 {
         return at;
     }
-    checks::put_marks(out, at, sheet, facts, missing)
+    checks::put_marks(out, at, table, sheet, facts, missing)
 }
 
 fn put_missing(out: &mut [u8], at: usize, shown: usize, missing: &[usize; 4]) -> usize {

@@ -1,13 +1,15 @@
 // Judges the sets of standard input and writes their pages, a case to a line, and prints a line for each case.
 //
-//     # TEXT                              a heading, printed as it stands
-//     NAME|WORDS BYTES END END ..|SET     judges SET with these ends, with so many lent words, and so many lent bytes for the page
+//     # TEXT                                   a heading, printed as it stands
+//     NAME|WORDS BYTES END END ..|SET          judges SET with these ends, with so many lent words, and so many lent bytes for the page
+//     NAME|WORDS BYTES END END ..|SET|TABLE    the same by the table of relations TABLE
 //
-// In a SET "/" stands for byte 10, "," for seven blanks, ";" for six, "\" with two hexadecimal digits for the byte of that number; any other
-// byte stands for itself.
+// In a SET and in a TABLE "/" stands for byte 10, "," for seven blanks, ";" for six, "\" with two hexadecimal digits for the byte of that
+// number; any other byte stands for itself. Neither has a bar. A case without a TABLE goes by the library's own.
 //
 // What is printed: the name; the number, the line, the count of sheets and that of the page's bytes; "=" where the lent words past the last
 // stretch are as they were lent, and "!" where they are not; a bar; the lent bytes, with "/" for byte 10. They hold "~" before the call.
+use day_page::DayJudgement;
 use day_page::PAGE_ROOM;
 use judge_ends::MOST_SHEETS;
 use judge_result::LEAST_ROOM;
@@ -28,6 +30,9 @@ const HELD_PAGE: usize = PAGE_ROOM + 64;
 
 // The two rooms and the ends of a case: more ends than a set may have.
 const HELD_NUMBERS: usize = MOST_SHEETS + 5;
+
+// The bytes of a table, at most: more than 33 lines have.
+const TABLE: usize = 2048;
 
 // What the lent bytes hold before the call: a byte that no page has.
 const MARK: u8 = b'~';
@@ -87,7 +92,7 @@ fn run_parts(parts: &[u8], out: &mut [u8], at: usize) -> usize {
     call(&parts[bar + 1..], words, bytes, &numbers[2..n], out, at)
 }
 
-// Calls with the bytes that the text stands for.
+// Calls with the bytes that the text stands for: those of a set, and after a bar those of a table.
 fn call(
     text: &[u8],
     words: usize,
@@ -96,8 +101,9 @@ fn call(
     out: &mut [u8],
     at: usize,
 ) -> usize {
+    let bar = test_words::place(text, b'|');
     let mut set = [0u8; 8704];
-    let n = test_bytes::bytes(text, &mut set);
+    let n = test_bytes::bytes(&text[0..bar], &mut set);
     let mut ends = [0usize; HELD_NUMBERS];
     let k = put_ends(numbers, &mut ends);
     let mut lent = [0i32; HELD_WORDS];
@@ -105,7 +111,18 @@ fn call(
     let mut page = [MARK; HELD_PAGE];
     let some = least(words, HELD_WORDS);
     let few = least(bytes, HELD_PAGE);
-    show(
+    if bar == text.len() {
+        return show(
+            &set[0..n],
+            &ends[0..k],
+            &mut lent[0..some],
+            &mut page[0..few],
+            out,
+            at,
+        );
+    }
+    call_with_table(
+        &text[bar + 1..],
         &set[0..n],
         &ends[0..k],
         &mut lent[0..some],
@@ -115,7 +132,22 @@ fn call(
     )
 }
 
-// Calls, and puts what came of it at a place.
+// The same with the bytes that a table's text stands for.
+fn call_with_table(
+    text: &[u8],
+    set: &[u8],
+    ends: &[usize],
+    lent: &mut [i32],
+    page: &mut [u8],
+    out: &mut [u8],
+    at: usize,
+) -> usize {
+    let mut table = [0u8; TABLE];
+    let n = test_bytes::bytes(text, &mut table);
+    show_by_table(&table[0..n], set, ends, lent, page, out, at)
+}
+
+// Judges by the library's own table, and puts what came of it at a place.
 fn show(
     set: &[u8],
     ends: &[usize],
@@ -125,6 +157,25 @@ fn show(
     at: usize,
 ) -> usize {
     let day = judge_day::judge_day(set, ends, lent, page);
+    put_day(out, at, lent, page, day)
+}
+
+// Judges by a table, and puts what came of it at a place.
+fn show_by_table(
+    table: &[u8],
+    set: &[u8],
+    ends: &[usize],
+    lent: &mut [i32],
+    page: &mut [u8],
+    out: &mut [u8],
+    at: usize,
+) -> usize {
+    let day = judge_day::judge_day_by_table(table, set, ends, lent, page);
+    put_day(out, at, lent, page, day)
+}
+
+// Puts what came of a day, with what it left in the lent words and bytes.
+fn put_day(out: &mut [u8], at: usize, lent: &[i32], page: &[u8], day: DayJudgement) -> usize {
     let s = day.set;
     let count = least(s.count, MOST_SHEETS);
     let a = put_ending(out, at, s.number, s.line, s.count);

@@ -1,18 +1,20 @@
 // Judges the sets of standard input, a case to a line, and prints a line for each case.
 //
-//     # TEXT                        a heading, printed as it stands
-//     NAME|ROOM END END ..|BYTES    judges the set of BYTES with these ends, with ROOM lent words
+//     # TEXT                              a heading, printed as it stands
+//     NAME|ROOM END END ..|BYTES          judges the set of BYTES with these ends, with ROOM lent words
+//     NAME|ROOM END END ..|BYTES|TABLE    the same by the table of relations TABLE
 //
-// In BYTES "/" stands for byte 10, "," for seven blanks, ";" for six, "\" with two hexadecimal digits for the byte of that number; any other
-// byte stands for itself.
+// In BYTES and in a TABLE "/" stands for byte 10, "," for seven blanks, ";" for six, "\" with two hexadecimal digits for the byte of that
+// number; any other byte stands for itself. Neither has a bar. A case without a TABLE goes by the library's own.
 //
 // What is printed: the name; the number, the line and the count; "=" where the lent words past the last stretch are as they were lent, and
 // "!" where they are not; "=" where each place without a sheet holds a refusal by the set's number and 0 in everything else. Then for each
 // sheet a bar, its verdict, number and line, the missing answer, the count of facts, a bar, the facts with "/" after each, and two marks:
 //
 //     the words of its stretch after the facts are as they were lent
-//     the sheet alone, lent as many words, has the same judgement and the same facts
+//     the sheet alone, by the same table and lent as many words, has the same judgement and the same facts
 use judge_ends::MOST_SHEETS;
+use judge_ends::SetJudgement;
 use judge_result::Judgement;
 use judge_result::LEAST_ROOM;
 use judge_result::REFUSED;
@@ -34,6 +36,9 @@ const HELD_WORDS: usize = MOST_SHEETS * LEAST_ROOM + 64;
 
 // The room and the ends of a case: more ends than a set may have.
 const HELD_NUMBERS: usize = MOST_SHEETS + 4;
+
+// The bytes of a table, at most: more than 33 lines have.
+const TABLE: usize = 2048;
 
 // Runs every case: the count is one that no input reaches.
 fn main() {
@@ -89,28 +94,80 @@ fn run_parts(parts: &[u8], out: &mut [u8], at: usize) -> usize {
     call(&parts[bar + 1..], room, &numbers[1..n], out, at)
 }
 
-// Calls with the bytes that the text stands for.
+// Calls with the bytes that the text stands for: those of a set, and after a bar those of a table.
 fn call(text: &[u8], room: usize, numbers: &[i32], out: &mut [u8], at: usize) -> usize {
+    let bar = test_words::place(text, b'|');
     let mut bytes = [0u8; 8704];
-    let n = test_bytes::bytes(text, &mut bytes);
+    let n = test_bytes::bytes(&text[0..bar], &mut bytes);
     let mut ends = [0usize; HELD_NUMBERS];
     let k = put_ends(numbers, &mut ends);
     let mut lent = [0i32; HELD_WORDS];
     test_lent::put_marks(&mut lent);
     let words = least(room, HELD_WORDS);
-    show(&bytes[0..n], &ends[0..k], &mut lent[0..words], out, at)
+    if bar == text.len() {
+        return show(&bytes[0..n], &ends[0..k], &mut lent[0..words], out, at);
+    }
+    call_with_table(
+        &text[bar + 1..],
+        &bytes[0..n],
+        &ends[0..k],
+        &mut lent[0..words],
+        out,
+        at,
+    )
 }
 
-// Calls, and puts what came of it at a place.
+// The same with the bytes that a table's text stands for.
+fn call_with_table(
+    text: &[u8],
+    bytes: &[u8],
+    ends: &[usize],
+    lent: &mut [i32],
+    out: &mut [u8],
+    at: usize,
+) -> usize {
+    let mut table = [0u8; TABLE];
+    let n = test_bytes::bytes(text, &mut table);
+    show_by_table(&table[0..n], bytes, ends, lent, out, at)
+}
+
+// Judges by the library's own table, and puts what came of it at a place.
 fn show(bytes: &[u8], ends: &[usize], lent: &mut [i32], out: &mut [u8], at: usize) -> usize {
+    let table = sheet_own_table::own_table();
     let s = judge_set::judge_set(bytes, ends, lent);
+    put_set(out, at, &table, bytes, ends, lent, s)
+}
+
+// Judges by a table, and puts what came of it at a place.
+fn show_by_table(
+    table: &[u8],
+    bytes: &[u8],
+    ends: &[usize],
+    lent: &mut [i32],
+    out: &mut [u8],
+    at: usize,
+) -> usize {
+    let s = judge_set::judge_set_by_table(table, bytes, ends, lent);
+    put_set(out, at, table, bytes, ends, lent, s)
+}
+
+// Puts what came of a set by a table, with what it left in the lent words.
+fn put_set(
+    out: &mut [u8],
+    at: usize,
+    table: &[u8],
+    bytes: &[u8],
+    ends: &[usize],
+    lent: &[i32],
+    s: SetJudgement,
+) -> usize {
     let sheets = s.sheets;
     let number = s.number;
     let count = least(s.count, MOST_SHEETS);
     let a = put_ending(out, at, number, s.line, s.count);
     let b = test_results::put_mark(out, a, test_lent::are_marked(lent, count * LEAST_ROOM));
     let c = test_results::put_mark(out, b, are_empty(sheets, count, number));
-    put_sheets(out, c, bytes, ends, lent, sheets, count)
+    put_sheets(out, c, table, bytes, ends, lent, sheets, count)
 }
 
 // Whether each place from `count` on holds what a place without a sheet has.
@@ -159,6 +216,7 @@ fn are_alike(a: Judgement, b: Judgement) -> bool {
 fn put_sheets(
     out: &mut [u8],
     at: usize,
+    table: &[u8],
     bytes: &[u8],
     ends: &[usize],
     lent: &[i32],
@@ -173,7 +231,7 @@ fn put_sheets(
     while k < count {
         let end = end_at(ends, k);
         let j = sheets[k];
-        n = put_sheet(out, n, bytes_of(bytes, start, end), lent, k, j);
+        n = put_sheet(out, n, table, bytes_of(bytes, start, end), lent, k, j);
         start = end;
         k += 1;
     }
@@ -204,7 +262,15 @@ fn words_of(s: &[i32], a: usize, e: usize) -> &[i32] {
 }
 
 // Puts what came of the sheet at place k.
-fn put_sheet(out: &mut [u8], at: usize, sheet: &[u8], lent: &[i32], k: usize, j: Judgement) -> usize
+fn put_sheet(
+    out: &mut [u8],
+    at: usize,
+    table: &[u8],
+    sheet: &[u8],
+    lent: &[i32],
+    k: usize,
+    j: Judgement,
+) -> usize
     requires { ⌜ k < most-sheets ⌝ }
 {
     let first = k * LEAST_ROOM;
@@ -214,7 +280,7 @@ fn put_sheet(out: &mut [u8], at: usize, sheet: &[u8], lent: &[i32], k: usize, j:
     let a = put_numbers(out, at, j);
     let b = test_results::put_words(out, a, facts, FACT_WORDS);
     let c = test_results::put_mark(out, b, test_lent::are_marked(stretch, after));
-    test_results::put_mark(out, c, is_as_alone(sheet, facts, j))
+    test_results::put_mark(out, c, is_as_alone(table, sheet, facts, j))
 }
 
 // How many words that many facts have; no more than a stretch has.
@@ -245,10 +311,10 @@ fn put_missing(out: &mut [u8], at: usize, missing: &[usize; 4]) -> usize {
     test_results::put_number(out, c, missing[3], b' ')
 }
 
-// Whether the sheet alone has this judgement and these facts.
-fn is_as_alone(sheet: &[u8], facts: &[i32], j: Judgement) -> bool {
+// Whether the sheet alone has this judgement and these facts by the table.
+fn is_as_alone(table: &[u8], sheet: &[u8], facts: &[i32], j: Judgement) -> bool {
     let mut own = [0i32; LEAST_ROOM];
-    let a = judge::judge(sheet, &mut own);
+    let a = judge::judge_by_table(table, sheet, &mut own);
     let n = least(facts.len(), LEAST_ROOM);
     are_alike(a, j) && are_same(facts, &own[0..n])
 }

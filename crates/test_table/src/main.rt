@@ -7,15 +7,12 @@
 // In a TABLE "/" stands for byte 10, "," for seven blanks, ";" for six, "\" with two hexadecimal digits for the byte of that number; any
 // other byte stands for itself.
 //
-// What is printed: the number, the line and the count; "=" where the lent numbers after those of the relations are 0, or, of a table that
-// is sent back, all as they were lent, and "!" where they are not; a bar; columns, key and parent of each relation, "/" after each.
+// What is printed: the number, the line and how many relations there are; "=" where the numbers after theirs are 0, and "!" where they are
+// not; a bar; columns, key and parent of each relation, "/" after each.
 use libc::STDOUT_FILENO;
-use sheet_format::Ending;
 use sheet_format::MOST_RELATIONS;
-use sheet_table::TABLE_NUMBERS;
-
-// What the lent numbers are.
-const LENT: usize = 77777777;
+use sheet_format::RELATION_NUMBERS;
+use sheet_format::TABLE_NUMBERS;
 
 // No result is longer.
 const ROOM: usize = 8192;
@@ -79,12 +76,21 @@ fn call_own(out: &mut [u8]) -> usize {
 }
 
 fn read(given: &[u8], out: &mut [u8]) -> usize {
-    let mut lent = [LENT; TABLE_NUMBERS];
-    let answer = sheet_table::read_table(given, &mut lent);
-    match answer {
-        Ending::Done(n) => put_taken(out, n, &lent),
-        Ending::Refused(number, line) => put_answer(out, number, line, 0, are(&lent, 0, LENT)),
+    let table = sheet_table::load(given);
+    let numbers = table.numbers;
+    if table.number != 0 {
+        return put_answer(out, table.number, table.line, 0, are(&numbers, 0, 0));
     }
+    put_taken(out, count(&numbers), &numbers)
+}
+
+// How many relations follow each other: each has columns.
+fn count(numbers: &[usize; TABLE_NUMBERS]) -> usize {
+    let mut n = 0;
+    while n < MOST_RELATIONS && numbers[n * RELATION_NUMBERS] != 0 {
+        n += 1;
+    }
+    n
 }
 
 // Number, line and count, then whether what comes after the relations is as it must be, and a bar.
@@ -96,16 +102,16 @@ fn put_answer(out: &mut [u8], number: usize, line: usize, count: usize, kept: bo
     text_buffer::put_byte(out, m, b'|')
 }
 
-fn put_taken(out: &mut [u8], count: usize, lent: &[usize; TABLE_NUMBERS]) -> usize {
+fn put_taken(out: &mut [u8], count: usize, numbers: &[usize; TABLE_NUMBERS]) -> usize {
     let end = numbers_of(count);
-    let n = put_answer(out, 0, 0, count, are(lent, end, 0));
-    put_numbers(out, n, lent, end)
+    let n = put_answer(out, 0, 0, count, are(numbers, end, 0));
+    put_numbers(out, n, numbers, end)
 }
 
 // How many numbers so many relations have; those of a table that is full, at most.
 fn numbers_of(count: usize) -> usize {
     if count < MOST_RELATIONS {
-        count * 3
+        count * RELATION_NUMBERS
     } else {
         TABLE_NUMBERS
     }

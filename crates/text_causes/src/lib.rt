@@ -25,6 +25,11 @@ pub fn put_cause(out: &mut [u8], at: usize, number: usize) -> usize
             b"a block has no atoms, or a variable of its head is in none",
         ),
         9 => put(out, at, b"a row is not above the one before it"),
+        15 => put(
+            out,
+            at,
+            b"a line of the table is not right, or the table has none",
+        ),
         _ => put(out, at, b"there is not room enough"),
     }
 }

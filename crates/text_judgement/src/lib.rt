@@ -1,4 +1,4 @@
-// Judgements in words.
+// Judgements in words, by a table of relations in plain numbers.
 use judge_result::COVERED;
 use judge_result::Judgement;
 use judge_result::NO_LOG;
@@ -6,6 +6,7 @@ use judge_result::REFUSED;
 use sheet_format::FIELD_BYTES;
 use sheet_format::FIELD_END;
 use sheet_format::MOST_HEAD_FIELDS;
+use sheet_format::TABLE_NUMBERS;
 use text_buffer::put;
 use text_facts::put_facts;
 use text_refusals::put_refusal;
@@ -14,6 +15,7 @@ ghost use mathlib.Core.Path.{_≡_};
 ghost use Prim.Native.Nat.{_-_, _/_, min};
 ghost use lib.ListN.{length};
 ghost use Rattle.sheet_format.specs.Limits.{field-bytes};
+ghost use Rattle.sheet_format.specs.Table.{tableIn};
 ghost use Rattle.sheet_format.specs.Line.{lineAt};
 ghost use Rattle.text_buffer.specs.Puts.{Put};
 ghost use Rattle.text_judgement.specs.Verdict.{valueWord, missingBytes, caseBytes, verdictBytes};
@@ -64,24 +66,31 @@ fn put_missing(out: &mut [u8], at: usize, columns: usize, missing: [usize; COLUM
 
 // The missing answer and the log of a case.
 fn put_case(
+    table: &[usize; TABLE_NUMBERS],
     out: &mut [u8],
     columns: usize,
     missing: [usize; COLUMNS],
     facts: &[i32],
     count: usize,
 ) -> usize
-    ensures { λ r. ⌜ Put (now (out .entry)) (now (out .exit)) 0 (caseBytes columns missing count (now (facts .entry))) r ⌝ }
+    ensures { λ r. ⌜ Put (now (out .entry)) (now (out .exit)) 0 (caseBytes (tableIn (now (table .entry))) columns missing count (now (facts .entry))) r ⌝ }
 {
     let a = put(out, 0, b"not covered: ");
     let b = put_missing(out, a, columns, missing);
     let c = put(out, b, b" is missing. Log: ");
-    let d = put_facts(out, c, facts, count);
+    let d = put_facts(table, out, c, facts, count);
     put(out, d, b"\n")
 }
 
 // A judgement. `columns` are those of the question, and `facts` begin with the case.
-pub fn put_judgement(out: &mut [u8], columns: usize, j: Judgement, facts: &[i32]) -> usize
-    ensures { λ r. ⌜ Put (now (out .entry)) (now (out .exit)) 0 (verdictBytes columns j (now (facts .entry))) r ⌝ }
+pub fn put_judgement(
+    table: &[usize; TABLE_NUMBERS],
+    out: &mut [u8],
+    columns: usize,
+    j: Judgement,
+    facts: &[i32],
+) -> usize
+    ensures { λ r. ⌜ Put (now (out .entry)) (now (out .exit)) 0 (verdictBytes (tableIn (now (table .entry))) columns j (now (facts .entry))) r ⌝ }
 {
     let verdict = j.verdict;
     if verdict == COVERED {
@@ -94,5 +103,5 @@ pub fn put_judgement(out: &mut [u8], columns: usize, j: Judgement, facts: &[i32]
         return put_refusal(out, 0, j.number, j.line, 0);
     }
     let missing = j.missing;
-    put_case(out, columns, missing, facts, j.count)
+    put_case(table, out, columns, missing, facts, j.count)
 }

@@ -11,6 +11,7 @@ use lib.ListN.{length}
 use borrow.Author.Tests.{eqb-true, eq-eqb, ltb-true, lt-ltb, not-false}
 use Rattle.list_laws.proofs.Order.{less?}
 use Rattle.sheet_format.specs.Limits.{most-variables}
+use Rattle.sheet_format.specs.Table.{Table}
 use Rattle.sheet_format.specs.Line.{Line, all}
 use Rattle.sheet_format.specs.Cause.{kindOf, rest, termOf, term, constant, above, cause, start, next, scan, heads, refusalOf}
 use Rattle.sheet_format.specs.declared.FieldTerm.the-variants.{Variable}
@@ -50,8 +51,8 @@ terms-range (negsuc v ∷ zs) ks e b =
 -- ---- a line
 
 -- a line is judged as before, and leaves the same
-record Kept (g : Seen) (b c l : Line) (ks : List ℕ) : Type 0 where
-  causes : cause g c (numberedLine ks l) ≡ cause g b l
+record Kept (table : Table) (g : Seen) (b c l : Line) (ks : List ℕ) : Type 0 where
+  causes : cause table g c (numberedLine ks l) ≡ cause table g b l
   nexts : next g (numberedLine ks l) ≡ next g l
   below : Below (knownBehind (knownIn ks l) (termsIn l))
   rows : next g l .last ≡ 5 → rest (numberedLine ks l) ≡ rest l
@@ -63,42 +64,42 @@ row-same last b c zs h = by (eqb last 5) refl
     by true e = ap (λ x. not (above x zs)) (h (eqb-true last 5 e))
     by false e = refl
 
-line-kept : (g : Seen) (b c l : Line) (ks : List ℕ) → Clean g l → Below ks → (g .last ≡ 5 → rest c ≡ rest b) → Kept g b c l ks
+line-kept : (table : Table) (g : Seen) (b c l : Line) (ks : List ℕ) → Clean table g l → Below ks → (g .last ≡ 5 → rest c ≡ rest b) → Kept table g b c l ks
 unfolding kindOf next cause
-line-kept g b c [] ks q d h = true-false (q .formed)
-line-kept g b c (negsuc v ∷ zs) ks q d h = no-way (q .placed)
-line-kept g b c (pos zero ∷ zs) ks q d h = no-way (q .placed)
-line-kept g b c (pos (suc zero) ∷ zs) ks q d h =
+line-kept table g b c [] ks q d h = true-false (q .formed)
+line-kept table g b c (negsuc v ∷ zs) ks q d h = no-way (q .placed)
+line-kept table g b c (pos zero ∷ zs) ks q d h = no-way (q .placed)
+line-kept table g b c (pos (suc zero) ∷ zs) ks q d h =
     let t = not-false (all term zs) (q .ranged) in
     record { causes = rw (terms-length [] zs, terms-range zs [] t tt, t); nexts = rw (terms-length [] zs); below = terms-below zs [] t tt; rows = λ e. absurd (omega arith) }
-line-kept g b c (pos (suc (suc zero)) ∷ zs) ks q d h =
+line-kept table g b c (pos (suc (suc zero)) ∷ zs) ks q d h =
     let t = not-false (all term zs) (q .ranged) in
     record { causes = rw (terms-length [] zs, terms-range zs [] t tt, t); nexts = rw (terms-length [] zs); below = terms-below zs [] t tt; rows = λ e. absurd (omega arith) }
-line-kept g b c (pos (suc (suc (suc zero))) ∷ zs) ks q d h =
+line-kept table g b c (pos (suc (suc (suc zero))) ∷ zs) ks q d h =
     let t = not-false (all term zs) (q .ranged) in
     record { causes = rw (terms-length [] zs, terms-range zs [] t tt, t); nexts = rw (terms-length [] zs); below = terms-below zs [] t tt; rows = λ e. absurd (omega arith) }
-line-kept g b c (pos (suc (suc (suc (suc zero)))) ∷ []) ks q d h = no-way (q .sized)
-line-kept g b c (pos (suc (suc (suc (suc zero)))) ∷ r ∷ zs) ks q d h =
+line-kept table g b c (pos (suc (suc (suc (suc zero)))) ∷ []) ks q d h = no-way (q .sized)
+line-kept table g b c (pos (suc (suc (suc (suc zero)))) ∷ r ∷ zs) ks q d h =
     let t = not-false (all term zs) (q .ranged) in
     record { causes = rw (terms-length ks zs, terms-range zs ks t d, t); nexts = refl; below = terms-below zs ks t d; rows = λ e. absurd (omega arith) }
-line-kept g b c (pos (suc (suc (suc (suc (suc zero))))) ∷ zs) ks q d h =
+line-kept table g b c (pos (suc (suc (suc (suc (suc zero))))) ∷ zs) ks q d h =
     let k = constants-kept zs ks (not-false (all constant zs) (q .ranged)) in
     record { causes = rw (k .0, row-same (g .last) b c zs h); nexts = refl; below = rw (k .1) d; rows = λ e. k .0 }
-line-kept g b c (pos (suc (suc (suc (suc (suc (suc n)))))) ∷ zs) ks q d h = no-other g (suc (suc (suc (suc (suc (suc n)))))) zs (omega arith) (q .placed)
+line-kept table g b c (pos (suc (suc (suc (suc (suc (suc n)))))) ∷ zs) ks q d h = no-other g (suc (suc (suc (suc (suc (suc n)))))) zs (omega arith) (q .placed)
 
 -- ---- all lines
 
-scan-kept : (ls : List Line) (ks : List ℕ) (g : Seen) (b c : Line) (n : ℕ) → Below ks → (g .last ≡ 5 → rest c ≡ rest b) → eqb (scan g b n ls .number) 0 ≡ true → eqb (scan g c n (numberedLines ks ls) .number) 0 ≡ true
+scan-kept : (table : Table) (ls : List Line) (ks : List ℕ) (g : Seen) (b c : Line) (n : ℕ) → Below ks → (g .last ≡ 5 → rest c ≡ rest b) → eqb (scan table g b n ls .number) 0 ≡ true → eqb (scan table g c n (numberedLines ks ls) .number) 0 ≡ true
 unfolding scan numberedLines
-scan-kept [] ks g b c n d h s = s
-scan-kept (l ∷ ls) ks g b c n d h s =
-    let a = scan-on g b l n ls s in
-    let k = line-kept g b c l ks (clean-line g b l (a .0)) d h in
-    rw (k .causes, a .0, k .nexts) (scan-kept ls (knownBehind (knownIn ks l) (termsIn l)) (next g l) l (numberedLine ks l) (n + 1) (k .below) (k .rows) (a .1))
+scan-kept table [] ks g b c n d h s = s
+scan-kept table (l ∷ ls) ks g b c n d h s =
+    let a = scan-on table g b l n ls s in
+    let k = line-kept table g b c l ks (clean-line table g b l (a .0)) d h in
+    rw (k .causes, a .0, k .nexts) (scan-kept table ls (knownBehind (knownIn ks l) (termsIn l)) (next g l) l (numberedLine ks l) (n + 1) (k .below) (k .rows) (a .1))
 
-pub numbered-accepted : (ls : List Line) → refusalOf ls .number ≡ 0 → refusalOf (numberedLines [] ls) .number ≡ 0
+pub numbered-accepted : (table : Table) (ls : List Line) → refusalOf table ls .number ≡ 0 → refusalOf table (numberedLines [] ls) .number ≡ 0
 unfolding refusalOf
-numbered-accepted ls e =
-    let s = accepted-scan ls e in
+numbered-accepted table ls e =
+    let s = accepted-scan table ls e in
     let h : heads 1 ls .number ≡ 0 = rw s at e in
-    rw (scan-kept ls [] start [] [] 1 tt (λ i. refl) s) (eqb-true (heads 1 (numberedLines [] ls) .number) 0 (heads-kept ls [] 1 (eq-eqb (heads 1 ls .number) 0 h)))
+    rw (scan-kept table ls [] start [] [] 1 tt (λ i. refl) s) (eqb-true (heads 1 (numberedLines [] ls) .number) 0 (heads-kept ls [] 1 (eq-eqb (heads 1 ls .number) 0 h)))

@@ -10,6 +10,7 @@ use lib.IntN.{ℤ, pos, negsuc}
 use lib.ListN.{length, length-append}
 use borrow.Author.Tests.{ne-eqb, ltb-false}
 use Rattle.list_laws.proofs.Order.{less?}
+use Rattle.sheet_format.specs.Table.{Table}
 use Rattle.sheet_format.specs.Line.{Line}
 use Rattle.sheet_format.specs.Cause.{kindOf, start, next, scan, refusalOf}
 use Rattle.sheet_format.specs.declared.Seen.{Seen}
@@ -92,31 +93,31 @@ abbrev LineAgain : List ℕ → Line → Type 0
 LineAgain ks l = (numberedLine (firsts (length ks)) (numberedLine ks l) ≡ numberedLine ks l)
     × (knownBehind (knownIn (firsts (length ks)) (numberedLine ks l)) (termsIn (numberedLine ks l)) ≡ firsts (length (knownBehind (knownIn ks l) (termsIn l))))
 
-line-again : (g : Seen) (l : Line) (ks : List ℕ) → Clean g l → LineAgain ks l
+line-again : (table : Table) (g : Seen) (l : Line) (ks : List ℕ) → Clean table g l → LineAgain ks l
 unfolding kindOf
-line-again g [] ks q = true-false (q .formed)
-line-again g (negsuc v ∷ zs) ks q = no-way (q .placed)
-line-again g (pos zero ∷ zs) ks q = no-way (q .placed)
-line-again g (pos (suc zero) ∷ zs) ks q = let r = terms-again [] zs in (ap (λ x. pos 1 ∷ x) (r .0), r .1)
-line-again g (pos (suc (suc zero)) ∷ zs) ks q = let r = terms-again [] zs in (ap (λ x. pos 2 ∷ x) (r .0), r .1)
-line-again g (pos (suc (suc (suc zero))) ∷ zs) ks q = let r = terms-again [] zs in (ap (λ x. pos 3 ∷ x) (r .0), r .1)
-line-again g (pos (suc (suc (suc (suc zero)))) ∷ []) ks q = no-way (q .sized)
-line-again g (pos (suc (suc (suc (suc zero)))) ∷ r ∷ zs) ks q = let a = terms-again ks zs in (ap (λ x. pos 4 ∷ r ∷ x) (a .0), a .1)
-line-again g (pos (suc (suc (suc (suc (suc zero))))) ∷ zs) ks q = let r = terms-again ks zs in (ap (λ x. pos 5 ∷ x) (r .0), r .1)
-line-again g (pos (suc (suc (suc (suc (suc (suc n)))))) ∷ zs) ks q = no-other g (suc (suc (suc (suc (suc (suc n)))))) zs (omega arith) (q .placed)
+line-again table g [] ks q = true-false (q .formed)
+line-again table g (negsuc v ∷ zs) ks q = no-way (q .placed)
+line-again table g (pos zero ∷ zs) ks q = no-way (q .placed)
+line-again table g (pos (suc zero) ∷ zs) ks q = let r = terms-again [] zs in (ap (λ x. pos 1 ∷ x) (r .0), r .1)
+line-again table g (pos (suc (suc zero)) ∷ zs) ks q = let r = terms-again [] zs in (ap (λ x. pos 2 ∷ x) (r .0), r .1)
+line-again table g (pos (suc (suc (suc zero))) ∷ zs) ks q = let r = terms-again [] zs in (ap (λ x. pos 3 ∷ x) (r .0), r .1)
+line-again table g (pos (suc (suc (suc (suc zero)))) ∷ []) ks q = no-way (q .sized)
+line-again table g (pos (suc (suc (suc (suc zero)))) ∷ r ∷ zs) ks q = let a = terms-again ks zs in (ap (λ x. pos 4 ∷ r ∷ x) (a .0), a .1)
+line-again table g (pos (suc (suc (suc (suc (suc zero))))) ∷ zs) ks q = let r = terms-again ks zs in (ap (λ x. pos 5 ∷ x) (r .0), r .1)
+line-again table g (pos (suc (suc (suc (suc (suc (suc n)))))) ∷ zs) ks q = no-other g (suc (suc (suc (suc (suc (suc n)))))) zs (omega arith) (q .placed)
 
-lines-again : (ls : List Line) (ks : List ℕ) (g : Seen) (b : Line) (n : ℕ) → eqb (scan g b n ls .number) 0 ≡ true → numberedLines (firsts (length ks)) (numberedLines ks ls) ≡ numberedLines ks ls
+lines-again : (table : Table) (ls : List Line) (ks : List ℕ) (g : Seen) (b : Line) (n : ℕ) → eqb (scan table g b n ls .number) 0 ≡ true → numberedLines (firsts (length ks)) (numberedLines ks ls) ≡ numberedLines ks ls
 unfolding numberedLines
-lines-again [] ks g b n s = refl
-lines-again (l ∷ ls) ks g b n s =
-    let a = scan-on g b l n ls s in
-    let q = line-again g l ks (clean-line g b l (a .0)) in
+lines-again table [] ks g b n s = refl
+lines-again table (l ∷ ls) ks g b n s =
+    let a = scan-on table g b l n ls s in
+    let q = line-again table g l ks (clean-line table g b l (a .0)) in
     let m = numberedLine ks l in
     let js = knownBehind (knownIn ks l) (termsIn l) in
     ap (λ x. x ∷ numberedLines (knownBehind (knownIn (firsts (length ks)) m) (termsIn m)) (numberedLines js ls)) (q .0)
     ∙ ap (λ x. m ∷ numberedLines x (numberedLines js ls)) (q .1)
-    ∙ ap (λ x. m ∷ x) (lines-again ls js (next g l) l (n + 1) (a .1))
+    ∙ ap (λ x. m ∷ x) (lines-again table ls js (next g l) l (n + 1) (a .1))
 
 -- the lines of an accepted sheet
-pub numbered-again : (ls : List Line) → refusalOf ls .number ≡ 0 → numberedLines [] (numberedLines [] ls) ≡ numberedLines [] ls
-numbered-again ls e = lines-again ls [] start [] 1 (accepted-scan ls e)
+pub numbered-again : (table : Table) (ls : List Line) → refusalOf table ls .number ≡ 0 → numberedLines [] (numberedLines [] ls) ≡ numberedLines [] ls
+numbered-again table ls e = lines-again table ls [] start [] 1 (accepted-scan table ls e)

@@ -9,7 +9,7 @@ use lib.Dec.{eqb, leb}
 use lib.IntN.{ℤ, pos, negsuc}
 use lib.ListN.{length, take, length-append}
 use lib.Seq.{take-all}
-use borrow.Author.Tests.{lt-ltb}
+use borrow.Author.Tests.{lt-ltb, eq-eqb}
 use Rattle.sheet_format.specs.Line.{Line, all}
 use Rattle.sheet_format.specs.Cause.{term}
 use Rattle.sheet_format.proofs.Lists.{and-left, and-right}
@@ -109,10 +109,14 @@ module _ (block kind relation line : ℕ) (ls : List Line) (starts : List ℕ) w
   none-read true left puts ns l e f = rw (e, f)
   none-read false left puts ns l e f = rw (e, f)
 
-  -- of an atom that has its columns (behind it 8)
-  counted-read : (puts : Bool) (ns : List (List ℕ)) (l : Line) → eqb kind 4 ≡ true → leb relation 10 ≡ true → read (here 5 0 puts ns l) (41 ∷ []) ≡ here 8 0 false ns l
+  -- of an atom that has its columns, where they are known (behind it 8)
+  counted-read : (left : ℕ) (puts : Bool) (ns : List (List ℕ)) (l : Line) → eqb kind 4 ≡ true → (leb relation 10 ≡ true → left ≡ 0) → read (here 5 left puts ns l) (41 ∷ []) ≡ here 8 left false ns l
   unfolding read step stepFrom nextAt closeAt closedBy markOf kindOf
-  counted-read puts ns l e f = rw (e, f)
+  counted-read left puts ns l e f = by (leb relation 10) refl
+    where
+      by : (t : Bool) → leb relation 10 ≡ t → read (here 5 left puts ns l) (41 ∷ []) ≡ here 8 left false ns l
+      by true i = rw (e, i, eq-eqb left 0 (f i))
+      by false i = rw (e, i)
 
   -- ---- all between brackets
 
@@ -133,20 +137,18 @@ module _ (block kind relation line : ℕ) (ls : List Line) (starts : List ℕ) w
       ∙ sign-on (here 5 (4 - suc (length zs)) true ns m) (here (cond r 11 6) (4 - suc (length zs)) false ns m) 41 s refl (λ n. refl) (close-read r (4 - suc (length zs)) true ns m e f) refl
 
   -- of an atom
-  pub atom-run : (zs : List ℤ) (s : List ℕ) (puts : Bool) (ks : List ℕ) (l : Line)
-      → eqb kind 4 ≡ true → leb relation 10 ≡ true → all term zs ≡ true → Below ks → 0 < length zs → length zs ≤ 4 → length l ≤ 2
-      → reads (here 4 (length zs) puts (letters ks) l) (separated (44 ∷ []) (map termBytes zs) ++ (41 ∷ s))
-      ≡ reads (here 8 0 false (letters (knownBehind ks zs)) (l ++ numberedTerms ks zs)) s
+  pub atom-run : (left : ℕ) (zs : List ℤ) (s : List ℕ) (puts : Bool) (ks : List ℕ) (l : Line)
+      → eqb kind 4 ≡ true → (leb relation 10 ≡ true → left ≡ length zs) → all term zs ≡ true → Below ks → 0 < length zs → length zs ≤ left → length zs ≤ 4 → length l ≤ 2
+      → reads (here 4 left puts (letters ks) l) (separated (44 ∷ []) (map termBytes zs) ++ (41 ∷ s))
+      ≡ reads (here 8 (left - length zs) false (letters (knownBehind ks zs)) (l ++ numberedTerms ks zs)) s
   unfolding separated numberedTerms knownBehind kindOf joins
-  atom-run [] s puts ks l e f a b i h k = absurd (omega arith)
-  atom-run (z ∷ zs) s puts ks l e f a b i h k =
+  atom-run left [] s puts ks l e f a b i n h k = absurd (omega arith)
+  atom-run left (z ∷ zs) s puts ks l e f a b i n h k =
       let ns = letters (knownBehind ks (z ∷ zs)) in
       let m = l ++ numberedTerms ks (z ∷ zs) in
-      let d : suc (length zs) - suc (length zs) ≡ 0 = omega arith in
-      ap (reads (here 4 (suc (length zs)) puts (letters ks) l)) (append-assoc (termBytes z) (following (44 ∷ []) (map termBytes zs)) (41 ∷ s))
-      ∙ terms-run z zs s (here 4 (suc (length zs)) puts (letters ks) l) (suc (length zs)) puts ks l (λ w i. refl) a b (omega arith) (omega arith)
-      ∙ ap (λ n. reads (here 5 n true ns m) (41 ∷ s)) d
-      ∙ sign-on (here 5 0 true ns m) (here 8 0 false ns m) 41 s refl (λ n. refl) (counted-read true ns m e f) refl
+      ap (reads (here 4 left puts (letters ks) l)) (append-assoc (termBytes z) (following (44 ∷ []) (map termBytes zs)) (41 ∷ s))
+      ∙ terms-run z zs s (here 4 left puts (letters ks) l) left puts ks l (λ w i. refl) a b (omega arith) (omega arith)
+      ∙ sign-on (here 5 (left - suc (length zs)) true ns m) (here 8 (left - suc (length zs)) false ns m) 41 s refl (λ n. refl) (counted-read (left - suc (length zs)) true ns m e (λ t. let q = f t in omega arith)) refl
 
 -- terms in brackets before other bytes
 pub brackets : (zs : List ℤ) (s : List ℕ) → termsBytes zs ++ s ≡ 40 ∷ (separated (44 ∷ []) (map termBytes zs) ++ (41 ∷ s))

@@ -1,10 +1,14 @@
--- Worked examples of the definitions: a block and the lines of its number form, a text that is not understood, and numbering by first place.
+-- Worked examples of the definitions: a block and the lines of its number form, a text that is not understood, numbering by first place, and
+-- a relation beyond the ten.
 use mathlib.Core.Path.{_≡_, refl}
 use mathlib.Core.List.{List, [], _∷_, reverse}
 use Prim.Native.Nat.{ℕ}
 use lib.IntN.{ℤ, pos, negsuc}
+use Rattle.sheet_format.specs.Table.{columnsOf, relation}
+use Rattle.sheet_format.specs.Field.{decimal}
 use Rattle.sheet_format.specs.Cause.{kindOf as lineKind}
 use Rattle.text_buffer.specs.Words.{bytes}
+use Rattle.text_writer.specs.Texts.{withoutBlanks, wordBytes, relationBytes}
 use Rattle.text_meaning.specs.Tokens.{kindOf, joins, goesOn, behind, tokens}
 use Rattle.text_meaning.specs.Names.{sameBytes, longer, numberFrom, among, relationOf, placeIn, noted, markOf}
 use Rattle.text_meaning.specs.Places.{columnsIn, nextBlock, startAt, commentAt, openAt, termAt, moreAt, closedBy, closeAt, firstAt, rowEndAt, nextAt, colonAt, relationAt, atomEndAt, rowAt, rowsAt, stepFrom, step}
@@ -18,15 +22,20 @@ question-tokens = refl
 
 -- a head and its atom, of which the first term is a variable
 pub block-lines : reverse (readingOf (bytes "q(s): Sig(s,7)") .lines) ≡ (pos 1 ∷ negsuc 0 ∷ []) ∷ (pos 4 ∷ pos 4 ∷ negsuc 0 ∷ pos 7 ∷ []) ∷ []
-unfolding behind goesOn joins kindOf sameBytes longer numberFrom among relationOf placeIn noted markOf columnsIn nextBlock startAt commentAt openAt termAt moreAt closedBy closeAt firstAt rowEndAt nextAt colonAt relationAt atomEndAt rowAt rowsAt stepFrom step grown read run readingOf
+unfolding behind goesOn joins kindOf sameBytes longer numberFrom among relationOf placeIn noted markOf columnsOf relation columnsIn nextBlock startAt commentAt openAt termAt moreAt closedBy closeAt firstAt rowEndAt nextAt colonAt relationAt atomEndAt rowAt rowsAt stepFrom step grown read run readingOf
 block-lines = refl
 
 -- a bracket that is not closed: in line 2 a comma or a bracket (7) was expected
 pub open-bracket : (readingOf (bytes "#\nq(s") .control .expected ≡ 7) × (readingOf (bytes "#\nq(s") .line ≡ 2)
-unfolding behind goesOn joins kindOf sameBytes longer numberFrom among relationOf placeIn noted markOf columnsIn nextBlock startAt commentAt openAt termAt moreAt closedBy closeAt firstAt rowEndAt nextAt colonAt relationAt atomEndAt rowAt rowsAt stepFrom step grown read run readingOf
+unfolding behind goesOn joins kindOf sameBytes longer numberFrom among relationOf placeIn noted markOf columnsOf relation columnsIn nextBlock startAt commentAt openAt termAt moreAt closedBy closeAt firstAt rowEndAt nextAt colonAt relationAt atomEndAt rowAt rowsAt stepFrom step grown read run readingOf
 open-bracket = (refl, refl)
 
 -- a head's variables -3 and -1 are the first and the second of their block, also where its atom has them the other way round
 pub numbered-block : numberedLines [] ((pos 1 ∷ negsuc 2 ∷ negsuc 0 ∷ []) ∷ (pos 4 ∷ pos 4 ∷ negsuc 0 ∷ negsuc 2 ∷ []) ∷ []) ≡ (pos 1 ∷ negsuc 0 ∷ negsuc 1 ∷ []) ∷ (pos 4 ∷ pos 4 ∷ negsuc 1 ∷ negsuc 0 ∷ []) ∷ []
 unfolding lineKind placeOf known numberedTerms knownBehind numberedLines
 numbered-block = refl
+
+-- a relation beyond the ten is written, and read, by its number
+pub far-relation : (relationBytes 12 ≡ bytes "R12") × (relationOf (bytes "R12") ≡ 12)
+unfolding relationBytes wordBytes withoutBlanks decimal numberFrom longer sameBytes among relationOf
+far-relation = (refl, refl)

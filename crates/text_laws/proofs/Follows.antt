@@ -9,7 +9,7 @@ use lib.Dec.{eqb, ltb, leb}
 use lib.IntN.{ℤ, pos, negsuc}
 use borrow.Author.Tests.{eqb-true, ne-eqb, leb-true}
 use Rattle.sheet_format.specs.Line.{Line, all, null, lineWords}
-use Rattle.sheet_format.specs.Relations.{columnsAt}
+use Rattle.sheet_format.specs.Table.{Table}
 use Rattle.sheet_format.specs.Cause.{question, saved, view, atom, row, other, kindAt, kindOf, kind, rest, inPlace, cause, next, refusal, scan, isHead, isAtom, atoms, bound, unsafe, heads}
 use Rattle.sheet_format.specs.declared.Seen.{Seen}
 use Rattle.sheet_format.proofs.Lists.{no-way, true-false, both}
@@ -19,11 +19,11 @@ use Rattle.text_writer.specs.Texts.{lineKind, firstKind}
 -- ---- line by line
 
 -- a scan that refuses nothing goes on behind each line
-pub scan-on : (g : Seen) (b l : Line) (n : ℕ) (ls : List Line) → eqb (scan g b n (l ∷ ls) .number) 0 ≡ true → (eqb (cause g b l) 0 ≡ true) × (eqb (scan (next g l) l (n + 1) ls .number) 0 ≡ true)
+pub scan-on : (table : Table) (g : Seen) (b l : Line) (n : ℕ) (ls : List Line) → eqb (scan table g b n (l ∷ ls) .number) 0 ≡ true → (eqb (cause table g b l) 0 ≡ true) × (eqb (scan table (next g l) l (n + 1) ls .number) 0 ≡ true)
 unfolding scan
-scan-on g b l n ls h = go (eqb (cause g b l) 0) refl h
+scan-on table g b l n ls h = go (eqb (cause table g b l) 0) refl h
   where
-    go : (t : Bool) → eqb (cause g b l) 0 ≡ t → eqb (cond t (scan (next g l) l (n + 1) ls) (refusal (cause g b l) n) .number) 0 ≡ true → (t ≡ true) × (eqb (scan (next g l) l (n + 1) ls .number) 0 ≡ true)
+    go : (t : Bool) → eqb (cause table g b l) 0 ≡ t → eqb (cond t (scan table (next g l) l (n + 1) ls) (refusal (cause table g b l) n) .number) 0 ≡ true → (t ≡ true) × (eqb (scan table (next g l) l (n + 1) ls .number) 0 ≡ true)
     go true e h = (refl, h)
     go false e h = true-false (sym h ∙ e)
 
@@ -103,23 +103,6 @@ clean-follows g (pos (suc (suc (suc (suc zero)))) ∷ l) p = let q = both (leb 1
 clean-follows g (pos (suc (suc (suc (suc (suc zero))))) ∷ l) p = record { is = inr (inr (kind-shown 5 l refl, eqb-true (g .block) 3 (both (eqb (g .block) 3) (leb 4 (g .last)) p .0))) }
 clean-follows g (pos (suc (suc (suc (suc (suc (suc n)))))) ∷ l) p = no-other g (suc (suc (suc (suc (suc (suc n)))))) l (omega arith) p
 
-pub line-follows : (g : Seen) (b : Line) (n : ℕ) (ls : List Line) → eqb (scan g b n ls .number) 0 ≡ true → Follows g (firstKind (map lineWords ls))
-line-follows g b n [] h = record { is = inl (omega arith) }
-line-follows g b n (l ∷ ls) h = clean-follows g l (clean-line g b l (scan-on g b l n ls h .0) .placed)
-
--- ---- relations
-
--- a relation that has columns is one of the ten
-pub columns-ten : (r : ℕ) → (columnsAt r ≡ 0 → ⊥) → (0 < r) × (r ≤ 10)
-columns-ten zero h = absurd (h refl)
-columns-ten (suc zero) h = (omega arith, omega arith)
-columns-ten (suc (suc zero)) h = (omega arith, omega arith)
-columns-ten (suc (suc (suc zero))) h = (omega arith, omega arith)
-columns-ten (suc (suc (suc (suc zero)))) h = (omega arith, omega arith)
-columns-ten (suc (suc (suc (suc (suc zero))))) h = (omega arith, omega arith)
-columns-ten (suc (suc (suc (suc (suc (suc zero)))))) h = (omega arith, omega arith)
-columns-ten (suc (suc (suc (suc (suc (suc (suc zero))))))) h = (omega arith, omega arith)
-columns-ten (suc (suc (suc (suc (suc (suc (suc (suc zero)))))))) h = (omega arith, omega arith)
-columns-ten (suc (suc (suc (suc (suc (suc (suc (suc (suc zero))))))))) h = (omega arith, omega arith)
-columns-ten (suc (suc (suc (suc (suc (suc (suc (suc (suc (suc zero)))))))))) h = (omega arith, omega arith)
-columns-ten (suc (suc (suc (suc (suc (suc (suc (suc (suc (suc (suc n))))))))))) h = absurd (h refl)
+pub line-follows : (table : Table) (g : Seen) (b : Line) (n : ℕ) (ls : List Line) → eqb (scan table g b n ls .number) 0 ≡ true → Follows g (firstKind (map lineWords ls))
+line-follows table g b n [] h = record { is = inl (omega arith) }
+line-follows table g b n (l ∷ ls) h = clean-follows g l (clean-line table g b l (scan-on table g b l n ls h .0) .placed)

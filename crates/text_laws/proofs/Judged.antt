@@ -4,6 +4,7 @@ use mathlib.Core.Bool.{Bool, true, false, true≢false}
 use mathlib.Core.List.{List, [], _∷_, map}
 use mathlib.Core.Logic.{inl, inr}
 use Prim.Native.Nat.{ℕ, zero, suc}
+use Rattle.sheet_format.specs.Table.{Table}
 use Rattle.sheet_format.specs.Line.{Line}
 use Rattle.sheet_format.specs.Cause as cause
 use Rattle.sheet_format.specs.Cause.{Kind, isHead}
@@ -104,9 +105,9 @@ view-head cause.row e = absurd (true≢false (sym e))
 view-head cause.other e = absurd (true≢false (sym e))
 
 -- lines whose blocks are alike
-same-sheets : (ls ms : List Line) → AllAlike (blocks isQuestion ls) (blocks isQuestion ms) → AllAlike (blocks isSaved ls) (blocks isSaved ms) → AllAlike (blocks isView ls) (blocks isView ms)
-    → SameSheets (sheetOf ls) (sheetOf ms)
-same-sheets ls ms q l v = record {
+same-sheets : (table : Table) (ls ms : List Line) → AllAlike (blocks isQuestion ls) (blocks isQuestion ms) → AllAlike (blocks isSaved ls) (blocks isSaved ms) → AllAlike (blocks isView ls) (blocks isView ms)
+    → SameSheets (sheetOf table ls) (sheetOf table ms)
+same-sheets table ls ms q l v = record {
   table = refl;
   question = first-alike (blocks isQuestion ls) (blocks isQuestion ms) q;
   lists = λ b m.
@@ -116,19 +117,19 @@ same-sheets ls ms q l v = record {
   views = λ w m. partner (blocks isView ls) (blocks isView ms) v w m;
 }
 
-module _ (ls : List Line) where
-  numbered-sheet : SameSheets (sheetOf (numberedLines [] ls)) (sheetOf ls)
-  numbered-sheet = same-sheets (numberedLines [] ls) ls (blocks-alike isQuestion question-head [] ls) (blocks-alike isSaved saved-head [] ls) (blocks-alike isView view-head [] ls)
+module _ (table : Table) (ls : List Line) where
+  numbered-sheet : SameSheets (sheetOf table (numberedLines [] ls)) (sheetOf table ls)
+  numbered-sheet = same-sheets table (numberedLines [] ls) ls (blocks-alike isQuestion question-head [] ls) (blocks-alike isSaved saved-head [] ls) (blocks-alike isView view-head [] ls)
 
-  sheet-numbered : SameSheets (sheetOf ls) (sheetOf (numberedLines [] ls))
-  sheet-numbered = same-sheets ls (numberedLines [] ls)
+  sheet-numbered : SameSheets (sheetOf table ls) (sheetOf table (numberedLines [] ls))
+  sheet-numbered = same-sheets table ls (numberedLines [] ls)
       (all-turned (blocks isQuestion (numberedLines [] ls)) (blocks isQuestion ls) (blocks-alike isQuestion question-head [] ls))
       (all-turned (blocks isSaved (numberedLines [] ls)) (blocks isSaved ls) (blocks-alike isSaved saved-head [] ls))
       (all-turned (blocks isView (numberedLines [] ls)) (blocks isView ls) (blocks-alike isView view-head [] ls))
 
   -- each verdict holds of one exactly where it holds of the other
-  pub numbered-verdict : (n : ℕ) → HasVerdict (sheetOf (numberedLines [] ls)) n → HasVerdict (sheetOf ls) n
-  numbered-verdict n h = verdict-same (sheetOf (numberedLines [] ls)) (sheetOf ls) numbered-sheet sheet-numbered n h
+  pub numbered-verdict : (n : ℕ) → HasVerdict (sheetOf table (numberedLines [] ls)) n → HasVerdict (sheetOf table ls) n
+  numbered-verdict n h = verdict-same (sheetOf table (numberedLines [] ls)) (sheetOf table ls) numbered-sheet sheet-numbered n h
 
-  pub verdict-numbered : (n : ℕ) → HasVerdict (sheetOf ls) n → HasVerdict (sheetOf (numberedLines [] ls)) n
-  verdict-numbered n h = verdict-same (sheetOf ls) (sheetOf (numberedLines [] ls)) sheet-numbered numbered-sheet n h
+  pub verdict-numbered : (n : ℕ) → HasVerdict (sheetOf table ls) n → HasVerdict (sheetOf table (numberedLines [] ls)) n
+  verdict-numbered n h = verdict-same (sheetOf table ls) (sheetOf table (numberedLines [] ls)) sheet-numbered numbered-sheet n h

@@ -9,6 +9,7 @@ pub mod Lines
 pub mod Shown
 pub mod Follows
 pub mod ReadBack
+pub mod Names
 pub mod Bound
 pub mod Accepted
 pub mod Again

@@ -5,27 +5,29 @@ use mathlib.Core.List.{List, [], _∷_, _++_, map}
 use mathlib.Core.Logic.{_⊎_, ⊎-elim}
 use Prim.Native.Nat.{ℕ, zero, suc, _-_, _≤_, _<_}
 use native.Mathlib.Omega.{arith}
-use lib.Dec.{eqb, ltb}
+use lib.Dec.{eqb, ltb, leb}
 use lib.IntN.{ℤ, pos, negsuc}
 use lib.ListN.{length}
-use borrow.Author.Tests.{eq-eqb, ne-eqb, le-leb}
+use borrow.Author.Tests.{eq-eqb, ne-eqb, lt-ltb, leb-true}
+use Rattle.list_laws.proofs.Order.{less?}
 use Rattle.sheet_format.specs.Line.{Line, all}
-use Rattle.sheet_format.specs.Limits.{most-variables}
+use Rattle.sheet_format.specs.Limits.{most-variables, field-end}
 use Rattle.sheet_format.specs.Cause.{orOut, isTerm, isConstant, termOf, term, constant}
 use Rattle.sheet_format.specs.declared.FieldTerm.{FieldTerm}
 use Rattle.sheet_format.specs.declared.FieldTerm.the-variants.{Constant, Variable, OutOfRange}
 use Rattle.sheet_format.proofs.Lists.{no-way, and-left, and-right, and-both}
-use Rattle.sheet_format.specs.Relations.{columnsAt}
+use Rattle.sheet_format.specs.Table.{columnsOf, ten}
 use Rattle.text_buffer.specs.Words.{bytes}
 use Rattle.text_begins.specs.Begins.{isBlank, letterOf}
-use Rattle.text_writer.specs.Texts.{termBytes, separated, termsBytes, relationBytes}
+use Rattle.text_writer.specs.Texts.{wordBytes, termBytes, separated, termsBytes, relationBytes}
+use Rattle.text_writer.proofs.Parts.{far-relation}
 use Rattle.text_meaning.specs.Tokens.{kindOf, isInWord, joins, goesOn, behind, tokens}
 use Rattle.text_meaning.specs.Names.{markOf, relationOf}
 use Rattle.text_meaning.specs.Places.{columnsIn, nextBlock, startAt, openAt, termAt, firstAt, closedBy, closeAt, colonAt, relationAt, atomEndAt, rowAt, rowsAt, rowEndAt, nextAt, stepFrom, step}
 use Rattle.text_meaning.specs.Reading.{Reading, fieldOf, grown, read, run}
 use Rattle.text_meaning.specs.declared.Control.{Control}
 use Rattle.text_laws.specs.Numbered.{numberedTerm, numberedTerms, knownBehind}
-use Rattle.text_laws.proofs.Written.{GoOn, relation-back}
+use Rattle.text_laws.proofs.Written.{GoOn, digits-in-word, number-shows, far-back, relation-back}
 use Rattle.text_laws.proofs.Terms.{reads, word-on, sign-on, ended, letters, Below, termKind, term-token}
 use Rattle.text_laws.proofs.Bracketed.{within, head-run, atom-run, brackets}
 
@@ -109,22 +111,38 @@ name-by : (r a : ℕ) (w : List ℕ) → 0 < r → r ≤ 10 → relationBytes r 
 unfolding markOf
 name-by r a w l h e b k g = record { first = a; more = w; named = e; apart = b; on = rw k g; kind = k; value = rw k (ap relationOf (sym e) ∙ relation-back r l h) }
 
-name-token : (r : ℕ) → 0 < r → r ≤ 10 → Name r
+ten-token : (r : ℕ) → 0 < r → r ≤ 10 → Name r
 unfolding relationBytes kindOf joins
-name-token zero l h = absurd (omega arith)
-name-token (suc zero) l h = name-by 1 82 (bytes "ower") l h refl refl refl (refl, (refl, (refl, (refl, tt))))
-name-token (suc (suc zero)) l h = name-by 2 83 (bytes "trap") l h refl refl refl (refl, (refl, (refl, (refl, tt))))
-name-token (suc (suc (suc zero))) l h = name-by 3 87 (bytes "orn") l h refl refl refl (refl, (refl, (refl, tt)))
-name-token (suc (suc (suc (suc zero)))) l h = name-by 4 83 (bytes "ig") l h refl refl refl (refl, (refl, tt))
-name-token (suc (suc (suc (suc (suc zero))))) l h = name-by 5 66 (bytes "eat") l h refl refl refl (refl, (refl, (refl, tt)))
-name-token (suc (suc (suc (suc (suc (suc zero)))))) l h = name-by 6 78 (bytes "oise") l h refl refl refl (refl, (refl, (refl, (refl, tt))))
-name-token (suc (suc (suc (suc (suc (suc (suc zero))))))) l h = name-by 7 80 (bytes "ulse") l h refl refl refl (refl, (refl, (refl, (refl, tt))))
-name-token (suc (suc (suc (suc (suc (suc (suc (suc zero)))))))) l h = name-by 8 67 (bytes "oach") l h refl refl refl (refl, (refl, (refl, (refl, tt))))
-name-token (suc (suc (suc (suc (suc (suc (suc (suc (suc zero))))))))) l h = name-by 9 83 (bytes "eat") l h refl refl refl (refl, (refl, (refl, tt)))
-name-token (suc (suc (suc (suc (suc (suc (suc (suc (suc (suc zero)))))))))) l h = name-by 10 80 (bytes "ause") l h refl refl refl (refl, (refl, (refl, (refl, tt))))
-name-token (suc (suc (suc (suc (suc (suc (suc (suc (suc (suc (suc n))))))))))) l h = absurd (omega arith)
+ten-token zero l h = absurd (omega arith)
+ten-token (suc zero) l h = name-by 1 82 (bytes "ower") l h refl refl refl (refl, (refl, (refl, (refl, tt))))
+ten-token (suc (suc zero)) l h = name-by 2 83 (bytes "trap") l h refl refl refl (refl, (refl, (refl, (refl, tt))))
+ten-token (suc (suc (suc zero))) l h = name-by 3 87 (bytes "orn") l h refl refl refl (refl, (refl, (refl, tt)))
+ten-token (suc (suc (suc (suc zero)))) l h = name-by 4 83 (bytes "ig") l h refl refl refl (refl, (refl, tt))
+ten-token (suc (suc (suc (suc (suc zero))))) l h = name-by 5 66 (bytes "eat") l h refl refl refl (refl, (refl, (refl, tt)))
+ten-token (suc (suc (suc (suc (suc (suc zero)))))) l h = name-by 6 78 (bytes "oise") l h refl refl refl (refl, (refl, (refl, (refl, tt))))
+ten-token (suc (suc (suc (suc (suc (suc (suc zero))))))) l h = name-by 7 80 (bytes "ulse") l h refl refl refl (refl, (refl, (refl, (refl, tt))))
+ten-token (suc (suc (suc (suc (suc (suc (suc (suc zero)))))))) l h = name-by 8 67 (bytes "oach") l h refl refl refl (refl, (refl, (refl, (refl, tt))))
+ten-token (suc (suc (suc (suc (suc (suc (suc (suc (suc zero))))))))) l h = name-by 9 83 (bytes "eat") l h refl refl refl (refl, (refl, (refl, tt)))
+ten-token (suc (suc (suc (suc (suc (suc (suc (suc (suc (suc zero)))))))))) l h = name-by 10 80 (bytes "ause") l h refl refl refl (refl, (refl, (refl, (refl, tt))))
+ten-token (suc (suc (suc (suc (suc (suc (suc (suc (suc (suc (suc n))))))))))) l h = absurd (omega arith)
 
-module _ (block relation : ℕ) (some : 0 < relation) (ten : relation ≤ 10) (c : Control) (line : ℕ) (ls : List Line) (starts : List ℕ) where
+-- one beyond the ten is a letter and its number
+far-token : (r : ℕ) → 10 < r → r < field-end → Name r
+unfolding markOf kindOf
+far-token r l h = record {
+  first = 82;
+  more = wordBytes (pos r);
+  named = sym (far-relation r l) ∙ rw (lt-ltb r field-end h);
+  apart = refl;
+  on = digits-in-word (wordBytes (pos r)) (number-shows r h .digits);
+  kind = refl;
+  value = far-back r l h;
+}
+
+name-token : (r : ℕ) → 0 < r → r < field-end → Name r
+name-token r l h = ⊎-elim (λ n. ten-token r l (omega arith)) (λ n. far-token r (omega arith) h) (less? r 11)
+
+module _ (block relation : ℕ) (some : 0 < relation) (short : relation < field-end) (c : Control) (line : ℕ) (ls : List Line) (starts : List ℕ) where
   abbrev atomBegun : List (List ℕ) → Reading
   atomBegun ns = record {
     control = record { place = 2; block = block; kind = 4; relation = relation; left = columnsIn relation; bare = false; expected = 0; begins = true; puts = true };
@@ -138,30 +156,40 @@ module _ (block relation : ℕ) (some : 0 < relation) (ten : relation ≤ 10) (c
   unfolding read step stepFrom relationAt grown
   name-read ns w k v = rw (k, v, ne-eqb relation 0 (λ e. omega arith))
 
-  atom-open-read : (ns : List (List ℕ)) (columns : ℕ) → columnsAt relation ≡ columns → read (atomBegun ns) (40 ∷ []) ≡ within 4 block 4 relation columns false line ns (pos 4 ∷ pos relation ∷ []) ls (line ∷ starts)
-  unfolding read step stepFrom openAt markOf kindOf columnsIn
-  atom-open-read ns columns e = rw (le-leb relation 10 ten, e)
+  atom-open-read : (ns : List (List ℕ)) → read (atomBegun ns) (40 ∷ []) ≡ within 4 block 4 relation (columnsIn relation) false line ns (pos 4 ∷ pos relation ∷ []) ls (line ∷ starts)
+  unfolding read step stepFrom openAt markOf kindOf
+  atom-open-read ns = refl
+
+  -- as many columns may come as the atom has, or more where they are not known
+  known-columns : (n : ℕ) → (relation ≤ 10 → columnsOf ten (pos relation) ≡ n) → n ≤ 4 → (leb relation 10 ≡ true → columnsIn relation ≡ n) × (n ≤ columnsIn relation)
+  unfolding columnsIn
+  known-columns n e h = by (leb relation 10) refl
+    where
+      by : (t : Bool) → leb relation 10 ≡ t → (t ≡ true → cond t (columnsOf ten (pos relation)) 4 ≡ n) × (n ≤ cond t (columnsOf ten (pos relation)) 4)
+      by true i = let q = e (leb-true relation 10 i) in (λ j. q, omega arith)
+      by false i = (λ j. no-way j, h)
 
   -- an atom, from where a relation is due (7) to behind it (8)
-  pub atom-line : (zs : List ℤ) (s : List ℕ) (ks : List ℕ) → all term zs ≡ true → Below ks → columnsAt relation ≡ length zs → 0 < length zs → length zs ≤ 4
+  pub atom-line : (zs : List ℤ) (s : List ℕ) (ks : List ℕ) → all term zs ≡ true → Below ks → (relation ≤ 10 → columnsOf ten (pos relation) ≡ length zs) → 0 < length zs → length zs ≤ 4
       → reads (standing 7 block c line (letters ks) ls starts) (relationBytes relation ++ (termsBytes zs ++ s))
-      ≡ reads (within 8 block 4 relation 0 false line (letters (knownBehind ks zs)) (pos 4 ∷ pos relation ∷ numberedTerms ks zs) ls (line ∷ starts)) s
+      ≡ reads (within 8 block 4 relation (columnsIn relation - length zs) false line (letters (knownBehind ks zs)) (pos 4 ∷ pos relation ∷ numberedTerms ks zs) ls (line ∷ starts)) s
   unfolding joins kindOf
   atom-line zs s ks a b e i k =
-      let n = name-token relation some ten in
+      let n = name-token relation some short in
       let inner = separated (44 ∷ []) (map termBytes zs) ++ (41 ∷ s) in
       let p = standing 7 block c line (letters ks) ls starts in
+      let m = known-columns (length zs) e k in
       ap (λ x. reads p (relationBytes relation ++ x)) (brackets zs s)
       ∙ ap (λ x. reads p (x ++ (40 ∷ inner))) (n .named)
       ∙ word-on p (atomBegun (letters ks)) (n .first) (n .more) (40 ∷ inner) (n .apart) (n .on) (ended (kindOf (n .first)) 40 refl) (name-read (letters ks) (n .first ∷ n .more) (n .kind) (n .value)) refl
-      ∙ sign-on (atomBegun (letters ks)) (within 4 block 4 relation (length zs) false line (letters ks) (pos 4 ∷ pos relation ∷ []) ls (line ∷ starts)) 40 inner refl (λ n. refl) (atom-open-read (letters ks) (length zs) e) refl
-      ∙ atom-run block 4 relation line ls (line ∷ starts) zs s false ks (pos 4 ∷ pos relation ∷ []) refl (le-leb relation 10 ten) a b i k (omega arith)
+      ∙ sign-on (atomBegun (letters ks)) (within 4 block 4 relation (columnsIn relation) false line (letters ks) (pos 4 ∷ pos relation ∷ []) ls (line ∷ starts)) 40 inner refl (λ n. refl) (atom-open-read (letters ks)) refl
+      ∙ atom-run block 4 relation line ls (line ∷ starts) (columnsIn relation) zs s false ks (pos 4 ∷ pos relation ∷ []) refl (m .0) a b i (m .1) k (omega arith)
 
 -- ---- behind an atom
 
-module _ (block relation line : ℕ) (ns : List (List ℕ)) (l : Line) (ls : List Line) (starts : List ℕ) where
+module _ (block relation left line : ℕ) (ns : List (List ℕ)) (l : Line) (ls : List Line) (starts : List ℕ) where
   abbrev behindAtom : ℕ → ℕ → Reading
-  behindAtom place line = within place block 4 relation 0 false line ns l ls starts
+  behindAtom place line = within place block 4 relation left false line ns l ls starts
 
   -- another atom
   pub atom-next : (s : List ℕ) → reads (behindAtom 8 line) (44 ∷ s) ≡ reads (behindAtom 7 line) s

@@ -6,12 +6,12 @@ use Prim.Native.Nat.{ℕ, zero, suc, _+_, _-_, _≤_, _<_}
 use native.Mathlib.Omega.{arith}
 use lib.Dec.{eqb, ltb, leb}
 use lib.IntN.{ℤ, pos}
-use lib.ListN.{length, getD, take, length-append, length-take}
+use lib.ListN.{length, take, length-append, length-take}
 use lib.Seq.{take-all}
 use borrow.Author.Tests.{eqb-true, ltb-true, leb-true, eqb-false}
 use Rattle.sheet_format.specs.Limits.{most-fields}
 use Rattle.sheet_format.specs.Line.{Line}
-use Rattle.sheet_format.specs.Relations.{relations, columnsAt}
+use Rattle.sheet_format.specs.Table.{columnsOf, relation, ten}
 use Rattle.text_begins.specs.Begins.{letterOf}
 use Rattle.text_meaning.specs.Names.{markOf}
 use Rattle.text_meaning.specs.Places.{goes, fails, columnsIn, nextBlock, startAt, commentAt, openAt, termAt, isCounted, moreAt, closedBy, closeAt, firstAt, rowEndAt, nextAt, colonAt, relationAt, atomEndAt, rowAt, rowsAt, stepFrom, step}
@@ -28,7 +28,8 @@ by-test P false p q = q refl
 
 -- ---- the columns of a relation: at least one, at most four
 
-columns-at : (n : ℕ) → n < 10 → (0 < getD relations n 0) × (getD relations n 0 ≤ 4)
+columns-at : (n : ℕ) → n < 10 → (0 < columnsOf ten (pos (suc n))) × (columnsOf ten (pos (suc n)) ≤ 4)
+unfolding columnsOf relation
 columns-at zero h = omega arith
 columns-at (suc zero) h = omega arith
 columns-at (suc (suc zero)) h = omega arith

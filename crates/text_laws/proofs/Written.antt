@@ -14,7 +14,7 @@ use Rattle.sheet_format.specs.Limits.{field-end}
 use Rattle.sheet_format.specs.Field.{lead, decimal, fieldBytes}
 use Rattle.sheet_format.proofs.Lists.{append-nil}
 use Rattle.text_begins.specs.Begins.{isBlank}
-use Rattle.text_writer.specs.Texts.{withoutBlanks, wordBytes, relationBytes}
+use Rattle.text_writer.specs.Texts.{withoutBlanks, wordBytes, relationNames, relationBytes}
 use Rattle.text_meaning.specs.Tokens.{kindOf, joins, goesOn, behind, tokens}
 use Rattle.text_meaning.specs.Names.{sameBytes, longer, numberFrom, numberOf, among, relationOf}
 
@@ -56,6 +56,12 @@ pub digits-go-on : (s : List ℕ) → Digits s → GoOn 48 s
 unfolding joins
 digits-go-on [] d = tt
 digits-go-on (b ∷ s) d = (rw (digit-kind b (d .0) (d .1)), digits-go-on s (d .2))
+
+-- and with a word
+pub digits-in-word : (s : List ℕ) → Digits s → GoOn 65 s
+unfolding joins
+digits-in-word [] d = tt
+digits-in-word (b ∷ s) d = (rw (digit-kind b (d .0) (d .1)), digits-in-word s (d .2))
 
 digits-more : (s : List ℕ) (b : ℕ) → Digits s → 48 ≤ b → b < 58 → Digits (s ++ (b ∷ []))
 digits-more [] b d l h = (l, h, tt)
@@ -141,6 +147,19 @@ pub number-back : (n : ℕ) → n < field-end → numberOf (wordBytes (pos n)) �
 number-back n h = let e = number-shows n h .value in rw e (omega arith)
 
 -- ---- relations
+
+-- a letter and digits are no name of the ten
+no-name : (s : List ℕ) → Digits s → 0 < length s → among (82 ∷ s) 1 relationNames ≡ 0
+unfolding among sameBytes
+no-name [] d h = absurd (omega arith)
+no-name (b ∷ s) d h = rw (ne-eqb b 111 (λ e. let l = d .1 in omega arith))
+
+-- one beyond the ten is read by its number
+pub far-back : (r : ℕ) → 10 < r → r < field-end → relationOf (82 ∷ wordBytes (pos r)) ≡ r
+unfolding relationOf
+far-back r l h =
+    let n = number-shows r h in
+    rw (no-name (wordBytes (pos r)) (n .digits) (n .some), n .value, lt-ltb 10 r l, lt-ltb r field-end h)
 
 -- each of the ten is read by the name that it is written with
 pub relation-back : (r : ℕ) → 0 < r → r ≤ 10 → relationOf (relationBytes r) ≡ r

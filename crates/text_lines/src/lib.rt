@@ -1,8 +1,9 @@
-// The lines of a number form as bytes, put at a place of a buffer.
+// The lines of a number form as bytes, put at a place of a buffer, by a table of relations in plain numbers.
 use sheet_format::ATOM_KIND;
 use sheet_format::LINE_WORDS;
 use sheet_format::MOST_FIELDS;
 use sheet_format::ROW_KIND;
+use sheet_format::TABLE_NUMBERS;
 use sheet_format::VIEW_KIND;
 use text_buffer::put;
 use text_buffer::put_byte;
@@ -16,6 +17,7 @@ ghost use Prim.Native.Nat.{_≤_, _-_, _/_, _*_};
 ghost use lib.Dec.{ltb};
 ghost use lib.ListN.{length, take, drop};
 ghost use Rattle.sheet_format.specs.Limits.{most-fields, line-words};
+ghost use Rattle.sheet_format.specs.Table.{tableIn};
 ghost use Rattle.text_buffer.specs.Puts.{Put};
 ghost use Rattle.text_writer.specs.Texts.{small, lineKind, blockKind, headBytes, atomBytes, valuesBytes, rowBytes, kindBytes, lineText, linesBytes};
 
@@ -76,12 +78,19 @@ fn put_head(out: &mut [u8], at: usize, line: &[i32], kind: usize) -> usize
 }
 
 // An atom, and what stands between it and the next line of its block: in a view "=" before the rows.
-fn put_atom(out: &mut [u8], at: usize, line: &[i32], block: usize, next: usize) -> usize
+fn put_atom(
+    table: &[usize; TABLE_NUMBERS],
+    out: &mut [u8],
+    at: usize,
+    line: &[i32],
+    block: usize,
+    next: usize,
+) -> usize
     requires { ⌜ length (now line) ≡ line-words ⌝ }
-    ensures { λ r. ⌜ Put (now (out .entry)) (now (out .exit)) at (atomBytes (now (line .entry)) block next) r ⌝ }
+    ensures { λ r. ⌜ Put (now (out .entry)) (now (out .exit)) at (atomBytes (tableIn (now (table .entry))) (now (line .entry)) block next) r ⌝ }
 {
     let n = put_byte(out, at, b' ');
-    let m = put_facts(out, n, &line[2..LINE_WORDS], 1);
+    let m = put_facts(table, out, n, &line[2..LINE_WORDS], 1);
     if next == ATOM_KIND {
         return put_byte(out, m, b',');
     }
@@ -118,6 +127,7 @@ fn put_values(out: &mut [u8], at: usize, line: &[i32]) -> usize
 
 // A line of a kind.
 fn put_kind(
+    table: &[usize; TABLE_NUMBERS],
     out: &mut [u8],
     at: usize,
     line: &[i32],
@@ -126,10 +136,10 @@ fn put_kind(
     next: usize,
 ) -> usize
     requires { ⌜ length (now line) ≡ line-words ⌝ }
-    ensures { λ r. ⌜ Put (now (out .entry)) (now (out .exit)) at (kindBytes (now (line .entry)) kind block next) r ⌝ }
+    ensures { λ r. ⌜ Put (now (out .entry)) (now (out .exit)) at (kindBytes (tableIn (now (table .entry))) (now (line .entry)) kind block next) r ⌝ }
 {
     if kind == ATOM_KIND {
-        return put_atom(out, at, line, block, next);
+        return put_atom(table, out, at, line, block, next);
     }
     if kind == ROW_KIND {
         return put_row(out, at, line, next);
@@ -139,6 +149,7 @@ fn put_kind(
 
 // A line, and the end of the text's line where a head or nothing follows.
 fn put_line(
+    table: &[usize; TABLE_NUMBERS],
     out: &mut [u8],
     at: usize,
     line: &[i32],
@@ -147,9 +158,9 @@ fn put_line(
     next: usize,
 ) -> usize
     requires { ⌜ length (now line) ≡ line-words ⌝ }
-    ensures { λ r. ⌜ Put (now (out .entry)) (now (out .exit)) at (lineText (now (line .entry)) kind block next) r ⌝ }
+    ensures { λ r. ⌜ Put (now (out .entry)) (now (out .exit)) at (lineText (tableIn (now (table .entry))) (now (line .entry)) kind block next) r ⌝ }
 {
-    let n = put_kind(out, at, line, kind, block, next);
+    let n = put_kind(table, out, at, line, kind, block, next);
     if next < ATOM_KIND {
         return put_byte(out, n, b'\n');
     }
@@ -157,8 +168,8 @@ fn put_line(
 }
 
 // The text of a number form.
-pub fn put_lines(out: &mut [u8], words: &[i32]) -> usize
-    ensures { λ r. ⌜ Put (now (out .entry)) (now (out .exit)) 0 (linesBytes (now (words .entry))) r ⌝ }
+pub fn put_lines(table: &[usize; TABLE_NUMBERS], out: &mut [u8], words: &[i32]) -> usize
+    ensures { λ r. ⌜ Put (now (out .entry)) (now (out .exit)) 0 (linesBytes (tableIn (now (table .entry))) (now (words .entry))) r ⌝ }
 {
     let lines = words.len() / LINE_WORDS;
     let mut n = 0;
@@ -169,6 +180,7 @@ pub fn put_lines(out: &mut [u8], words: &[i32]) -> usize
         let kind = kind_at(words, i);
         block = block_at(kind, block);
         n = put_line(
+            table,
             out,
             n,
             &words[from..from + LINE_WORDS],

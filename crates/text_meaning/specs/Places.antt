@@ -2,7 +2,8 @@
 use mathlib.Core.Bool.{Bool, true, false, cond, _&&_, _||_}
 use Prim.Native.Nat.{ℕ, _-_}
 use lib.Dec.{eqb, ltb, leb}
-use Rattle.sheet_format.specs.Relations.{columnsAt}
+use lib.IntN.{pos}
+use Rattle.sheet_format.specs.Table.{columnsOf, ten}
 use Rattle.text_begins.specs.Begins.{letterOf}
 use Rattle.text_meaning.specs.declared.Control.{Control}
 use Rattle.text_meaning.specs.declared.Mark.{Mark}
@@ -21,9 +22,9 @@ fails c what = record { place = c .place; block = c .block; kind = c .kind; rela
 abbrev pub headed : Control → ℕ → Control
 headed c block = record { place = 2; block = block; kind = block; relation = 0; left = 4; bare = false; expected = 0; begins = true; puts = false }
 
--- the columns of a relation that has a name (up to 10); of any other four may come
+-- the columns of a relation that has a name (up to 10), by the library's own table; of any other four may come
 unfoldable pub columnsIn : ℕ → ℕ
-columnsIn relation = cond (leb relation 10) (columnsAt relation) 4
+columnsIn relation = cond (leb relation 10) (columnsOf ten (pos relation)) 4
 
 -- an atom begins, with its relation: its bracket (2) comes next
 abbrev pub atomed : Control → ℕ → Control

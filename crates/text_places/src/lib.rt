@@ -91,7 +91,8 @@ fn columns(relation: usize) -> usize
     ensures { λ r. ⌜ r ≡ columnsIn relation ⌝ }
 {
     if relation <= NAMED_RELATIONS {
-        return sheet_terms::columns(relation as i32);
+        let table = sheet_terms::own_table();
+        return sheet_terms::columns(&table, relation as i32);
     }
     MOST_COLUMNS
 }

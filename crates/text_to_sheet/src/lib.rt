@@ -1,15 +1,17 @@
-// A plain text as a sheet.
+// A plain text as a sheet, by the library's own table of relations or by a club's.
 use sheet_format::Ending;
 use sheet_format::LINE_WORDS;
 use sheet_format::MOST_LINES;
 use sheet_format::MOST_WORDS;
+use sheet_format::TABLE_NUMBERS;
 use sheet_format::TOO_LONG;
 use text_begins::MOST_TEXT;
 use text_meaning::EXPECT_SHORTER;
 use text_reader::run;
 ghost use mathlib.Core.Path.{_≡_};
 ghost use lib.ListN.{length};
-ghost use Rattle.text_to_sheet.specs.Texts.{lineIn, MadeAs};
+ghost use Rattle.sheet_format.specs.Table.{tableIn, ten};
+ghost use Rattle.text_to_sheet.specs.Texts.{lineIn, MadeAs, MadeByTable};
 
 // A text as a sheet: how many bytes it has; or the line, what was expected there and in which relation; or the library's refusal, its number
 // and line, and the line of the text.
@@ -32,9 +34,9 @@ fn text_line(begun: &[usize], line: usize) -> usize
     begun[line - 1]
 }
 
-// A text as a sheet in the lent bytes. What the library refuses of its number form is refused here.
-pub fn sheet_of(text: &[u8], out: &mut [u8]) -> Made
-    ensures { λ r. ⌜ MadeAs (now (text .entry)) (now (out .entry)) (now (out .exit)) r ⌝ }
+// A text as a sheet in the lent bytes, by a table in plain numbers. What the library refuses of its number form is refused here.
+pub fn sheet_by_numbers(table: &[usize; TABLE_NUMBERS], text: &[u8], out: &mut [u8]) -> Made
+    ensures { λ r. ⌜ MadeAs (tableIn (now (table .entry))) (now (text .entry)) (now (out .entry)) (now (out .exit)) r ⌝ }
 {
     if MOST_TEXT < text.len() {
         return Made::Expected(1, EXPECT_SHORTER, 0);
@@ -51,8 +53,28 @@ pub fn sheet_of(text: &[u8], out: &mut [u8]) -> Made
     if MOST_LINES < lines {
         return Made::Refused(TOO_LONG, 0, 0);
     }
-    match sheet::write(&words[0..lines * LINE_WORDS], out) {
+    match sheet_writer::write(table, &words[0..lines * LINE_WORDS], out) {
         Ending::Done(n) => Made::Sheet(n),
         Ending::Refused(number, line) => Made::Refused(number, line, text_line(&begun, line)),
     }
+}
+
+// A text as a sheet in the lent bytes, by the library's own table.
+pub fn sheet_of(text: &[u8], out: &mut [u8]) -> Made
+    ensures { λ r. ⌜ MadeAs ten (now (text .entry)) (now (out .entry)) (now (out .exit)) r ⌝ }
+{
+    let table = sheet_terms::own_table();
+    sheet_by_numbers(&table, text, out)
+}
+
+// The same by the table of these bytes, which is looked at first.
+pub fn sheet_of_by_table(table: &[u8], text: &[u8], out: &mut [u8]) -> Made
+    ensures { λ r. ⌜ MadeByTable (now (table .entry)) (now (text .entry)) (now (out .entry)) (now (out .exit)) r ⌝ }
+{
+    let loaded = sheet_table::load(table);
+    if loaded.number == 0 {
+        let numbers = loaded.numbers;
+        return sheet_by_numbers(&numbers, text, out);
+    }
+    Made::Refused(loaded.number, loaded.line, 0)
 }

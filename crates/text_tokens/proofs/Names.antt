@@ -1,7 +1,7 @@
 -- Laws of words, numbers and names.
 use mathlib.Core.Path.{_≡_, refl, sym, ap, _∙_}
 use mathlib.Core.Bool.{Bool, true, false, cond, _&&_}
-use mathlib.Core.List.{List, [], _∷_}
+use mathlib.Core.List.{List, [], _∷_, _++_}
 use Prim.Native.Nat.{ℕ, zero, suc, _+_, _-_, _≤_, _<_}
 use native.Mathlib.Omega.{arith}
 use native.Mathlib.Numerals.{add-one}
@@ -9,11 +9,12 @@ use lib.Dec.{eqb, ltb}
 use lib.ListN.{length, getD, take, drop, drop-of-length-le}
 use lib.Seq.{take-at}
 use borrow.Author.Tests.{eq-eqb, ne-eqb}
-use Rattle.list_laws.proofs.Lists.{drop-next}
+use Rattle.list_laws.proofs.Lists.{inside, drop-next}
 use Rattle.sheet_format.specs.Limits.{field-end}
 use Rattle.text_buffer.specs.Puts.{Put}
+use Rattle.text_buffer.specs.Words.{bytes}
 use Rattle.text_buffer.proofs.Laws.{reached-all, placed-all}
-use Rattle.text_writer.specs.Texts.{relationNames, relationBytes}
+use Rattle.text_writer.specs.Texts.{relationNames, relationBytes, numberBytes}
 use Rattle.text_meaning.specs.Tokens.{kindOf}
 use Rattle.text_meaning.specs.Names.{sameBytes, longer, numberFrom, among, beyond, letterIn, valueOf, markOf}
 
@@ -67,10 +68,10 @@ pub among-none : (w : List ℕ) (i r : ℕ) (ns : List (List ℕ)) → length ns
 unfolding among
 among-none w i r ns h = rw (drop-of-length-le ns h)
 
-pub name-of : (r : ℕ) → 0 < r → relationBytes r ≡ getD relationNames (r - 1) []
+pub name-of : (r : ℕ) → 0 < r → r ≤ 10 → relationBytes r ≡ getD relationNames (r - 1) []
 unfolding relationBytes
-name-of zero h = absurd (omega arith)
-name-of (suc n) h = let e : suc n - 1 ≡ n = omega arith in rw e
+name-of zero h l = absurd (omega arith)
+name-of (suc n) h l = let e : suc n - 1 ≡ n = omega arith in rw e (inside relationNames n (bytes "R" ++ numberBytes (suc n)) [] (omega arith))
 
 -- the name that was put into so many bytes
 pub name-part : {old new s : List ℕ} {r : ℕ} → Put old new 0 s r → length s ≤ length old → (r ≤ length old) × (take (r - 0) new ≡ s)

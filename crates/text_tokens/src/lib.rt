@@ -155,8 +155,9 @@ fn number(digits: &[u8]) -> usize
     FIELD_END as usize - 1
 }
 
-// Whether a word is the name of a relation.
+// Whether a word is the name of one of the ten relations.
 fn is_named(word: &[u8], relation: usize) -> bool
+    requires { ⌜ relation ≤ 10 ⌝ }
     ensures { λ r. ⌜ r ≡ sameBytes (now (word .entry)) (relationBytes relation) ⌝ }
 {
     let mut name = [0u8; NAME];

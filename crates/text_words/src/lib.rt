@@ -18,13 +18,15 @@ fn put_count(out: &mut [u8], at: usize, columns: usize) -> usize
     }
 }
 
+// The columns of a relation that has a name, by the library's own table.
 fn put_columns(out: &mut [u8], at: usize, relation: usize) -> usize
     ensures { λ r. ⌜ Put (now (out .entry)) (now (out .exit)) at (columnsBytes relation) r ⌝ }
 {
     if 10 < relation {
         return at;
     }
-    let n = put_count(out, at, sheet_terms::columns(relation as i32));
+    let table = sheet_terms::own_table();
+    let n = put_count(out, at, sheet_terms::columns(&table, relation as i32));
     put_relation(out, n, relation)
 }
 

@@ -8,17 +8,19 @@ use native.Mathlib.Omega.{arith}
 use native.Mathlib.Nat.{suc-mul}
 use borrow.Author.Tests.{ltb-false, leb-true, le-leb}
 use lib.Dec.{eqb, ltb, leb}
-use lib.IntN.{ℤ, pos, negsuc}
+use lib.IntN.{ℤ, pos}
 use lib.ListN.{length, take, drop, getD, length-append, length-take, length-map, List·getD-eq-default}
-use Rattle.sheet_format.specs.Limits.{field-bytes, most-fields, field-end, line-words}
+use Rattle.list_laws.proofs.Lists.{inside}
+use Rattle.sheet_format.specs.Limits.{field-bytes, most-fields, field-end, line-words, most-columns}
 use Rattle.sheet_format.specs.Field.{fieldBytes}
 use Rattle.sheet_format.specs.Line.{all, natural}
 use Rattle.sheet_format.specs.Cause.{termOf}
 use Rattle.sheet_format.specs.Sheet.{over}
-use Rattle.sheet_format.specs.Relations.{columnsOf, relations, columnsAt}
+use Rattle.sheet_format.specs.Table.{Table, columnsOf, ten}
 use Rattle.sheet_format.specs.declared.FieldTerm.{FieldTerm}
 use Rattle.sheet_format.specs.declared.FieldTerm.the-variants.{Constant, Variable, OutOfRange}
 use Rattle.sheet_format.proofs.FieldLaws.{field-length}
+use Rattle.sheet_format.proofs.TableLaws.{Narrow}
 use Rattle.sheet_format.proofs.Lists.{and-left, and-right, and-both}
 use Rattle.text_buffer.specs.Puts.{Put}
 use Rattle.text_buffer.specs.Words.{bytes}
@@ -41,15 +43,12 @@ all-put {a} {b} {s} {r} p room few =
 
 -- ---- the sizes
 
--- a term with its comma; a relation's name; a fact with at most four terms in brackets, and with its comma
+-- a term with its comma; a relation's name, or its letter and number; a fact with at most four terms in brackets, and with its comma
 abbrev pub term-bytes : ℕ
 term-bytes = field-bytes + 1
 
 abbrev pub name-bytes : ℕ
-name-bytes = 5
-
-abbrev most-columns : ℕ
-most-columns = 4
+name-bytes = field-bytes + 1
 
 abbrev fact-bytes : ℕ
 fact-bytes = name-bytes + most-columns * term-bytes + 2
@@ -62,7 +61,7 @@ abbrev line-terms-bytes : ℕ
 line-terms-bytes = (most-fields - 1) * term-bytes + 2
 
 abbrev pub line-bytes : ℕ
-line-bytes = line-terms-bytes + 3
+line-bytes = line-terms-bytes + 4
 
 -- the words of one cause, or of what was expected
 abbrev cause-bytes : ℕ
@@ -131,38 +130,33 @@ few-at [] k h other l n = l
 few-at (t ∷ ts) k h other l zero = leb-true (length t) k (and-left (leb (length t) k) (all (λ t. leb (length t) k) ts) h)
 few-at (t ∷ ts) k h other l (suc n) = few-at ts k (and-right (leb (length t) k) (all (λ t. leb (length t) k) ts) h) other l n
 
-pub relation-few : (n : ℕ) → length (relationBytes n) ≤ name-bytes
+relation-few : (n : ℕ) → length (relationBytes n) ≤ name-bytes
 unfolding relationBytes
 relation-few zero = omega arith
-relation-few (suc n) = few-at relationNames name-bytes refl [] (omega arith) n
+relation-few (suc n) = let h = number-few (suc n) in few-at relationNames name-bytes refl (bytes "R" ++ numberBytes (suc n)) (simp length-append (omega arith)) n
 
-columns-few : (z : ℤ) → columnsOf z ≤ most-columns
-unfolding columnsOf
-columns-few (pos zero) = omega arith
-columns-few (pos (suc n)) = by relations refl n
-  where
-    by : (l : List ℕ) → all (λ n. leb n most-columns) l ≡ true → (n : ℕ) → getD l n 0 ≤ most-columns
-    by [] e n = omega arith
-    by (x ∷ l) e zero = leb-true x most-columns (and-left (leb x most-columns) (all (λ n. leb n most-columns) l) e)
-    by (x ∷ l) e (suc n) = by l (and-right (leb x most-columns) (all (λ n. leb n most-columns) l) e) n
-columns-few (negsuc n) = omega arith
+-- the ten have shorter names
+pub named-few : (n : ℕ) → n ≤ 10 → length (relationBytes n) ≤ 5
+unfolding relationBytes
+named-few zero h = omega arith
+named-few (suc n) h = rw (inside relationNames n (bytes "R" ++ numberBytes (suc n)) [] (omega arith)) (few-at relationNames 5 refl [] (omega arith) n)
 
-fact-few : (ws : List ℤ) → length (factBytes ws) ≤ fact-bytes
+fact-few : (table : Table) → Narrow table → (ws : List ℤ) → length (factBytes table ws) ≤ fact-bytes
 unfolding factBytes
-fact-few ws =
+fact-few table narrow ws =
     let r = getD ws 0 (pos 0) in
-    let ts = take (columnsOf r) (drop 1 ws) in
+    let ts = take (columnsOf table r) (drop 1 ws) in
     let a = relation-few (natural r) in
     let b = terms-few ts in
-    let d = columns-few r in
-    let l = length-take (columnsOf r) (drop 1 ws) in
+    let d = narrow r in
+    let l = length-take (columnsOf table r) (drop 1 ws) in
     simp length-append (omega arith)
 
-pub facts-few : (count : ℕ) (ws : List ℤ) → length (factsBytes count ws) ≤ length ws / 5 * next-fact-bytes
+pub facts-few : (table : Table) → Narrow table → (count : ℕ) (ws : List ℤ) → length (factsBytes table count ws) ≤ length ws / 5 * next-fact-bytes
 unfolding factsBytes
-facts-few count ws =
+facts-few table narrow count ws =
     let n = min count (length ws / 5) in
-    let h = separated-few factBytes (bytes ", ") next-fact-bytes (λ f. let k = fact-few f in omega arith) (groups 5 n ws) in
+    let h = separated-few (factBytes table) (bytes ", ") next-fact-bytes (λ f. let k = fact-few table narrow f in omega arith) (groups 5 n ws) in
     let l = groups-length 5 n ws in
     omega arith
 
@@ -186,9 +180,9 @@ line-terms-few l =
 head-few : (l : List ℤ) (kind : ℕ) → length (headBytes l kind) ≤ line-bytes - 1
 head-few l kind = let h = line-terms-few l in simp length-append (omega arith)
 
-atom-few : (l : List ℤ) (block next : ℕ) → length (atomBytes l block next) ≤ line-bytes - 1
-atom-few l block next =
-    let h = fact-few (drop 2 l) in
+atom-few : (table : Table) → Narrow table → (l : List ℤ) (block next : ℕ) → length (atomBytes table l block next) ≤ line-bytes - 1
+atom-few table narrow l block next =
+    let h = fact-few table narrow (drop 2 l) in
     let e : List ℕ = cond (eqb next 4) (bytes ",") (cond (eqb block 3) (bytes " =") []) in
     let k : length e ≤ 2 = either-few (eqb next 4) (bytes ",") (cond (eqb block 3) (bytes " =") []) 2 (omega arith) (either-few (eqb block 3) (bytes " =") [] 2 (omega arith) (omega arith)) in
     simp length-append (omega arith)
@@ -200,28 +194,28 @@ row-few l next =
     let k = either-few (eqb next 5) (bytes ";") [] 1 (omega arith) (omega arith) in
     simp length-append (omega arith)
 
-line-few : (l : List ℤ) (kind block next : ℕ) → length (lineText l kind block next) ≤ line-bytes
+line-few : (table : Table) → Narrow table → (l : List ℤ) (kind block next : ℕ) → length (lineText table l kind block next) ≤ line-bytes
 unfolding lineText
-line-few l kind block next =
-    let h = either-few (eqb kind 4) (atomBytes l block next) (cond (eqb kind 5) (rowBytes l next) (headBytes l kind)) (line-bytes - 1) (atom-few l block next) (either-few (eqb kind 5) (rowBytes l next) (headBytes l kind) (line-bytes - 1) (row-few l next) (head-few l kind)) in
+line-few table narrow l kind block next =
+    let h = either-few (eqb kind 4) (atomBytes table l block next) (cond (eqb kind 5) (rowBytes l next) (headBytes l kind)) (line-bytes - 1) (atom-few table narrow l block next) (either-few (eqb kind 5) (rowBytes l next) (headBytes l kind) (line-bytes - 1) (row-few l next) (head-few l kind)) in
     let k = either-few (ltb next 4) (bytes "\n") [] 1 (omega arith) (omega arith) in
     simp length-append (omega arith)
 
-lines-few : (block : ℕ) (ls : List (List ℤ)) → length (linesFrom block ls) ≤ length ls * line-bytes
+lines-few : (table : Table) → Narrow table → (block : ℕ) (ls : List (List ℤ)) → length (linesFrom table block ls) ≤ length ls * line-bytes
 unfolding linesFrom
-lines-few block [] = omega arith
-lines-few block (l ∷ ls) =
+lines-few table narrow block [] = omega arith
+lines-few table narrow block (l ∷ ls) =
     let b = blockKind (lineKind l) block in
-    let h = line-few l (lineKind l) b (firstKind ls) in
-    let k = lines-few b ls in
+    let h = line-few table narrow l (lineKind l) b (firstKind ls) in
+    let k = lines-few table narrow b ls in
     simp length-append (omega arith)
 
 -- the text of a number form
-pub text-few : (ws : List ℤ) → length (linesBytes ws) ≤ length ws / line-words * line-bytes
+pub text-few : (table : Table) → Narrow table → (ws : List ℤ) → length (linesBytes table ws) ≤ length ws / line-words * line-bytes
 unfolding linesBytes
-text-few ws =
+text-few table narrow ws =
     let n = length ws / 7 in
-    let h = lines-few 0 (groups 7 n ws) in
+    let h = lines-few table narrow 0 (groups 7 n ws) in
     let l = groups-length 7 n ws in
     omega arith
 
@@ -229,7 +223,9 @@ text-few ws =
 
 cause-few : (number : ℕ) → length (causeBytes number) ≤ cause-bytes
 cause-few zero = omega arith
-cause-few (suc n) = few-at causes cause-bytes refl (bytes "there is not room enough") (omega arith) n
+cause-few (suc n) =
+    let h = few-at causes cause-bytes refl (bytes "there is not room enough") (omega arith) n in
+    either-few (eqb (suc n) 15) (bytes "a line of the table is not right, or the table has none") (getD causes n (bytes "there is not room enough")) cause-bytes (omega arith) h
 
 unless-few : (n : ℕ) (s : List ℕ) (k : ℕ) → length s ≤ k → length (cond (eqb n 0) [] s) ≤ k
 unless-few n s k h = either-few (eqb n 0) [] s k (omega arith) h
@@ -254,9 +250,9 @@ count-few (suc n) = few-at counts 20 refl (bytes "four columns in ") (omega arit
 relation-columns-few : (n : ℕ) → length (columnsBytes n) ≤ cause-bytes
 unfolding columnsBytes
 relation-columns-few n =
-    let a = count-few (columnsAt n) in
+    let a = count-few (columnsOf ten (pos n)) in
     let b = relation-few n in
-    either-few (ltb 10 n) [] (countBytes (columnsAt n) ++ relationBytes n) cause-bytes (omega arith) (simp length-append (omega arith))
+    either-few (ltb 10 n) [] (countBytes (columnsOf ten (pos n)) ++ relationBytes n) cause-bytes (omega arith) (simp length-append (omega arith))
 
 length-few : length lengthBytes ≤ cause-bytes
 unfolding lengthBytes

@@ -18,7 +18,7 @@ use borrow.Author.Tests.{eq-eqb, ne-eqb, lt-ltb, le-ltb}
 use Rattle.sheet_format.specs.Limits.{field-end}
 use Rattle.sheet_format.specs.Line.{natural}
 use Rattle.sheet_format.specs.Cause.{termOf}
-use Rattle.sheet_format.specs.Relations.{columnsAt, columnsOf}
+use Rattle.sheet_format.specs.Table.{Table, columnsOf, ten}
 use Rattle.sheet_format.specs.declared.FieldTerm.{FieldTerm}
 use Rattle.sheet_format.specs.declared.FieldTerm.the-variants.{Constant, Variable, OutOfRange}
 use Rattle.sheet_format.proofs.Lists.{append-nil, map-append}
@@ -196,29 +196,29 @@ name-at (suc n) l h =
     let f : n * 5 + 5 - n * 5 ≡ 5 = omega arith in
     rw (e, f) (name-of n (omega arith))
 
-pub far-relation : {n : ℕ} → 10 < n → [] ≡ relationBytes n
+pub far-relation : (n : ℕ) → 10 < n → bytes "R" ++ numberBytes n ≡ relationBytes n
 unfolding relationBytes
-far-relation {n = zero} h = refl
-far-relation {n = suc m} h = sym (List·getD-eq-default relationNames [] {n = m} (omega arith))
+far-relation zero h = absurd (omega arith)
+far-relation (suc m) h = sym (List·getD-eq-default relationNames (bytes "R" ++ numberBytes (suc m)) {n = m} (omega arith))
 
 pub no-columns : {n : ℕ} → 10 < n → [] ≡ columnsBytes n
 unfolding columnsBytes
 no-columns {n} h = rw (lt-ltb 10 n h)
 
-pub some-columns : {n k : ℕ} → n ≤ 10 → k ≡ columnsOf (toZ w32 n) → countBytes k ++ relationBytes n ≡ columnsBytes n
-unfolding columnsBytes columnsOf
-some-columns {n} {k} h e =
-    let f : k ≡ columnsAt n = rw (toZ-pos w32 n (omega arith)) at e in
+pub some-columns : {n k : ℕ} {t : Table} → t ≡ ten → n ≤ 10 → k ≡ columnsOf t (toZ w32 n) → countBytes k ++ relationBytes n ≡ columnsBytes n
+unfolding columnsBytes
+some-columns {n} {k} own h e =
+    let f : k ≡ columnsOf ten (pos n) = rw (own, toZ-pos w32 n (omega arith)) at e in
     rw (le-ltb 10 n h, f)
 
-pub fact-parts : {m k : ℕ} (ws : List ℤ) (j : ℕ)
+pub fact-parts : (table : Table) {m k : ℕ} (ws : List ℤ) (j : ℕ)
     → length ws ≡ 5
     → m ≡ natural (getD ws 0 (pos 0))
-    → k ≡ columnsOf (getD ws 0 (pos 0))
+    → k ≡ columnsOf table (getD ws 0 (pos 0))
     → j ≡ min k 4
-    → relationBytes m ++ termsBytes (take (1 + j - 1) (drop 1 ws)) ≡ factBytes ws
+    → relationBytes m ++ termsBytes (take (1 + j - 1) (drop 1 ws)) ≡ factBytes table ws
 unfolding factBytes
-fact-parts {m} {k} ws j n e f g =
+fact-parts table {m} {k} ws j n e f g =
     let q : 1 + j - 1 ≡ j = omega arith in
     let d : length (drop 1 ws) ≡ 4 = length-drop 1 ws ∙ rw n in
     let t : take j (drop 1 ws) ≡ take k (drop 1 ws) = rw (g, ← d) (take-least k (drop 1 ws)) in

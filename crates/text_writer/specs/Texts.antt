@@ -9,7 +9,7 @@ use Rattle.sheet_format.specs.Limits.{most-fields, line-words, field-end}
 use Rattle.sheet_format.specs.Field.{fieldBytes}
 use Rattle.sheet_format.specs.Line.{natural}
 use Rattle.sheet_format.specs.Cause.{termOf}
-use Rattle.sheet_format.specs.Relations.{columnsAt, columnsOf}
+use Rattle.sheet_format.specs.Table.{Table, columnsOf, ten}
 use Rattle.sheet_format.specs.declared.FieldTerm.{FieldTerm}
 use Rattle.sheet_format.specs.declared.FieldTerm.the-variants.{Constant, Variable, OutOfRange}
 use Rattle.text_buffer.specs.Words.{bytes}
@@ -91,20 +91,20 @@ relationNames =
     ∷ bytes "Pause"
     ∷ []
 
--- a relation's name; nothing where there is no such relation
+-- a relation's name; one beyond the ten is "R" and its number
 unfoldable pub relationBytes : ℕ → List ℕ
 relationBytes zero = []
-relationBytes (suc n) = getD relationNames n []
+relationBytes (suc n) = getD relationNames n (bytes "R" ++ numberBytes (suc n))
 
--- a fact's words are its relation and its terms, of which as many count as the relation has columns
-unfoldable pub factBytes : List ℤ → List ℕ
-factBytes ws = relationBytes (natural (getD ws 0 (pos 0))) ++ termsBytes (take (columnsOf (getD ws 0 (pos 0))) (drop 1 ws))
+-- a fact's words are its relation and its terms, of which as many count as the relation has columns by a table, t
+unfoldable pub factBytes : Table → List ℤ → List ℕ
+factBytes t ws = relationBytes (natural (getD ws 0 (pos 0))) ++ termsBytes (take (columnsOf t (getD ws 0 (pos 0))) (drop 1 ws))
 
 -- the first facts, as many as are counted and there
-unfoldable pub factsBytes : ℕ → List ℤ → List ℕ
-factsBytes count ws = separated (bytes ", ") (map factBytes (groups 5 (min count (length ws / 5)) ws))
+unfoldable pub factsBytes : Table → ℕ → List ℤ → List ℕ
+factsBytes t count ws = separated (bytes ", ") (map (factBytes t) (groups 5 (min count (length ws / 5)) ws))
 
--- ---- lines of the number form: the field count, the kind, and the other fields
+-- ---- lines of the number form: the field count, the kind, and the other fields. Relations go by a table, t.
 
 -- a field count or a kind; 0 for any other word
 abbrev pub small : ℤ → ℕ
@@ -123,8 +123,8 @@ abbrev pub headBytes : List ℤ → ℕ → List ℕ
 headBytes l kind = (letterOf kind ∷ []) ++ termsBytes (lineTerms l) ++ bytes ":"
 
 -- an atom: its fact, and a comma where another atom (4) follows; else "=" in a view (3)
-abbrev pub atomBytes : List ℤ → ℕ → ℕ → List ℕ
-atomBytes l block next = bytes " " ++ factBytes (drop 2 l) ++ cond (eqb next 4) (bytes ",") (if (eqb block 3) (bytes " ="))
+abbrev pub atomBytes : Table → List ℤ → ℕ → ℕ → List ℕ
+atomBytes t l block next = bytes " " ++ factBytes t (drop 2 l) ++ cond (eqb next 4) (bytes ",") (if (eqb block 3) (bytes " ="))
 
 -- a row's values: bare where there is one, in brackets where there are more or none
 abbrev pub valuesBytes : List ℤ → List ℕ
@@ -135,12 +135,12 @@ abbrev pub rowBytes : List ℤ → ℕ → List ℕ
 rowBytes l next = bytes " " ++ valuesBytes l ++ if (eqb next 5) (bytes ";")
 
 -- a line by its kind: an atom (4), a row (5), or a head
-abbrev pub kindBytes : List ℤ → ℕ → ℕ → ℕ → List ℕ
-kindBytes l kind block next = cond (eqb kind 4) (atomBytes l block next) (cond (eqb kind 5) (rowBytes l next) (headBytes l kind))
+abbrev pub kindBytes : Table → List ℤ → ℕ → ℕ → ℕ → List ℕ
+kindBytes t l kind block next = cond (eqb kind 4) (atomBytes t l block next) (cond (eqb kind 5) (rowBytes l next) (headBytes l kind))
 
 -- a line, and the end of the text's line where a head or nothing follows
-unfoldable pub lineText : List ℤ → ℕ → ℕ → ℕ → List ℕ
-lineText l kind block next = kindBytes l kind block next ++ if (ltb next 4) (bytes "\n")
+unfoldable pub lineText : Table → List ℤ → ℕ → ℕ → ℕ → List ℕ
+lineText t l kind block next = kindBytes t l kind block next ++ if (ltb next 4) (bytes "\n")
 
 -- the kind of the block that a line of a kind stands in, given that of the line before
 abbrev pub blockKind : ℕ → ℕ → ℕ
@@ -152,13 +152,13 @@ firstKind [] = 0
 firstKind (l ∷ ls) = lineKind l
 
 -- lines that follow one of a block
-unfoldable pub linesFrom : ℕ → List (List ℤ) → List ℕ
-linesFrom block [] = []
-linesFrom block (l ∷ ls) = lineText l (lineKind l) (blockKind (lineKind l) block) (firstKind ls) ++ linesFrom (blockKind (lineKind l) block) ls
+unfoldable pub linesFrom : Table → ℕ → List (List ℤ) → List ℕ
+linesFrom t block [] = []
+linesFrom t block (l ∷ ls) = lineText t l (lineKind l) (blockKind (lineKind l) block) (firstKind ls) ++ linesFrom t (blockKind (lineKind l) block) ls
 
 -- the text of a number form
-unfoldable pub linesBytes : List ℤ → List ℕ
-linesBytes ws = linesFrom 0 (groups line-words (length ws / line-words) ws)
+unfoldable pub linesBytes : Table → List ℤ → List ℕ
+linesBytes t ws = linesFrom t 0 (groups line-words (length ws / line-words) ws)
 
 -- ---- causes
 
@@ -181,9 +181,9 @@ abbrev pub nthText : List (List ℕ) → List ℕ → ℕ → List ℕ
 nthText texts other zero = other
 nthText texts other (suc n) = getD texts n other
 
--- what a cause says
+-- what a cause says; 15 is a table's
 abbrev pub causeBytes : ℕ → List ℕ
-causeBytes number = nthText causes (bytes "there is not room enough") number
+causeBytes number = cond (eqb number 15) (bytes "a line of the table is not right, or the table has none") (nthText causes (bytes "there is not room enough") number)
 
 -- a refusal's cause by its number, its line, and the line of the text, if any
 unfoldable pub placeBytes : ℕ → ℕ → ℕ → List ℕ
@@ -207,9 +207,9 @@ counts = bytes "one column in " ∷ bytes "two columns in " ∷ bytes "three col
 abbrev pub countBytes : ℕ → List ℕ
 countBytes columns = nthText counts (bytes "four columns in ") columns
 
--- the columns of a relation, and its name; nothing where there is no such relation
+-- the columns of a relation that has a name, by the library's own table, and its name; nothing for any other
 unfoldable pub columnsBytes : ℕ → List ℕ
-columnsBytes relation = cond (ltb 10 relation) [] (countBytes (columnsAt relation) ++ relationBytes relation)
+columnsBytes relation = cond (ltb 10 relation) [] (countBytes (columnsOf ten (pos relation)) ++ relationBytes relation)
 
 -- what is expected, by text_meaning's numbers for it, from 1 on
 abbrev pub expectations : ℕ → List (List ℕ)

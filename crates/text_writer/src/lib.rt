@@ -118,7 +118,7 @@ pub fn natural(w: i32) -> usize
     w as usize
 }
 
-// A relation's name.
+// A relation's name; one beyond the ten by its number.
 pub fn put_relation(out: &mut [u8], at: usize, relation: usize) -> usize
     ensures { λ r. ⌜ Put (now (out .entry)) (now (out .exit)) at (relationBytes relation) r ⌝ }
 {
@@ -126,7 +126,8 @@ pub fn put_relation(out: &mut [u8], at: usize, relation: usize) -> usize
         return at;
     }
     if 10 < relation {
-        return at;
+        let n = put_byte(out, at, b'R');
+        return put_number(out, n, relation);
     }
     let names = NAMES;
     let from = (relation - 1) * NAME;

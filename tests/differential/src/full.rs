@@ -1,10 +1,11 @@
 //! Sheets to judge up to every limit, many of them exactly at one, and which limits a sheet meets.
 
-use crate::generate::{any, atom, closed, facts, head, list_like, obeying, part, share_keys, taken, Lines, Stock};
+use crate::generate::{any, atom, closed, facts, family, head, list_like, obeying, part, share_keys, taken, with_view, Lines, Stock};
 use crate::large::{answers, Steps};
 use crate::meaning::Fact;
 use crate::random::Random;
-use crate::sheet::{key_of, Block, Sheet, COLUMNS, MOST_CONSTANT};
+use crate::sheet::{Block, Sheet, MOST_CONSTANT};
+use crate::table::Table;
 
 const LISTS: usize = 4;
 const VIEWS: usize = 8;
@@ -84,18 +85,17 @@ fn spread(atoms: &mut Lines) {
 }
 
 /// The answers of a view's lines on a log as rows' lines, where they are at most so many.
-fn rows_on(view: &Lines, log: &[Fact], most: usize) -> Option<Lines> {
-    let whole = [vec![vec![1], vec![4, 2, -1], vec![2], vec![4, 2, -1]], view.clone()].concat();
-    let sheet = taken(&whole)?;
+fn rows_on(table: &Table, view: &Lines, log: &[Fact], most: usize) -> Option<Lines> {
+    let sheet = taken(table, &with_view(table, view))?;
     let view = &sheet.views()[0];
-    let found = answers(view, log, &Steps::new(20_000))?;
+    let found = answers(table, view, log, &Steps::new(20_000))?;
     let row = |a: [i64; 4]| std::iter::once(5).chain(a[..view.head.len()].iter().copied()).collect();
     (found.len() <= most).then(|| found.into_iter().map(row).collect())
 }
 
 /// A view that lists a relation whole, in one atom or in three that the same fact meets.
-fn whole_view(random: &mut Random, relation: usize, atoms: usize) -> Lines {
-    let columns = COLUMNS[relation];
+fn whole_view(random: &mut Random, table: &Table, relation: usize, atoms: usize) -> Lines {
+    let columns = table.columns(relation);
     let own: Vec<i64> = (1..=columns as i64).map(|c| -c).collect();
     let mut lines = vec![[vec![3], own.clone()].concat(), [vec![4, relation as i64], own.clone()].concat()];
     for more in 1..atoms {
@@ -123,6 +123,11 @@ fn some_rows(random: &mut Random, columns: usize, key: usize, count: usize, valu
     rows
 }
 
+fn shuffle(random: &mut Random, relations: &mut [usize]) {
+    let last = relations.len() - 1;
+    (0..=last).for_each(|at| relations.swap(at, random.between(at, last)));
+}
+
 /// How many of something: as many as may be, or fewer.
 fn size(random: &mut Random, full: bool, often: usize, least: usize, most: usize) -> usize {
     if full || random.percent(often) {
@@ -133,29 +138,38 @@ fn size(random: &mut Random, full: bool, often: usize, least: usize, most: usize
 }
 
 /// A sheet whose rows are what a log gives its views, but for a few. One view lists a relation whole, and fills the rows up.
-fn drawn(random: &mut Random) -> Option<Lines> {
+fn drawn(random: &mut Random, table: &Table) -> Option<Lines> {
     let full = random.percent(30);
     let views = size(random, full, 50, 2, VIEWS);
     let mut left = size(random, full, 60, 8, ROWS);
-    let mut relations: Vec<usize> = (1..=10).collect();
-    for at in 0..10 {
-        relations.swap(at, random.between(at, 9));
+    let mut relations: Vec<usize> = (1..=table.last()).collect();
+    shuffle(random, &mut relations);
+    if !table.is_own() && random.percent(80) {
+        // A relation and its parent, which would seldom be drawn together.
+        let first = family(random, table, &[]);
+        relations.sort_by_key(|relation| !first.contains(relation));
+        let last = relations.len() - 1;
+        relations.swap(last, random.pick(&[0, 1, last, last, last]).min(last));
     }
     let filling = relations.pop().unwrap();
-    let free = relations.pop().unwrap();
+    let free = relations.pop().unwrap_or(filling);
     relations.truncate(random.between(2, 5));
+    if relations.is_empty() {
+        relations.push(free);
+    }
     let mut values: Vec<i64> = (1..=random.between(2, 9) as i64).collect();
     values.extend([0, MOST_CONSTANT].into_iter().filter(|_| random.percent(30)));
     let stock = Stock {
+        table,
         relations: relations.clone(),
         constants: values.clone(),
         variables: random.between(3, 12),
         fixed: random.pick(&[5, 15, 30]),
     };
     let count = random.between(4, 24);
-    let log = facts(random, &relations, &values, count);
-    let log = if random.percent(90) { closed(log) } else { log };
-    let log = if random.percent(90) { obeying(log) } else { log };
+    let log = facts(random, table, &relations, &values, count);
+    let log = if random.percent(90) { closed(table, log) } else { log };
+    let log = if random.percent(90) { obeying(table, log) } else { log };
     let (mut shown, mut atoms) = (Lines::new(), Lines::new());
     for _ in 0..views - 1 {
         let mut tries = 0;
@@ -164,7 +178,7 @@ fn drawn(random: &mut Random) -> Option<Lines> {
             let columns = random.pick(&[0, 1, 1, 2, 2, 3, 4]);
             let count = if full { VIEWED } else { random.between(1, VIEWED) };
             let view = linked(random, &stock, 3, columns, count);
-            match rows_on(&view, &log, left.min(10)) {
+            match rows_on(table, &view, &log, left.min(10)) {
                 Some(listed) => break (view, listed),
                 None if tries > 40 => return None,
                 None => {}
@@ -180,9 +194,10 @@ fn drawn(random: &mut Random) -> Option<Lines> {
         shown.extend(listed);
     }
     let count = if full { VIEWED } else { random.pick(&[1, VIEWED]) };
-    shown.extend(whole_view(random, filling, count));
-    let key = key_of(filling).filter(|_| random.percent(90)).unwrap_or(COLUMNS[filling]);
-    shown.extend(some_rows(random, COLUMNS[filling], key, left, &values));
+    shown.extend(whole_view(random, table, filling, count));
+    let columns = table.columns(filling);
+    let key = table.settling(filling).filter(|_| random.percent(90)).unwrap_or(columns);
+    shown.extend(some_rows(random, columns, key, left, &values));
     // The question asks for what the views show, for the relation that is listed whole, and for one that no view shows.
     let mut asked = Lines::new();
     let mut wide = Stock { relations: relations.clone(), ..stock };
@@ -218,22 +233,31 @@ fn drawn(random: &mut Random) -> Option<Lines> {
         lists.extend(list);
     }
     let lines = [question, lists, shown].concat();
-    taken(&lines).map(|_| lines)
+    taken(table, &lines).map(|_| lines)
 }
 
 /// A sheet with listed rows of three facts each that no other row gives, and a question of six more: cases of 126 facts, and of 252 where
-/// all are beats and noise, which owe a signal each.
-fn largest(random: &mut Random) -> Lines {
-    let owing = random.percent(40);
-    let mut relations: Vec<usize> = vec![1, 3, 4, 5, 6, 7, 8, 9];
-    for at in 0..8 {
-        relations.swap(at, random.between(at, 7));
+/// all owe a row each, as beats and noise do. Rows are told apart by the first two columns; where one settles the other there is no such
+/// sheet.
+fn largest(random: &mut Random, table: &Table) -> Option<Lines> {
+    let all = 1..=table.last();
+    let (wide, narrow): (Vec<usize>, Vec<usize>) = all.partition(|relation| table.columns(*relation) > 1);
+    let mut relations: Vec<usize> = wide.into_iter().filter(|relation| table.settling(*relation) != Some(1)).collect();
+    if relations.is_empty() {
+        return None;
     }
-    let mut rest: Vec<usize> = relations.split_off(3).into_iter().chain([2, 10]).collect();
+    let owed: Vec<usize> = relations.iter().copied().filter(|relation| table.parent(*relation).is_some()).collect();
+    let owing = random.percent(40) && !owed.is_empty();
+    shuffle(random, &mut relations);
+    let others = if relations.len() > VIEWED { relations.split_off(VIEWED) } else { relations.clone() };
+    let mut rest: Vec<usize> = others.into_iter().chain(narrow).cycle().take(10).collect();
     if owing {
-        relations = vec![5, 6, 5];
-        rest = vec![5, 6, 5, 6, 5, 6];
+        relations = owed.iter().copied().cycle().take(VIEWED).collect();
+        rest = owed.into_iter().cycle().take(ASKED).collect();
     }
+    // Atoms of one relation in a view have numbers of their own.
+    let apart = owing || relations.len() < VIEWED;
+    relations = relations.into_iter().cycle().take(VIEWED).collect();
     let mut next = 0;
     let mut term = |random: &mut Random, often: usize| {
         next += 1;
@@ -243,8 +267,10 @@ fn largest(random: &mut Random) -> Lines {
             random.below(20) as i64
         }
     };
-    let asked: Lines =
-        rest[..ASKED].iter().map(|r| [4, *r as i64].into_iter().chain((0..COLUMNS[*r]).map(|_| term(random, 60))).collect()).collect();
+    let asked: Lines = rest[..ASKED]
+        .iter()
+        .map(|r| [4, *r as i64].into_iter().chain((0..table.columns(*r)).map(|_| term(random, 60))).collect())
+        .collect();
     let question = [vec![vec![1]], asked].concat();
     let mut lines = question.clone();
     for _ in 0..random.pick(&[1, 1, 2, LISTS]) {
@@ -264,24 +290,26 @@ fn largest(random: &mut Random) -> Lines {
         left -= count;
         shift += if random.percent(8) { 0 } else { 1 };
         let atom = |(at, relation): (usize, &usize)| {
-            let more = (2..COLUMNS[*relation]).map(|column| -((2 + 4 * at + column) as i64));
-            let own = if owing { 1_000 * at as i64 } else { 0 };
+            let more = (2..table.columns(*relation)).map(|column| -((2 + 4 * at + column) as i64));
+            let own = if apart { 1_000 * at as i64 } else { 0 };
             [4, *relation as i64, -1, 100 + shift + own].into_iter().chain(more).map(|t| t.max(-12)).collect()
         };
         lines.push(vec![3, -1]);
         lines.extend(relations.iter().enumerate().map(atom).collect::<Lines>());
         lines.extend(some_rows(random, 1, 1, count, &[1, 2, 3, 4, 5, 6, 7, 8]));
     }
-    lines
+    Some(lines)
 }
 
 /// A sheet to judge, up to the limits, and the name of what it is.
-pub fn sheet(random: &mut Random) -> (&'static str, Lines) {
+pub fn sheet(random: &mut Random, table: &Table) -> (&'static str, Lines) {
     if random.percent(12) {
-        return ("up to the limits, large cases", largest(random));
+        if let Some(lines) = largest(random, table) {
+            return ("up to the limits, large cases", lines);
+        }
     }
     loop {
-        if let Some(lines) = drawn(random) {
+        if let Some(lines) = drawn(random, table) {
             return ("up to the limits", lines);
         }
     }

@@ -1,9 +1,12 @@
-//! Inputs: sheets that are right, at the limits, damaged or random; facts likewise; small sheets to judge.
+//! Inputs: sheets that are right, at the limits, damaged or random; facts likewise; small sheets to judge. All are drawn by a table of
+//! relations; by the own ten they are what they were before there were other tables, number by number.
 
+use crate::clubs;
 use crate::large;
 use crate::meaning::{answers, owed, Fact, MADE_UP, MOST_VALUE};
 use crate::random::Random;
-use crate::sheet::{blocks, bytes_of, key_of, Sheet, COLUMNS, MOST_CONSTANT};
+use crate::sheet::{blocks, bytes_of, Sheet, MOST_CONSTANT};
+use crate::table::Table;
 use std::collections::{BTreeMap, BTreeSet};
 use std::sync::atomic::{AtomicBool, Ordering};
 
@@ -13,7 +16,8 @@ pub type Lines = Vec<Vec<i64>>;
 const LEAST_OF_SEVEN: i64 = 1_000_000;
 
 /// What blocks are drawn from.
-pub struct Stock {
+pub struct Stock<'a> {
+    pub table: &'a Table,
     pub relations: Vec<usize>,
     pub constants: Vec<i64>,
     pub variables: usize,
@@ -21,21 +25,24 @@ pub struct Stock {
     pub fixed: usize,
 }
 
-impl Stock {
+impl<'a> Stock<'a> {
     /// A few relations and constants, so that blocks meet.
-    pub fn few(random: &mut Random) -> Stock {
+    pub fn few(random: &mut Random, table: &'a Table) -> Stock<'a> {
         let pool = [0, 1, 2, 7, 8, 42, MOST_CONSTANT];
+        let count = random.between(1, 3);
         Stock {
-            relations: (0..random.between(1, 3)).map(|_| random.between(1, 10)).collect(),
+            table,
+            relations: some_relations(random, table, count),
             constants: (0..random.between(1, 3)).map(|_| random.pick(&pool)).collect(),
             variables: random.between(1, 5),
             fixed: random.pick(&[0, 15, 15, 40]),
         }
     }
 
-    pub fn wide(random: &mut Random) -> Stock {
+    pub fn wide(random: &mut Random, table: &'a Table) -> Stock<'a> {
         Stock {
-            relations: (1..=10).collect(),
+            table,
+            relations: (1..=table.last()).collect(),
             constants: (0..12).map(|_| any(random)).chain([0, MOST_CONSTANT]).collect(),
             variables: 12,
             fixed: random.pick(&[5, 30, 80]),
@@ -47,11 +54,41 @@ impl Stock {
     }
 }
 
+/// A relation, its parent and those that owe the same rows; the relation is one of the favoured, where there are any.
+pub fn family(random: &mut Random, table: &Table, favoured: &[usize]) -> Vec<usize> {
+    let one = if favoured.is_empty() { random.between(1, table.last()) } else { random.pick(favoured) };
+    let root = table.parent(one).unwrap_or(one);
+    let mut others: Vec<usize> = std::iter::once(root).chain(table.owing(root)).filter(|other| *other != one).collect();
+    // The parent first, mostly, and few of the others.
+    if random.percent(30) {
+        others.reverse();
+    }
+    others.truncate(random.between(1, 3));
+    [vec![one], others].concat()
+}
+
+/// The relations of a table that have to do with another: they owe rows, or are owed some.
+fn related(table: &Table) -> Vec<usize> {
+    (1..=table.last()).filter(|relation| table.parent(*relation).is_some() || table.owing(*relation).next().is_some()).collect()
+}
+
+/// So many relations of a table. Of the own ten each is drawn by itself. Of a larger table a relation and its parent would seldom meet so;
+/// they come from a family, and from a few others.
+fn some_relations(random: &mut Random, table: &Table, count: usize) -> Vec<usize> {
+    if table.is_own() {
+        return (0..count).map(|_| random.between(1, table.last())).collect();
+    }
+    let favoured = if random.percent(60) { related(table) } else { vec![] };
+    let mut pool = family(random, table, &favoured);
+    pool.extend((0..random.below(3)).map(|_| random.between(1, table.last())));
+    (0..count).map(|_| random.pick(&pool)).collect()
+}
+
 /// An atom's line.
 pub fn atom(random: &mut Random, stock: &Stock) -> Vec<i64> {
     let relation = random.pick(&stock.relations);
     let mut line = vec![4, relation as i64];
-    for _ in 0..COLUMNS[relation] {
+    for _ in 0..stock.table.columns(relation) {
         line.push(if random.percent(stock.fixed) { stock.constant(random) } else { -(random.between(1, stock.variables) as i64) });
     }
     line
@@ -61,7 +98,7 @@ pub fn atom(random: &mut Random, stock: &Stock) -> Vec<i64> {
 /// other blocks.
 pub fn share_keys(random: &mut Random, stock: &Stock, atoms: &mut Lines) {
     for at in 0..atoms.len() {
-        let Some(key) = key_of(atoms[at][1] as usize) else { continue };
+        let Some(key) = stock.table.key(atoms[at][1] as usize) else { continue };
         let earlier: Vec<Vec<i64>> = atoms[..at].iter().filter(|line| line[1] == atoms[at][1]).cloned().collect();
         match random.below(10) {
             0..=3 if !earlier.is_empty() => {
@@ -145,8 +182,8 @@ fn terms_at(line: &[i64]) -> usize {
 }
 
 /// The same sheet and log with other numbers of seven digits for its constants, in the same order.
-fn with_seven_digits(random: &mut Random, lines: &Lines, log: &[Fact]) -> (Lines, Vec<Fact>) {
-    let values = log.iter().flat_map(|f| f[1..=COLUMNS[f[0] as usize]].iter().map(|v| *v as i64));
+fn with_seven_digits(random: &mut Random, table: &Table, lines: &Lines, log: &[Fact]) -> (Lines, Vec<Fact>) {
+    let values = log.iter().flat_map(|f| f[1..=table.columns(f[0] as usize)].iter().map(|v| *v as i64));
     let old: BTreeSet<i64> = lines.iter().flat_map(|l| l[terms_at(l)..].iter().copied()).filter(|t| *t >= 0).chain(values).collect();
     let mut new: BTreeSet<i64> = match random.below(3) {
         0 => (LEAST_OF_SEVEN..).take(old.len()).collect(),
@@ -161,34 +198,38 @@ fn with_seven_digits(random: &mut Random, lines: &Lines, log: &[Fact]) -> (Lines
     let lines = lines.iter().map(|l| l[..terms_at(l)].iter().copied().chain(l[terms_at(l)..].iter().map(raised)).collect()).collect();
     let mut log = log.to_vec();
     for fact in &mut log {
-        let columns = COLUMNS[fact[0] as usize];
+        let columns = table.columns(fact[0] as usize);
         fact[1..=columns].iter_mut().for_each(|v| *v = raised(&(*v as i64)) as i32);
     }
     (lines, log)
 }
 
 /// A sheet and a log as they are drawn; one in four has constants of seven digits alone.
-pub fn at_times_seven_digits(random: &mut Random, draw: impl FnOnce(&mut Random) -> (Lines, Vec<Fact>)) -> (Lines, Vec<Fact>) {
-    let (lines, log) = draw(random);
+pub fn at_times_seven_digits(
+    random: &mut Random,
+    table: &Table,
+    draw: impl FnOnce(&mut Random, &Table) -> (Lines, Vec<Fact>),
+) -> (Lines, Vec<Fact>) {
+    let (lines, log) = draw(random, table);
     if random.percent(25) {
-        with_seven_digits(random, &lines, &log)
+        with_seven_digits(random, table, &lines, &log)
     } else {
         (lines, log)
     }
 }
 
 /// A small sheet to judge; one in four has constants of seven digits alone.
-pub fn small_or_seven_digits(random: &mut Random) -> Lines {
-    at_times_seven_digits(random, |random| (small(random), vec![])).0
+pub fn small_or_seven_digits(random: &mut Random, table: &Table) -> Lines {
+    at_times_seven_digits(random, table, |random, table| (small(random, table), vec![])).0
 }
 
 /// A sheet within the limits; one in four has constants of seven digits alone.
-pub fn right(random: &mut Random) -> Lines {
-    at_times_seven_digits(random, |random| (within(random), vec![])).0
+pub fn right(random: &mut Random, table: &Table) -> Lines {
+    at_times_seven_digits(random, table, |random, table| (within(random, table), vec![])).0
 }
 
-fn within(random: &mut Random) -> Lines {
-    let stock = if random.percent(50) { Stock::few(random) } else { Stock::wide(random) };
+fn within(random: &mut Random, table: &Table) -> Lines {
+    let stock = if random.percent(50) { Stock::few(random, table) } else { Stock::wide(random, table) };
     let (views, mut left) = (random.below(9), 40);
     let sizes = Sizes {
         columns: random.below(5),
@@ -206,8 +247,8 @@ fn within(random: &mut Random) -> Lines {
 }
 
 /// A sheet whose parts meet their limits exactly, or exceed one of them by one.
-pub fn at_limits(random: &mut Random) -> Lines {
-    let stock = Stock::wide(random);
+pub fn at_limits(random: &mut Random, table: &Table) -> Lines {
+    let stock = Stock::wide(random, table);
     let over = random.below(20);
     let more = |which: usize| (over == which) as usize;
     let views = random.pick(&[8, 8, 8, 1]) + more(0);
@@ -306,8 +347,9 @@ pub fn damage_lines(random: &mut Random, lines: &mut Lines) {
 }
 
 /// More causes on the line that is refused already, or on any: its fields changed, added or taken away, or those of the line before.
-fn damage_line(random: &mut Random, lines: &mut Lines) {
-    let refused = blocks(&lines.iter().cloned().map(Some).collect::<Vec<_>>()).err().map_or(0, |r| r.line);
+fn damage_line(random: &mut Random, table: &Table, lines: &mut Lines) {
+    let last = table.last() as i64;
+    let refused = blocks(table, &lines.iter().cloned().map(Some).collect::<Vec<_>>()).err().map_or(0, |r| r.line);
     let at = if refused > 0 && random.percent(80) { refused - 1 } else { random.below(lines.len()) };
     for _ in 0..random.between(1, 4) {
         let place = random.below(lines[at].len());
@@ -317,7 +359,7 @@ fn damage_line(random: &mut Random, lines: &mut Lines) {
             }
             1 => lines[at].push(random.pick(&FIELDS)),
             2 if at > 0 => lines[at] = lines[at - 1].clone(),
-            3 if lines[at].len() > 1 => lines[at][1] = random.pick(&[0, 1, 11, -1, 9, 10_000_000]),
+            3 if lines[at].len() > 1 => lines[at][1] = random.pick(&[0, 1, last + 1, -1, last - 1, 10_000_000]),
             4 | 5 => lines[at][place] = random.pick(&[10_000_000, -13, -1, 0]),
             _ => lines[at][place] = random.pick(&FIELDS),
         }
@@ -403,22 +445,28 @@ pub fn random_bytes(random: &mut Random, most: usize) -> Vec<u8> {
 }
 
 /// Lines of a sheet and the name of what they are.
-pub fn lines(random: &mut Random) -> (&'static str, Lines) {
+pub fn lines(random: &mut Random, table: &Table) -> (&'static str, Lines) {
+    // Of another table's sheets some name a relation that the table lacks, as it may be one of the own ten.
+    if !table.is_own() && random.percent(8) {
+        let mut lines = right(random, table);
+        clubs::misname(random, table, &mut lines);
+        return ("a relation misnamed", lines);
+    }
     match random.below(20) {
-        0..=4 => ("right", right(random)),
-        5..=8 => ("at the limits", at_limits(random)),
+        0..=4 => ("right", right(random, table)),
+        5..=8 => ("at the limits", at_limits(random, table)),
         9..=11 => {
-            let mut lines = if random.percent(40) { right(random) } else { at_limits(random) };
-            damage_line(random, &mut lines);
+            let mut lines = if random.percent(40) { right(random, table) } else { at_limits(random, table) };
+            damage_line(random, table, &mut lines);
             ("several causes in a line", lines)
         }
         12 => {
-            let mut lines = right(random);
+            let mut lines = right(random, table);
             damage_heads(random, &mut lines);
             ("heads damaged", lines)
         }
         13..=18 => {
-            let mut lines = if random.percent(75) { right(random) } else { at_limits(random) };
+            let mut lines = if random.percent(75) { right(random, table) } else { at_limits(random, table) };
             for _ in 0..random.pick(&[1, 1, 1, 2, 3]) {
                 damage_lines(random, &mut lines);
             }
@@ -429,14 +477,14 @@ pub fn lines(random: &mut Random) -> (&'static str, Lines) {
 }
 
 /// A sheet's bytes and the name of what they are.
-pub fn sheet(random: &mut Random) -> (&'static str, Vec<u8>) {
+pub fn sheet(random: &mut Random, table: &Table) -> (&'static str, Vec<u8>) {
     match random.below(20) {
         0..=12 => {
-            let (name, lines) = lines(random);
+            let (name, lines) = lines(random, table);
             (name, bytes_of(&lines))
         }
         13..=16 => {
-            let mut bytes = bytes_of(&if random.percent(75) { right(random) } else { at_limits(random) });
+            let mut bytes = bytes_of(&if random.percent(75) { right(random, table) } else { at_limits(random, table) });
             for _ in 0..random.pick(&[1, 1, 1, 2, 3]) {
                 damage_bytes(random, &mut bytes);
             }
@@ -444,7 +492,7 @@ pub fn sheet(random: &mut Random) -> (&'static str, Vec<u8>) {
         }
         17 => {
             // As long as a sheet's bytes may be, or one more: by a sheet said again, or by bytes of one kind.
-            let mut bytes = bytes_of(&right(random));
+            let mut bytes = bytes_of(&right(random, table));
             let fill = random.pick(&[10u8, 32, 48, 255]);
             let again = random.percent(50);
             let length = random.pick(&[8191, 8192, 8192, 8193, 8193, 8194, 9000, 5243, 5244]);
@@ -460,11 +508,11 @@ pub fn sheet(random: &mut Random) -> (&'static str, Vec<u8>) {
 }
 
 /// A number form and the name of what it is.
-pub fn form(random: &mut Random) -> (&'static str, Vec<i32>) {
+pub fn form(random: &mut Random, table: &Table) -> (&'static str, Vec<i32>) {
     let wide = [100_000_000, -10_000_000, 99_999_999, -9_999_999, i32::MAX, i32::MIN, 0, 1, -1, 7, 6, 9_999_999, 10_000_000, -12, -13];
     match random.below(20) {
         0..=11 => {
-            let (name, lines) = lines(random);
+            let (name, lines) = lines(random, table);
             let mut words = crate::sheet::words_of(&lines);
             for (at, line) in lines.iter().enumerate() {
                 if line.len() > 6 && random.percent(50) {
@@ -474,7 +522,7 @@ pub fn form(random: &mut Random) -> (&'static str, Vec<i32>) {
             (name, words)
         }
         12..=15 => {
-            let mut words = crate::sheet::words_of(&right(random));
+            let mut words = crate::sheet::words_of(&right(random, table));
             for _ in 0..random.pick(&[1, 1, 2]) {
                 let at = random.below(words.len());
                 match random.below(6) {
@@ -487,7 +535,7 @@ pub fn form(random: &mut Random) -> (&'static str, Vec<i32>) {
             ("a word damaged", words)
         }
         16 | 17 => {
-            let mut words = crate::sheet::words_of(&if random.percent(50) { right(random) } else { at_limits(random) });
+            let mut words = crate::sheet::words_of(&if random.percent(50) { right(random, table) } else { at_limits(random, table) });
             let length = random.pick(&[
                 words.len() - 1,
                 words.len() + 1,
@@ -518,21 +566,21 @@ pub fn form(random: &mut Random) -> (&'static str, Vec<i32>) {
 }
 
 /// The blocks of lines that are right.
-pub fn taken(lines: &Lines) -> Option<Sheet> {
-    blocks(&lines.iter().cloned().map(Some).collect::<Vec<_>>()).ok()
+pub fn taken(table: &Table, lines: &Lines) -> Option<Sheet> {
+    blocks(table, &lines.iter().cloned().map(Some).collect::<Vec<_>>()).ok()
 }
 
 /// Facts for a sheet, ascending: of its relations, with its constants and a few more values.
-pub fn facts(random: &mut Random, relations: &[usize], values: &[i64], count: usize) -> Vec<Fact> {
+pub fn facts(random: &mut Random, table: &Table, relations: &[usize], values: &[i64], count: usize) -> Vec<Fact> {
     let mut all: Vec<Fact> = Vec::new();
     for _ in 0..count {
-        let relation = if random.percent(90) { random.pick(relations) } else { random.between(1, 10) };
+        let relation = if random.percent(90) { random.pick(relations) } else { random.between(1, table.last()) };
         let mut fact = [0; 5];
         fact[0] = relation as i32;
-        for word in &mut fact[1..=COLUMNS[relation]] {
+        for word in &mut fact[1..=table.columns(relation)] {
             *word = random.pick(values) as i32;
         }
-        if let Some(key) = key_of(relation).filter(|_| random.percent(30)) {
+        if let Some(key) = table.key(relation).filter(|_| random.percent(30)) {
             fact[1..=key].fill(values[0] as i32);
         }
         all.push(fact);
@@ -542,17 +590,32 @@ pub fn facts(random: &mut Random, relations: &[usize], values: &[i64], count: us
     all
 }
 
-/// The facts without those that a key forbids beside earlier ones.
-pub fn obeying(mut log: Vec<Fact>) -> Vec<Fact> {
-    let key = |fact: &Fact| key_of(fact[0] as usize).map(|key| fact[..=key].to_vec());
-    let mut seen = BTreeSet::new();
-    log.retain(|fact| key(fact).is_none_or(|key| seen.insert(key)));
+/// The facts without those that a key forbids beside earlier ones, in their own relation or, as rows that are owed, in its parent. What
+/// has all that it owes still has it: a row that goes for its key takes those with it that owe it.
+pub fn obeying(table: &Table, mut log: Vec<Fact>) -> Vec<Fact> {
+    let mut first: BTreeMap<Vec<i32>, Fact> = BTreeMap::new();
+    log.retain(|fact| {
+        let keyed: Vec<(Vec<i32>, Fact)> = std::iter::once(*fact)
+            .chain(owed(table, fact))
+            .filter_map(|row| table.key(row[0] as usize).map(|key| (row[..=key].to_vec(), row)))
+            .collect();
+        let obeys = keyed.iter().all(|(key, row)| first.get(key).is_none_or(|there| there == row));
+        if obeys {
+            first.extend(keyed);
+        }
+        obeys
+    });
     log
 }
 
 /// The facts with the rows that they owe.
-pub fn closed(mut log: Vec<Fact>) -> Vec<Fact> {
-    let owed: Vec<Fact> = log.iter().filter_map(owed).collect();
+pub fn closed(table: &Table, log: Vec<Fact>) -> Vec<Fact> {
+    closed_but_for(table, log, &[])
+}
+
+/// The facts with the rows that they owe to other relations than these.
+fn closed_but_for(table: &Table, mut log: Vec<Fact>, relations: &[usize]) -> Vec<Fact> {
+    let owed: Vec<Fact> = log.iter().filter_map(|fact| owed(table, fact)).filter(|row| !relations.contains(&(row[0] as usize))).collect();
     log.extend(owed);
     log.sort();
     log.dedup();
@@ -560,18 +623,18 @@ pub fn closed(mut log: Vec<Fact>) -> Vec<Fact> {
 }
 
 /// A sheet, a block number and fact words to evaluate, and the name of what they are.
-pub fn evaluation(random: &mut Random) -> (&'static str, Vec<u8>, usize, Vec<i32>) {
+pub fn evaluation(random: &mut Random, table: &Table) -> (&'static str, Vec<u8>, usize, Vec<i32>) {
     if random.percent(12) {
-        let (_, bytes) = sheet(random);
+        let (_, bytes) = sheet(random, table);
         let words = (0..random.below(12)).map(|_| random.below(4) as i32).collect();
         let number = random.below(5);
-        if crate::sheet::of_bytes(&bytes).is_err() {
+        if crate::sheet::of_bytes(table, &bytes).is_err() {
             return ("a sheet of any kind", bytes, number, words);
         }
     }
     loop {
-        let lines = right(random);
-        let Some(sheet) = taken(&lines) else { continue };
+        let lines = right(random, table);
+        let Some(sheet) = taken(table, &lines) else { continue };
         let any = random.between(1, sheet.blocks.len());
         let number = random.pick(&[1, 2, 3, any, any]).min(sheet.blocks.len());
         let block = &sheet.blocks[number - 1];
@@ -583,7 +646,7 @@ pub fn evaluation(random: &mut Random) -> (&'static str, Vec<u8>, usize, Vec<i32
             values.extend([0, MOST_CONSTANT, MADE_UP as i64, MOST_VALUE as i64]);
         }
         let count = random.pick(&[0, 1, 3, 6, 12, 20, 40]);
-        let mut log = facts(random, &relations, &values, count);
+        let mut log = facts(random, table, &relations, &values, count);
         // What a few valuations make of the atoms, so that there are answers.
         for _ in 0..random.pick(&[0, 1, 1, 2, 4]) {
             let valuation: Vec<i64> = (0..13).map(|_| random.pick(&values)).collect();
@@ -603,10 +666,10 @@ pub fn evaluation(random: &mut Random) -> (&'static str, Vec<u8>, usize, Vec<i32
             // As many facts as may be, or one more.
             let length = random.pick(&[255, 256, 256, 257, 257, 258]);
             while log.len() < length {
-                let relation = random.between(1, 10);
+                let relation = random.between(1, table.last());
                 let mut fact = [0; 5];
                 fact[0] = relation as i32;
-                for word in &mut fact[1..=COLUMNS[relation]] {
+                for word in &mut fact[1..=table.columns(relation)] {
                     *word = random.below(MOST_VALUE as usize + 1) as i32;
                 }
                 log.push(fact);
@@ -621,9 +684,9 @@ pub fn evaluation(random: &mut Random) -> (&'static str, Vec<u8>, usize, Vec<i32
         }
         let mut words: Vec<i32> = log.concat();
         let name = if random.percent(30) {
-            damage_facts(random, &mut words);
+            damage_facts(random, table, &mut words);
             if random.percent(20) {
-                damage_facts(random, &mut words);
+                damage_facts(random, table, &mut words);
             }
             "facts damaged"
         } else if many {
@@ -636,12 +699,12 @@ pub fn evaluation(random: &mut Random) -> (&'static str, Vec<u8>, usize, Vec<i32
     }
 }
 
-fn damage_facts(random: &mut Random, words: &mut Vec<i32>) {
-    let count = words.len() / 5;
+fn damage_facts(random: &mut Random, table: &Table, words: &mut Vec<i32>) {
+    let (count, last) = (words.len() / 5, table.last() as i32);
     let values = [MOST_VALUE, MOST_VALUE + 1, -1, 0, i32::MAX, i32::MIN, MADE_UP, 1];
     if count == 0 || random.percent(10) {
         let more = random.pick(&[1, 2, 3, 4, 5]);
-        words.extend((0..more).map(|_| random.pick(&[0, 1, 11, -1])));
+        words.extend((0..more).map(|_| random.pick(&[0, 1, last + 1, -1])));
         return;
     }
     let at = random.below(count) * 5;
@@ -658,7 +721,7 @@ fn damage_facts(random: &mut Random, words: &mut Vec<i32>) {
             let fact: Vec<i32> = words[at..at + 5].to_vec();
             words.splice(at..at, fact);
         }
-        3 => words[at] = random.pick(&[0, 11, -1, i32::MAX, i32::MIN, 10, 1]),
+        3 => words[at] = random.pick(&[0, last + 1, -1, i32::MAX, i32::MIN, last, 1]),
         4 => words[at + random.between(1, 4)] = random.pick(&values),
         5 => words[at + 1] = random.pick(&values),
         6 => words[at + 4] = random.pick(&[1, -1, 0]),
@@ -741,11 +804,15 @@ fn lists(random: &mut Random, stock: &Stock, question: &Lines) -> Lines {
     lines
 }
 
+/// A view's lines behind a question and a list, as a sheet.
+pub fn with_view(table: &Table, view: &Lines) -> Lines {
+    let first = [vec![4, 1], vec![-1; table.columns(1)]].concat();
+    [vec![vec![1], first.clone(), vec![2], first], view.clone()].concat()
+}
+
 /// The answers of a block on a log as rows' lines.
-fn given_rows(lines: &Lines, log: &[Fact]) -> Option<Lines> {
-    let mut whole = vec![vec![1], vec![4, 2, -1], vec![2], vec![4, 2, -1]];
-    whole.extend(lines.iter().cloned());
-    let sheet = taken(&whole)?;
+fn given_rows(table: &Table, lines: &Lines, log: &[Fact]) -> Option<Lines> {
+    let sheet = taken(table, &with_view(table, lines))?;
     let view = &sheet.views()[0];
     Some(answers(view, log).iter().map(|a| std::iter::once(5).chain(a[..view.head.len()].iter().copied()).collect()).collect())
 }
@@ -758,43 +825,117 @@ pub fn deep() -> bool {
 }
 
 /// A small sheet to judge, with few variables in all. Its valuations are so many that they can be tried.
-pub fn small(random: &mut Random) -> Lines {
+pub fn small(random: &mut Random, table: &Table) -> Lines {
     let keyed = random.percent(20);
-    small_of(random, keyed)
+    small_of(random, table, keyed)
 }
 
-/// A small sheet of Worn and Pulse whose verdict would mostly be another one if no column settled another.
-pub fn resting_on_keys(random: &mut Random) -> Lines {
+/// A small sheet, of relations with keys (Worn and Pulse, by the own ten) or of any, that mostly is as it is wanted.
+fn small_that(random: &mut Random, table: &Table, keyed: bool, wanted: impl Fn(&Sheet) -> bool) -> Lines {
     for _ in 0..200 {
-        let lines = small_of(random, true);
-        let sheet = taken(&lines).unwrap();
-        let with = large::verdict(&sheet, KEY_STEPS).ok().flatten();
-        if with.is_some() && with != large::verdict_without_keys(&sheet, KEY_STEPS).ok().flatten() {
+        let lines = small_of(random, table, keyed);
+        if wanted(&taken(table, &lines).unwrap()) {
             return lines;
         }
     }
-    small(random)
+    small(random, table)
+}
+
+/// Whether the verdict would be another one by a table that asks less.
+fn rests_on_more_than(sheet: &Sheet, less: &Table) -> bool {
+    let with = large::verdict(sheet, LAW_STEPS).ok().flatten();
+    with.is_some() && with != large::verdict_by(sheet, less.clone(), LAW_STEPS).ok().flatten()
+}
+
+/// Whether there is a case that has rows which are owed, and which a key holds of.
+fn has_owing_case(sheet: &Sheet) -> bool {
+    let there = sheet.views().iter().filter(|view| !view.rows.is_empty()).chain([sheet.question()]);
+    let owes = |relation: usize| sheet.table.parent(relation).is_some() && sheet.table.settling(relation).is_some();
+    there.flat_map(|block| &block.atoms).any(|atom| owes(atom.relation)) && large::verdict(sheet, LAW_STEPS) == Ok(Some(1))
+}
+
+/// A small sheet whose verdict mostly rests on what the table asks of logs: keys, and by another table than the own ten parents too, or
+/// the keys of parents alone; or one whose case has keys and parents together.
+pub fn resting_on_laws(random: &mut Random, table: &Table) -> (&'static str, Lines) {
+    let (keys, parents, of_parents) = (table.without_keys(), table.without_parents(), table.without_keys_of_parents());
+    if table.is_own() {
+        return ("small, resting on keys", small_that(random, table, true, |sheet| rests_on_more_than(sheet, &keys)));
+    }
+    let together = (1..=table.last()).any(|relation| table.parent(relation).is_some() && table.settling(relation).is_some());
+    match random.below(4) {
+        0 if keys != *table => ("small, resting on keys", small_that(random, table, true, |sheet| rests_on_more_than(sheet, &keys))),
+        1 if parents != *table => {
+            ("small, resting on parents", small_that(random, table, false, |sheet| rests_on_more_than(sheet, &parents)))
+        }
+        2 if of_parents != *table => {
+            ("small, resting on keys of parents", small_that(random, table, true, |sheet| rests_on_more_than(sheet, &of_parents)))
+        }
+        3 if together => ("small, a case with keys and parents", small_that(random, table, true, has_owing_case)),
+        _ => ("small", small(random, table)),
+    }
 }
 
 /// The steps of `large` for a sheet that is only looked for.
-const KEY_STEPS: u64 = 20_000;
+const LAW_STEPS: u64 = 20_000;
 
-fn small_of(random: &mut Random, keyed: bool) -> Lines {
+/// The relations that a small sheet is drawn from, where it is not those of any stock. Of another table than the own ten they are a
+/// family, and sometimes one more; those of tiny sheets have one column or two, so that all logs can be tried.
+fn pool(random: &mut Random, table: &Table, keyed: bool, tiny: bool) -> Vec<usize> {
+    if table.is_own() {
+        let pool: &[usize] = match (tiny, keyed) {
+            (true, _) => &[2, 10],
+            (false, true) => &[3, 7, 3, 7, 7, 5, 2],
+            (false, false) => &[2, 10, 4, 5, 6, 1, 8, 4, 5, 7, 3],
+        };
+        return pool.to_vec();
+    }
+    let all = 1..=table.last();
+    let favoured: Vec<usize> = match (tiny, keyed) {
+        (true, _) => {
+            let narrow: Vec<usize> = all.filter(|relation| table.columns(*relation) < 3).collect();
+            if narrow.is_empty() {
+                return vec![];
+            }
+            // Those with one column are the fewest to try; those with two can have keys.
+            let least = narrow.iter().map(|relation| table.columns(*relation)).min().unwrap();
+            let widest = if random.percent(50) { least } else { 2 };
+            narrow.into_iter().filter(|relation| table.columns(*relation) <= widest).collect()
+        }
+        (false, true) => all.filter(|relation| table.settling(*relation).is_some()).collect(),
+        (false, false) => related(table),
+    };
+    let mut pool = family(random, table, &favoured);
+    if !tiny {
+        // The one that was favoured most often, and at times a stranger.
+        pool.insert(0, pool[0]);
+        if random.percent(50) {
+            pool.push(random.between(1, table.last()));
+        }
+    }
+    pool
+}
+
+fn small_of(random: &mut Random, table: &Table, keyed: bool) -> Lines {
     let (least, most) = random.pick(&[(0, 400), (0, 400), (50, 400), (400, 5_000), (400, 5_000), (5_000, 60_000)]);
     let (least, most) = if deep() { (50_000, 5_000_000) } else { (least, most) };
     let tiny = !keyed && most == 400 && random.percent(25);
     loop {
-        let mut stock = Stock::few(random);
-        if tiny {
-            stock.relations = vec![2, 10];
+        let mut stock = Stock::few(random, table);
+        let narrow = if tiny { pool(random, table, false, true) } else { vec![] };
+        if !narrow.is_empty() {
+            stock.relations = narrow;
             stock.relations.truncate(random.between(1, 2));
             stock.constants.truncate(2);
-        } else if keyed {
-            stock.relations = (0..random.between(1, 3)).map(|_| random.pick(&[3, 7, 3, 7, 7, 5, 2])).collect();
-        } else if random.percent(80) {
-            stock.relations = (0..random.between(1, 3)).map(|_| random.pick(&[2, 10, 4, 5, 6, 1, 8, 4, 5, 7, 3])).collect();
+        } else if keyed || random.percent(80) {
+            let pool = pool(random, table, keyed, false);
+            stock.relations = (0..random.between(1, 3)).map(|_| random.pick(&pool)).collect();
         }
         stock.variables = random.between(1, 4);
+        if tiny && !table.is_own() && random.percent(50) {
+            // Two columns over more than two values have too many logs.
+            stock.variables = 1;
+            stock.constants.truncate(1);
+        }
         let columns = random.pick(&[0, 0, 1, 1, 1, 2, 2, 3, 4]);
         let question_atoms = random.pick(&[1, 1, 2, 2, 3, 4]);
         let question = block(random, &stock, 1, columns, question_atoms);
@@ -803,9 +944,9 @@ fn small_of(random: &mut Random, keyed: bool) -> Lines {
         let mut values = stock.constants.clone();
         values.push(random.pick(&[3, 7, 9]));
         let count = random.between(0, 5);
-        let log = facts(random, &stock.relations, &values, count);
-        let log = if random.percent(85) { closed(log) } else { log };
-        let log = if random.percent(85) { obeying(log) } else { log };
+        let log = facts(random, table, &stock.relations, &values, count);
+        let log = if random.percent(85) { closed(table, log) } else { log };
+        let log = if random.percent(85) { obeying(table, log) } else { log };
         let planted = random.percent(75);
         for _ in 0..random.pick(&[0, 1, 1, 2, 2, 3, 4]) {
             let mut view_columns = random.pick(&[0, 1, 1, 2, 2, 3, 4]);
@@ -822,7 +963,7 @@ fn small_of(random: &mut Random, keyed: bool) -> Lines {
                 let atoms = random.pick(&[1, 1, 1, 2, 2, 3]);
                 block(random, &stock, 3, view_columns, atoms)
             };
-            let mut listed = match given_rows(&view, &log) {
+            let mut listed = match given_rows(table, &view, &log) {
                 Some(listed) if planted => listed,
                 _ => {
                     let count = random.below(3);
@@ -841,7 +982,7 @@ fn small_of(random: &mut Random, keyed: bool) -> Lines {
             lines.extend(view);
             lines.extend(listed);
         }
-        let Some(sheet) = taken(&lines) else { continue };
+        let Some(sheet) = taken(table, &lines) else { continue };
         let cost = crate::meaning::cost(&sheet);
         if sheet.views().iter().map(|v| v.rows.len()).sum::<usize>() <= 10 && (least..=most).contains(&cost) {
             return lines;
@@ -850,22 +991,24 @@ fn small_of(random: &mut Random, keyed: bool) -> Lines {
 }
 
 /// A sheet whose views list all relations that its blocks name, whole. Some have as many rows as may be.
-pub fn pinned(random: &mut Random) -> (Lines, Vec<Fact>) {
+pub fn pinned(random: &mut Random, table: &Table) -> (Lines, Vec<Fact>) {
     loop {
-        let mut relations: Vec<usize> = (0..random.between(1, 4)).map(|_| random.between(1, 10)).collect();
+        let count = random.between(1, 4);
+        let mut relations = some_relations(random, table, count);
         relations.sort();
         relations.dedup();
-        let mut stock = Stock::few(random);
+        let mut stock = Stock::few(random, table);
         stock.relations = relations.clone();
         let mut values = stock.constants.clone();
         values.extend([3, 5, 9]);
         let count = random.pick(&[0, 2, 4, 8, 12, 20]);
         let log: Vec<Fact> =
-            facts(random, &relations, &values, count).into_iter().filter(|f| relations.contains(&(f[0] as usize))).collect();
-        // Where signals are listed, rows that are owed may be missing: then no log agrees.
-        let log = if relations.contains(&4) && random.percent(30) { log } else { closed(log) };
+            facts(random, table, &relations, &values, count).into_iter().filter(|f| relations.contains(&(f[0] as usize))).collect();
+        // Where a parent is listed, as signals are, rows that are owed to it may be missing: then no log agrees.
+        let owed_rows = relations.iter().any(|relation| table.owing(*relation).next().is_some());
+        let log = closed_but_for(table, log, if owed_rows && random.percent(30) { &relations } else { &[] });
         // Rows that a key allows one of are at times listed together: then none does either.
-        let log = if random.percent(20) { log } else { obeying(log) };
+        let log = if random.percent(20) { log } else { obeying(table, log) };
         let columns = random.pick(&[0, 1, 1, 2, 3]);
         let atoms = random.pick(&[1, 1, 2, 2, 3]);
         let question = block(random, &stock, 1, columns, atoms);
@@ -873,40 +1016,42 @@ pub fn pinned(random: &mut Random) -> (Lines, Vec<Fact>) {
         let mut lines = question;
         lines.extend(lists);
         for relation in &relations {
-            let terms = (1..=COLUMNS[*relation]).map(|c| -(c as i64));
+            let columns = table.columns(*relation);
+            let terms = (1..=columns).map(|c| -(c as i64));
             lines.push(std::iter::once(3).chain(terms.clone()).collect());
             lines.push([4, *relation as i64].into_iter().chain(terms).collect());
             for fact in log.iter().filter(|f| f[0] as usize == *relation) {
-                lines.push(std::iter::once(5).chain(fact[1..=COLUMNS[*relation]].iter().map(|v| *v as i64)).collect());
+                lines.push(std::iter::once(5).chain(fact[1..=columns].iter().map(|v| *v as i64)).collect());
             }
         }
         if random.percent(40) {
             let view_columns = random.below(3);
             let atoms = random.between(1, 2);
             let view = block(random, &stock, 3, view_columns, atoms);
-            let Some(mut listed) = given_rows(&view, &log) else { continue };
+            let Some(mut listed) = given_rows(table, &view, &log) else { continue };
             if random.percent(20) && !listed.is_empty() {
                 listed.remove(random.below(listed.len()));
             }
             lines.extend(view);
             lines.extend(listed);
         }
-        if taken(&lines).is_some() {
+        if taken(table, &lines).is_some() {
             return (lines, log);
         }
     }
 }
 
 /// A sheet whose rows are what a log gives its views, and that log. It is larger than what is searched here.
-pub fn planted(random: &mut Random) -> (Lines, Vec<Fact>) {
+pub fn planted(random: &mut Random, table: &Table) -> (Lines, Vec<Fact>) {
     loop {
-        let mut stock = Stock::few(random);
-        stock.relations = (0..random.between(2, 5)).map(|_| random.between(1, 10)).collect();
+        let mut stock = Stock::few(random, table);
+        let count = random.between(2, 5);
+        stock.relations = some_relations(random, table, count);
         stock.variables = random.between(2, 6);
         let mut values = stock.constants.clone();
         values.extend([3, 4, 5, 6, 9]);
         let count = random.between(3, 12);
-        let log = obeying(closed(facts(random, &stock.relations, &values, count)));
+        let log = obeying(table, closed(table, facts(random, table, &stock.relations, &values, count)));
         let columns = random.pick(&[0, 1, 1, 2]);
         let atoms = random.between(1, 4);
         let question = block(random, &stock, 1, columns, atoms);
@@ -917,13 +1062,13 @@ pub fn planted(random: &mut Random) -> (Lines, Vec<Fact>) {
             let view_columns = random.between(1, 4);
             let atoms = random.pick(&[1, 1, 1, 2, 2, 3]);
             let view = block(random, &stock, 3, view_columns, atoms);
-            let Some(listed) = given_rows(&view, &log) else { continue };
+            let Some(listed) = given_rows(table, &view, &log) else { continue };
             if listed.len() <= 8 {
                 lines.extend(view);
                 lines.extend(listed);
             }
         }
-        if taken(&lines).is_some() {
+        if taken(table, &lines).is_some() {
             return (lines, log);
         }
     }

@@ -1,5 +1,6 @@
 //! The library's calls. What is lent lies between guards and is filled with a pattern, so that each write that should not be is seen;
-//! inputs are compared with a copy afterwards.
+//! inputs are compared with a copy afterwards. Where a call is given a table's bytes, it is the call by a table, and otherwise the one
+//! without.
 
 use crate::meaning::Judgement;
 use crate::random::Random;
@@ -73,10 +74,69 @@ mod c {
             page: *mut u8,
             page_bytes: usize,
         ) -> DayOutcome;
+        pub fn figdawesa_own_table(out: *mut u8, out_bytes: usize) -> Ended;
+        pub fn figdawesa_read_by_table(
+            table: *const u8,
+            table_bytes: usize,
+            sheet: *const u8,
+            sheet_bytes: usize,
+            out: *mut i32,
+            out_words: usize,
+        ) -> Ended;
+        pub fn figdawesa_write_by_table(
+            table: *const u8,
+            table_bytes: usize,
+            words: *const i32,
+            word_count: usize,
+            out: *mut u8,
+            out_bytes: usize,
+        ) -> Ended;
+        pub fn figdawesa_evaluate_by_table(
+            table: *const u8,
+            table_bytes: usize,
+            sheet: *const u8,
+            sheet_bytes: usize,
+            block: usize,
+            facts: *const i32,
+            fact_words: usize,
+            out: *mut i32,
+            out_words: usize,
+        ) -> Ended;
+        pub fn figdawesa_judge_by_table(
+            table: *const u8,
+            table_bytes: usize,
+            sheet: *const u8,
+            sheet_bytes: usize,
+            out: *mut i32,
+            out_words: usize,
+        ) -> Outcome;
+        pub fn figdawesa_judge_set_by_table(
+            table: *const u8,
+            table_bytes: usize,
+            bytes: *const u8,
+            byte_count: usize,
+            ends: *const usize,
+            sheets: usize,
+            out: *mut i32,
+            out_words: usize,
+        ) -> SetOutcome;
+        pub fn figdawesa_judge_day_by_table(
+            table: *const u8,
+            table_bytes: usize,
+            bytes: *const u8,
+            byte_count: usize,
+            ends: *const usize,
+            sheets: usize,
+            out: *mut i32,
+            out_words: usize,
+            page: *mut u8,
+            page_bytes: usize,
+        ) -> DayOutcome;
     }
 }
 
 /// How a call ended, and what the lent words or bytes are afterwards.
+#[derive(Clone, Debug, PartialEq, Eq)]
 pub struct Ended {
     pub number: usize,
     pub line: usize,
@@ -87,7 +147,7 @@ pub struct Ended {
 pub const SHEETS: usize = 16;
 
 /// The judgements of a set.
-#[derive(Debug)]
+#[derive(Debug, PartialEq, Eq)]
 pub struct Set {
     pub number: usize,
     pub line: usize,
@@ -147,6 +207,11 @@ impl<T: Copy + PartialEq> Lent<T> {
         Lent { all: part(&self.all), before: part(&self.before), null: false }
     }
 
+    /// Whether another call left all as this one did, guards too.
+    pub fn is_left_as(&self, other: &Lent<T>) -> bool {
+        self.all == other.all
+    }
+
     /// The same before any call.
     pub fn as_it_was(&self) -> Lent<T> {
         Lent { all: self.before.clone(), before: self.before.clone(), null: false }
@@ -174,20 +239,35 @@ fn kept<A: Clone + PartialEq, R>(input: &[A], call: impl FnOnce() -> R) -> R {
     result
 }
 
+/// The bytes of a table, where the call goes by one.
+pub type Given<'a> = Option<&'a [u8]>;
+
 fn ended(e: c::Ended) -> Ended {
     Ended { number: e.number, line: e.line, count: e.count }
 }
 
 // SAFETY, for each call: every pointer is valid for the length that goes with it, and what is lent is shared with nothing.
 
-pub fn read(sheet: &[u8], out: &mut Lent<i32>) -> Ended {
-    let words = out.length();
-    ended(kept(sheet, || unsafe { c::figdawesa_read(pointer(sheet), sheet.len(), out.pointer(), words) }))
+/// The library's own table.
+pub fn own_table(out: &mut Lent<u8>) -> Ended {
+    let bytes = out.length();
+    ended(unsafe { c::figdawesa_own_table(out.pointer(), bytes) })
 }
 
-pub fn write(words: &[i32], out: &mut Lent<u8>) -> Ended {
-    let bytes = out.length();
-    ended(kept(words, || unsafe { c::figdawesa_write(pointer(words), words.len(), out.pointer(), bytes) }))
+pub fn read(table: Given, sheet: &[u8], out: &mut Lent<i32>) -> Ended {
+    let (words, given, count) = (out.length(), pointer(sheet), sheet.len());
+    ended(kept(sheet, || match table {
+        None => unsafe { c::figdawesa_read(given, count, out.pointer(), words) },
+        Some(t) => kept(t, || unsafe { c::figdawesa_read_by_table(pointer(t), t.len(), given, count, out.pointer(), words) }),
+    }))
+}
+
+pub fn write(table: Given, words: &[i32], out: &mut Lent<u8>) -> Ended {
+    let (bytes, given, count) = (out.length(), pointer(words), words.len());
+    ended(kept(words, || match table {
+        None => unsafe { c::figdawesa_write(given, count, out.pointer(), bytes) },
+        Some(t) => kept(t, || unsafe { c::figdawesa_write_by_table(pointer(t), t.len(), given, count, out.pointer(), bytes) }),
+    }))
 }
 
 pub fn line(sheet: &[u8], number: usize) -> (usize, usize) {
@@ -195,9 +275,15 @@ pub fn line(sheet: &[u8], number: usize) -> (usize, usize) {
     (part.start, part.length)
 }
 
-pub fn evaluate(sheet: &[u8], block: usize, facts: &[i32], out: &mut Lent<i32>) -> Ended {
+pub fn evaluate(table: Given, sheet: &[u8], block: usize, facts: &[i32], out: &mut Lent<i32>) -> Ended {
     let words = out.length();
-    let call = || unsafe { c::figdawesa_evaluate(pointer(sheet), sheet.len(), block, pointer(facts), facts.len(), out.pointer(), words) };
+    let (given, count, log, length) = (pointer(sheet), sheet.len(), pointer(facts), facts.len());
+    let call = || match table {
+        None => unsafe { c::figdawesa_evaluate(given, count, block, log, length, out.pointer(), words) },
+        Some(t) => kept(t, || unsafe {
+            c::figdawesa_evaluate_by_table(pointer(t), t.len(), given, count, block, log, length, out.pointer(), words)
+        }),
+    };
     ended(kept(sheet, || kept(facts, call)))
 }
 
@@ -205,14 +291,23 @@ fn judgement(o: &c::Outcome) -> Judgement {
     Judgement { verdict: o.verdict, number: o.number, line: o.line, count: o.count, missing: o.missing }
 }
 
-pub fn judge(sheet: &[u8], out: &mut Lent<i32>) -> Judgement {
-    let words = out.length();
-    judgement(&kept(sheet, || unsafe { c::figdawesa_judge(pointer(sheet), sheet.len(), out.pointer(), words) }))
+pub fn judge(table: Given, sheet: &[u8], out: &mut Lent<i32>) -> Judgement {
+    let (words, given, count) = (out.length(), pointer(sheet), sheet.len());
+    judgement(&kept(sheet, || match table {
+        None => unsafe { c::figdawesa_judge(given, count, out.pointer(), words) },
+        Some(t) => kept(t, || unsafe { c::figdawesa_judge_by_table(pointer(t), t.len(), given, count, out.pointer(), words) }),
+    }))
 }
 
-pub fn judge_set(bytes: &[u8], ends: &[usize], out: &mut Lent<i32>) -> Set {
+pub fn judge_set(table: Given, bytes: &[u8], ends: &[usize], out: &mut Lent<i32>) -> Set {
     let words = out.length();
-    let call = || unsafe { c::figdawesa_judge_set(pointer(bytes), bytes.len(), pointer(ends), ends.len(), out.pointer(), words) };
+    let (given, count, marks, sheets) = (pointer(bytes), bytes.len(), pointer(ends), ends.len());
+    let call = || match table {
+        None => unsafe { c::figdawesa_judge_set(given, count, marks, sheets, out.pointer(), words) },
+        Some(t) => {
+            kept(t, || unsafe { c::figdawesa_judge_set_by_table(pointer(t), t.len(), given, count, marks, sheets, out.pointer(), words) })
+        }
+    };
     set(kept(bytes, || kept(ends, call)))
 }
 
@@ -221,10 +316,16 @@ fn set(set: c::SetOutcome) -> Set {
 }
 
 /// The judgements of a set, and how many bytes its page has.
-pub fn judge_day(bytes: &[u8], ends: &[usize], out: &mut Lent<i32>, page: &mut Lent<u8>) -> (Set, usize) {
+pub fn judge_day(table: Given, bytes: &[u8], ends: &[usize], out: &mut Lent<i32>, page: &mut Lent<u8>) -> (Set, usize) {
     let (words, room) = (out.length(), page.length());
-    let (given, marks) = (pointer(bytes), pointer(ends));
-    let call = || unsafe { c::figdawesa_judge_day(given, bytes.len(), marks, ends.len(), out.pointer(), words, page.pointer(), room) };
+    let (given, count, marks, sheets) = (pointer(bytes), bytes.len(), pointer(ends), ends.len());
+    let call = || match table {
+        None => unsafe { c::figdawesa_judge_day(given, count, marks, sheets, out.pointer(), words, page.pointer(), room) },
+        Some(t) => kept(t, || unsafe {
+            let (own, length) = (pointer(t), t.len());
+            c::figdawesa_judge_day_by_table(own, length, given, count, marks, sheets, out.pointer(), words, page.pointer(), room)
+        }),
+    };
     let day = kept(bytes, || kept(ends, call));
     (set(day.set), day.bytes)
 }

@@ -3,13 +3,14 @@
 //!     cargo run --release --offline -- [COUNT [SEED]]              COUNT inputs of each call, 100,000 with seed 1 where nothing is said
 //!     cargo run --release --offline -- COUNT SEED --call CALL      inputs of one call
 //!     cargo run --release --offline -- COUNT SEED --only CALL N    input N of a call, with both answers
-//!     cargo run --release --offline -- [COUNT [SEED]] --deep       judge alone, on sheets that take this program longer
+//!     cargo run --release --offline -- [COUNT [SEED]] --deep       judge alone, by a table and without, on sheets that take longer here
 //!     cargo run --release --offline -- --slip                      mistakes put into this implementation, and into results: all are found
 //!     cargo run --release --offline -- --slip NAME                 one of those mistakes, with the first inputs that differ
 //!
-//! It ends with 1 where something differs, or a mistake is not found; from a number of inputs on also where an answer, or a limit with a
-//! verdict, was never met. How often each limit was met is printed last.
+//! It ends with 1 where something differs, or a mistake is not found; from a number of inputs on also where an answer, a broken table, or a
+//! limit with a verdict, was never met. How often each limit was met is printed last.
 
+mod clubs;
 mod compare;
 mod full;
 mod generate;
@@ -21,15 +22,17 @@ mod random;
 mod sets;
 mod sheet;
 mod slips;
+mod table;
 
-use compare::{Outcome, CALLS};
+use compare::{is_by_table, Outcome, CALLS, JUDGE, JUDGE_BY_TABLE};
 use std::collections::BTreeMap;
 use std::sync::atomic::{AtomicU64, Ordering};
 use std::time::{Duration, Instant};
 
 const THREADS: u64 = 2;
 
-/// The answers that a run of this size has to have met, for each call.
+/// The answers that a run of this size has to have met, for each call. Calls by a table have to have met those of the call without one, and
+/// 15, and tables that are broken in each way.
 const MET: [&[&str]; 6] = [
     &[
         "done",
@@ -97,6 +100,7 @@ const MET: [&[&str]; 6] = [
 struct Tally {
     inputs: BTreeMap<&'static str, usize>,
     results: BTreeMap<String, usize>,
+    tables: BTreeMap<&'static str, usize>,
     known: BTreeMap<String, usize>,
     notes: BTreeMap<&'static str, usize>,
     limits: BTreeMap<&'static str, [usize; 3]>,
@@ -108,6 +112,9 @@ struct Tally {
 impl Tally {
     fn add(&mut self, index: u64, outcome: Outcome) {
         *self.inputs.entry(outcome.input).or_default() += 1;
+        if !outcome.table.is_empty() {
+            *self.tables.entry(outcome.table).or_default() += 1;
+        }
         if !outcome.known.is_empty() {
             *self.known.entry(format!("{} {}", outcome.result, outcome.known)).or_default() += 1;
         }
@@ -124,6 +131,7 @@ impl Tally {
     fn join(&mut self, other: Tally) {
         other.inputs.into_iter().for_each(|(name, n)| *self.inputs.entry(name).or_default() += n);
         other.results.into_iter().for_each(|(name, n)| *self.results.entry(name).or_default() += n);
+        other.tables.into_iter().for_each(|(name, n)| *self.tables.entry(name).or_default() += n);
         other.known.into_iter().for_each(|(name, n)| *self.known.entry(name).or_default() += n);
         other.notes.into_iter().for_each(|(name, n)| *self.notes.entry(name).or_default() += n);
         for (name, counts) in other.limits {
@@ -178,23 +186,44 @@ fn list<K: std::fmt::Display>(counts: &BTreeMap<K, usize>) -> String {
     counts.iter().map(|(name, n)| format!("{name}: {n}")).collect::<Vec<_>>().join(", ")
 }
 
-/// Prints how often a sheet that meets a limit had each verdict, here as in the library; whether all were met, in a run of this size.
-fn limits_met(tally: &Tally, count: u64) -> bool {
+/// Prints how often a sheet that meets one of these limits had each verdict, here as in the library; whether all were met.
+fn limits_met(tally: &Tally, names: &[&'static str]) -> bool {
     let mut all = true;
-    println!("  limits   of sheets whose verdict was compared");
-    for name in full::LIMITS {
+    for name in names {
         let [covered, case, none] = tally.limits.get(name).copied().unwrap_or_default();
         println!("           {name}: {} (verdict 0: {covered}, 1: {case}, 2: {none})", covered + case + none);
         all &= covered > 0 && case > 0 && none > 0;
     }
-    if !all {
+    all
+}
+
+/// Prints the limits of sheets and, by a table, what is counted of tables. By a table the latter have to be met, in a run of this size, and
+/// without one the former.
+fn all_limits_met(tally: &Tally, call: usize, count: u64) -> bool {
+    println!("  limits   of sheets whose verdict was compared");
+    let of_sheets = limits_met(tally, &full::LIMITS);
+    let met = if is_by_table(call) { limits_met(tally, &clubs::COUNTED) } else { of_sheets };
+    if !met {
         println!("  not met: each limit with each verdict");
     }
-    all || count < LIMITS_FROM || generate::deep()
+    met || count < LIMITS_FROM || generate::deep()
 }
 
 /// Runs of judge with this many inputs have to meet each limit with each verdict.
 const LIMITS_FROM: u64 = 10_000;
+
+/// What a run of a call that is large enough has to have met and has not.
+fn unmet(tally: &Tally, call: usize) -> Vec<&'static str> {
+    let plain = CALLS.iter().position(|name| *name == CALLS[call].trim_end_matches("_by_table")).unwrap();
+    let mut answers = MET[plain].to_vec();
+    let mut unmet = vec![];
+    if is_by_table(call) {
+        answers.push(if CALLS[plain] == "judge_set" { "done, each sheet refused by 15" } else { "refused by 15" });
+        unmet.extend(clubs::BROKEN.into_iter().filter(|name| !tally.tables.contains_key(name)));
+    }
+    unmet.extend(answers.into_iter().filter(|name| !tally.results.contains_key(*name)));
+    unmet
+}
 
 /// One call; whether nothing differs and, in a run that is large enough, every kind of answer was met.
 fn compared(call: usize, count: u64, seed: u64) -> bool {
@@ -202,17 +231,20 @@ fn compared(call: usize, count: u64, seed: u64) -> bool {
     let tally = run(call, count, seed);
     println!("{}: {count} inputs, seed {seed}, {:.1} s", CALLS[call], start.elapsed().as_secs_f64());
     println!("  inputs   {}", list(&tally.inputs));
+    if is_by_table(call) {
+        println!("  tables   {}", list(&tally.tables));
+    }
     println!("  answers  {}", list(&tally.results));
-    if call == 4 {
+    if call == JUDGE || call == JUDGE_BY_TABLE {
         println!("  known    {}", list(&tally.known));
         println!("  of them  {}", list(&tally.notes));
         println!("  slowest  {:.1} ms, input {}", tally.slowest.0.as_secs_f64() * 1e3, tally.slowest.1);
     }
     let mut good = tally.differing == 0;
-    if call == 4 {
-        good &= limits_met(&tally, count);
+    if call == JUDGE || call == JUDGE_BY_TABLE {
+        good &= all_limits_met(&tally, call, count);
     }
-    for name in MET[call].iter().filter(|name| !tally.results.contains_key(**name)) {
+    for name in unmet(&tally, call) {
         println!("  not met: {name}");
         good &= count < 100_000;
     }
@@ -248,11 +280,13 @@ fn slipped(count: u64, seed: u64) -> bool {
         good &= tally.differing > 0;
     }
     slips::set(slips::Slip::None);
-    for (way, name) in compare::TAMPERINGS.iter().enumerate() {
-        let found: Vec<bool> = (0..count).filter_map(|index| compare::tampered(seed, index, way)).collect();
-        let missed = found.iter().filter(|found| !**found).count();
-        println!("result spoiled, {name}: {} tried, {missed} not found", found.len());
-        good &= !found.is_empty() && missed == 0;
+    for call in [JUDGE, JUDGE_BY_TABLE] {
+        for (way, name) in compare::TAMPERINGS.iter().enumerate() {
+            let found: Vec<bool> = (0..count).filter_map(|index| compare::tampered(call, seed, index, way)).collect();
+            let missed = found.iter().filter(|found| !**found).count();
+            println!("result of {} spoiled, {name}: {} tried, {missed} not found", CALLS[call], found.len());
+            good &= !found.is_empty() && missed == 0;
+        }
     }
     println!("{}", if good { "every slip is found" } else { "a slip is not found" });
     good
@@ -268,7 +302,7 @@ fn main() {
         options.remove(0);
     }
     let good = match options[..] {
-        [] if generate::deep() => compared(4, count.unwrap_or(2_000), seed),
+        [] if generate::deep() => compared(JUDGE, count.unwrap_or(2_000), seed) & compared(JUDGE_BY_TABLE, count.unwrap_or(2_000), seed),
         [] => all(count.unwrap_or(100_000), seed),
         ["--slip"] => slipped(count.unwrap_or(10_000), seed),
         ["--slip", name] if slips::ALL.iter().any(|(slip, _)| format!("{slip:?}") == name) => {
@@ -281,6 +315,9 @@ fn main() {
         }
         ["--only", call, index] if CALLS.contains(&call) && index.parse::<u64>().is_ok() => {
             let outcome = compare::one(CALLS.iter().position(|c| *c == call).unwrap(), seed, index.parse().unwrap(), true);
+            if !outcome.table.is_empty() {
+                println!("table: {}", outcome.table);
+            }
             println!("{}\n{}, {}", outcome.input, outcome.result, outcome.known);
             println!("{}\n{}", outcome.shown.unwrap(), if outcome.differs { "different" } else { "no difference" });
             !outcome.differs

@@ -1,5 +1,6 @@
 //! A page's whole set of sheets: one input of the call, given to the library and judged here, sheet by sheet.
 
+use crate::clubs::Club;
 use crate::compare::{self, Outcome};
 use crate::generate::Known;
 use crate::library::{self, Lent, Set, SHEETS};
@@ -7,6 +8,7 @@ use crate::meaning::{self, Judgement};
 use crate::random::Random;
 use crate::sheet;
 use crate::slips::{is, Slip};
+use crate::table::{self, Table};
 use std::time::Instant;
 
 const STRETCH: usize = 1_260;
@@ -43,13 +45,17 @@ fn ends_of(random: &mut Random, sheets: &[Vec<u8>]) -> (&'static str, Vec<usize>
     ("ends changed", ends)
 }
 
-/// The number by which a set is sent back, 0 where it is taken.
-fn refusal(count: usize, ends: &[usize], room: usize) -> usize {
+/// The number by which a set is sent back, 0 where it is taken. A table that is none is no cause: each sheet is then sent back for it.
+fn refusal(table: &[u8], count: usize, ends: &[usize], room: usize) -> usize {
     let most = if is(Slip::SeventeenSheetsTaken) { SHEETS + 1 } else { SHEETS };
     let falls_back = ends.windows(2).any(|pair| pair[1] < pair[0] || is(Slip::EqualEndsFallBack) && pair[1] == pair[0]);
     let off = !is(Slip::LastEndUnasked) && ends.last().copied().unwrap_or(0) != count;
     let wrong = ends.len() > most || falls_back || off;
     let short = room < STRETCH * ends.len();
+    let sent = wrong || short;
+    if (is(Slip::SetSentBackByTable) && !sent || is(Slip::TableBeforeEnds) && sent) && table::of_bytes(table).is_err() {
+        return 15;
+    }
     match (wrong, short) {
         (true, true) if is(Slip::RoomBeforeEnds) => 13,
         (true, _) => 14,
@@ -64,16 +70,17 @@ fn unjudged(number: usize) -> Judgement {
 }
 
 /// Whether the judgement of one sheet of a set is right, and what it gets alone.
-fn check_sheet(bytes: &[u8], told: &Judgement, stretch: &Lent<i32>, drawn: &[compare::Drawn]) -> Result<(), String> {
+fn check_sheet(club: &Club, bytes: &[u8], told: &Judgement, stretch: &Lent<i32>, drawn: &[compare::Drawn]) -> Result<(), String> {
     // Where an end was moved, the sheet is none of those that were drawn.
     let (known, log) = drawn.iter().find(|d| d.1 == bytes).map_or((Known::Large, &[][..]), |d| (d.2, &d.3[..]));
-    let found = compare::check_judgement(bytes, told, stretch, |taken| compare::verdicts(taken, known, log).map(|(right, _)| right));
+    let right = |taken: &sheet::Sheet| compare::verdicts(taken, known, log).map(|(right, _)| right);
+    let found = compare::check_judgement(&club.bytes, bytes, told, stretch, right);
     match found {
         Err(why) if why != meaning::UNCHECKED => return Err(why),
         _ => (),
     }
     let mut alone = stretch.as_it_was();
-    let same = library::judge(bytes, &mut alone) == *told && alone.after() == stretch.after();
+    let same = library::judge(club.given(), bytes, &mut alone) == *told && alone.after() == stretch.after();
     if same {
         Ok(())
     } else {
@@ -81,8 +88,8 @@ fn check_sheet(bytes: &[u8], told: &Judgement, stretch: &Lent<i32>, drawn: &[com
     }
 }
 
-fn check_set(bytes: &[u8], ends: &[usize], told: &Set, out: &Lent<i32>, drawn: &[compare::Drawn]) -> Result<(), String> {
-    let number = refusal(bytes.len(), ends, out.length());
+fn check_set(club: &Club, bytes: &[u8], ends: &[usize], told: &Set, out: &Lent<i32>, drawn: &[compare::Drawn]) -> Result<(), String> {
+    let number = refusal(&club.bytes, bytes.len(), ends, out.length());
     let count = if number == 0 { ends.len() } else { 0 };
     if (told.number, told.line, told.count) != (number, 0, count) {
         return Err(format!("expected number {number}, line 0, count {count}"));
@@ -96,7 +103,7 @@ fn check_set(bytes: &[u8], ends: &[usize], told: &Set, out: &Lent<i32>, drawn: &
     let starts = [0].into_iter().chain(ends.iter().copied());
     for (place, (start, end)) in starts.zip(ends).take(count).enumerate() {
         let sheet = &bytes[start..*end];
-        check_sheet(sheet, &told.sheets[place], &out.stretch(place * STRETCH, STRETCH), drawn)
+        check_sheet(club, sheet, &told.sheets[place], &out.stretch(place * STRETCH, STRETCH), drawn)
             .map_err(|why| format!("the sheet at place {place}: {why}"))?;
     }
     Ok(())
@@ -112,10 +119,16 @@ fn page_of(sheets: &[Judgement]) -> Vec<u8> {
 }
 
 /// Whether the set with a page gets what it got without, and the page; or neither, where too few bytes are lent.
-fn check_day(random: &mut Random, bytes: &[u8], ends: &[usize], told: &Set, out: &Lent<i32>) -> Result<(), String> {
+fn check_day(random: &mut Random, club: &Club, bytes: &[u8], ends: &[usize], told: &Set, out: &Lent<i32>) -> Result<(), String> {
     let mut page = Lent::new(random.pick(&[PAGE, PAGE, PAGE, PAGE + 9, PAGE - 1, 41, 0]), random, |n| n as u8);
     let mut words = out.as_it_was();
-    let (day, count) = library::judge_day(bytes, ends, &mut words, &mut page);
+    let judged = library::judge_day(club.given(), bytes, ends, &mut words, &mut page);
+    let mut again = page.as_it_was();
+    let same = compare::same_by_own(club, &judged, &words, |own, words| library::judge_day(own, bytes, ends, words, &mut again));
+    if !same || club.given().is_none() && !again.is_left_as(&page) {
+        return Err("a page by the own table's bytes is another".into());
+    }
+    let (day, count) = judged;
     let short = page.length() < PAGE && told.number == 0;
     let right = if short {
         let sent = (day.number, day.line, day.count, count) == (13, 0, 0, 0);
@@ -132,29 +145,35 @@ fn check_day(random: &mut Random, bytes: &[u8], ends: &[usize], told: &Set, out:
     }
 }
 
-pub fn judge_set(random: &mut Random, show: bool) -> Outcome {
-    let drawn: Vec<compare::Drawn> = (0..how_many(random)).map(|_| compare::to_judge(random)).collect();
+pub fn judge_set(random: &mut Random, club: &Club, show: bool) -> Outcome {
+    let drawn: Vec<compare::Drawn> = (0..how_many(random)).map(|_| compare::to_judge(random, club)).collect();
     let sheets: Vec<Vec<u8>> = drawn.iter().map(|d| if random.percent(4) { vec![] } else { d.1.clone() }).collect();
     let bytes = sheets.concat();
     let (name, ends) = ends_of(random, &sheets);
     let length = if random.percent(60) { STRETCH * ends.len() } else { compare::lent(random, STRETCH * ends.len()) };
     let mut out = Lent::new(length, random, compare::word);
     let start = Instant::now();
-    let told = library::judge_set(&bytes, &ends, &mut out);
+    let told = library::judge_set(club.given(), &bytes, &ends, &mut out);
     let took = start.elapsed();
-    let found = check_set(&bytes, &ends, &told, &out, &drawn).and_then(|_| check_day(random, &bytes, &ends, &told, &out));
+    let same = compare::same_by_own(club, &told, &out, |own, out| library::judge_set(own, &bytes, &ends, out));
+    let found = check_set(club, &bytes, &ends, &told, &out, &drawn)
+        .and_then(|_| check_day(random, club, &bytes, &ends, &told, &out))
+        .and(if same { Ok(()) } else { Err("by the own table's bytes the call does something else".into()) });
     let text = || {
         let found = found.as_ref().err().map_or("the same", |e| e);
         format!("bytes b\"{}\"\nends {ends:?}\nlent {length}\nlibrary: {told:?}\nfound: {found}", bytes.escape_ascii())
     };
     let several = [0, 1, SHEETS].contains(&told.count);
+    let by_15 = told.count > 0 && told.sheets[..told.count.min(SHEETS)].iter().all(|sheet| sheet.number == 15);
     let result = match told.number {
+        0 if by_15 => "done, each sheet refused by 15".into(),
         0 if several => format!("done, sheets {}", told.count),
         0 => "done".into(),
         number => compare::named(number),
     };
     Outcome {
         input: name,
+        table: "",
         result,
         known: "",
         notes: vec![],
@@ -165,7 +184,8 @@ pub fn judge_set(random: &mut Random, show: bool) -> Outcome {
     }
 }
 
-/// Sets at the edges, held to answers written by hand: how many, and which differ.
+/// Sets at the edges, held to answers written by hand: how many, and which differ. Each is judged without a table, by the own one, and by
+/// two that are none, for which each sheet is sent back and the set is not.
 pub fn edges(random: &mut Random) -> (usize, Vec<String>) {
     let empty = |n: usize| vec![0; n];
     let cases: [(usize, Vec<usize>, usize, usize); 14] = [
@@ -184,17 +204,21 @@ pub fn edges(random: &mut Random) -> (usize, Vec<String>) {
         (0, empty(17), 0, 14),
         (1, vec![2], 0, 14),
     ];
+    let own = Table::own().bytes();
+    let tables: [(Option<&[u8]>, usize, usize); 4] = [(None, 3, 0), (Some(&own), 3, 0), (Some(&[]), 15, 0), (Some(&own[..329]), 15, 10)];
     let mut failed = vec![];
-    for (at, (count, ends, room, number)) in cases.iter().enumerate() {
-        let bytes = vec![10; *count];
-        let mut out = Lent::new(*room, random, compare::word);
-        let told = library::judge_set(&bytes, ends, &mut out);
-        let judged = if *number == 0 { ends.len() } else { 0 };
-        let alone = Judgement::refused(sheet::Refusal { number: 3, line: 0 });
-        let right = (0..SHEETS).all(|k| told.sheets[k] == if k < judged { alone.clone() } else { unjudged(*number) });
-        if (told.number, told.line, told.count) != (*number, 0, judged) || !right || !out.is(&[]) {
-            failed.push(format!("set at an edge, {at}: {told:?}"));
+    for (by, (table, cause, line)) in tables.iter().enumerate() {
+        for (at, (count, ends, room, number)) in cases.iter().enumerate() {
+            let bytes = vec![10; *count];
+            let mut out = Lent::new(*room, random, compare::word);
+            let told = library::judge_set(*table, &bytes, ends, &mut out);
+            let judged = if *number == 0 { ends.len() } else { 0 };
+            let alone = Judgement::refused(sheet::Refusal { number: *cause, line: *line });
+            let right = (0..SHEETS).all(|k| told.sheets[k] == if k < judged { alone.clone() } else { unjudged(*number) });
+            if (told.number, told.line, told.count) != (*number, 0, judged) || !right || !out.is(&[]) {
+                failed.push(format!("set at an edge, {at}, table {by}: {told:?}"));
+            }
         }
     }
-    (cases.len(), failed)
+    (tables.len() * cases.len(), failed)
 }

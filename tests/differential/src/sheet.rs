@@ -1,19 +1,7 @@
 //! Sheets: bytes or words taken apart into lines, the lines into blocks, and back. Written from the format's description alone.
 
 use crate::slips::{is, Slip};
-
-/// The columns of each relation, by its number.
-pub const COLUMNS: [usize; 11] = [0, 2, 1, 3, 2, 2, 2, 3, 2, 4, 1];
-
-/// The relation that must have a relation's rows as well: each beat and each noise is a signal.
-pub fn owed_to(relation: usize) -> Option<usize> {
-    (relation == 5 || relation == 6).then_some(4)
-}
-
-/// How many first columns of a relation settle the others: strap and session the rower, strap and tick the rate.
-pub fn key_of(relation: usize) -> Option<usize> {
-    (relation == 3 || relation == 7).then_some(2)
-}
+use crate::table::Table;
 
 /// Constants are 0 to this.
 pub const MOST_CONSTANT: i64 = 9_999_999;
@@ -46,9 +34,10 @@ pub struct Block {
     pub rows: Vec<Vec<i64>>,
 }
 
-/// The question, the lists, then the views.
+/// The question, the lists, then the views; and the table that they were taken by, which says which logs count.
 #[derive(Clone, Debug)]
 pub struct Sheet {
+    pub table: Table,
     pub blocks: Vec<Block>,
 }
 
@@ -71,7 +60,20 @@ impl Sheet {
     }
 
     pub fn without_views(&self) -> Sheet {
-        Sheet { blocks: self.blocks[..self.first_view()].to_vec() }
+        Sheet { table: self.table.clone(), blocks: self.blocks[..self.first_view()].to_vec() }
+    }
+
+    /// The same blocks by another table, which has their relations with the same columns.
+    pub fn by(&self, table: Table) -> Sheet {
+        Sheet { table, blocks: self.blocks.clone() }
+    }
+
+    /// The relations that atoms name, ascending.
+    pub fn relations(&self) -> Vec<usize> {
+        let mut all: Vec<usize> = self.blocks.iter().flat_map(|b| b.atoms.iter().map(|a| a.relation)).collect();
+        all.sort();
+        all.dedup();
+        all
     }
 
     /// The constants that stand in heads, atoms and rows, ascending.
@@ -133,8 +135,8 @@ fn term_in_range(term: i64) -> bool {
     (last..=top).contains(&term)
 }
 
-/// The blocks that lines make up. Causes are asked for line by line, each line's in their order; then for the whole.
-pub fn blocks(lines: &[Fields]) -> Taken<Sheet> {
+/// The blocks that lines make up by a table. Causes are asked for line by line, each line's in their order; then for the whole.
+pub fn blocks(table: &Table, lines: &[Fields]) -> Taken<Sheet> {
     let mut blocks: Vec<Block> = Vec::new();
     let mut before = 0;
     for (at, fields) in lines.iter().enumerate() {
@@ -159,7 +161,7 @@ pub fn blocks(lines: &[Fields]) -> Taken<Sheet> {
         }
         // 4 and 5: an atom's relation, then its terms; the other kinds have terms alone.
         let terms = if kind == 4 { &rest[1..] } else { rest };
-        let relation_wrong = kind == 4 && !(1..=10).contains(&rest[0]) || kind == 4 && COLUMNS[rest[0] as usize] != terms.len();
+        let relation_wrong = kind == 4 && !(table.has(rest[0]) && table.columns(rest[0] as usize) == terms.len());
         let term_wrong = terms.iter().any(|t| !term_in_range(*t) || kind == 5 && *t < 0);
         if is(Slip::TermsBeforeRelation) && term_wrong {
             return refuse(5, line);
@@ -218,20 +220,29 @@ pub fn blocks(lines: &[Fields]) -> Taken<Sheet> {
             return refuse(8, block.line);
         }
     }
-    Ok(Sheet { blocks })
+    Ok(Sheet { table: table.clone(), blocks })
+}
+
+/// The table that a sheet's relations are asked for in.
+fn asked_in(table: &Table) -> Table {
+    if is(Slip::RelationsByOwnTen) {
+        Table::own()
+    } else {
+        table.clone()
+    }
 }
 
 /// A sheet's bytes taken whole: its lines and its blocks.
-pub fn of_bytes(sheet: &[u8]) -> Taken<(Vec<Vec<i64>>, Sheet)> {
+pub fn of_bytes(table: &Table, sheet: &[u8]) -> Taken<(Vec<Vec<i64>>, Sheet)> {
     if sheet.len() > 8192 {
         return refuse(1, 0);
     }
     let lines = lines_of_bytes(sheet);
-    let taken = blocks(&lines)?;
+    let taken = blocks(&asked_in(table), &lines)?;
     Ok((lines.into_iter().flatten().collect(), taken))
 }
 
-pub fn of_words(words: &[i32]) -> Taken<Vec<Vec<i64>>> {
+pub fn of_words(table: &Table, words: &[i32]) -> Taken<Vec<Vec<i64>>> {
     if words.len() > 749 {
         return refuse(1, 0);
     }
@@ -239,7 +250,7 @@ pub fn of_words(words: &[i32]) -> Taken<Vec<Vec<i64>>> {
         return refuse(2, 0);
     }
     let lines = lines_of_words(words);
-    blocks(&lines)?;
+    blocks(&asked_in(table), &lines)?;
     Ok(lines.into_iter().flatten().collect())
 }
 
@@ -264,8 +275,8 @@ pub fn words_of(lines: &[Vec<i64>]) -> Vec<i32> {
 }
 
 /// What reading does: the number form, or a refusal.
-pub fn read(sheet: &[u8], lent: usize) -> Taken<Vec<i32>> {
-    let (lines, _) = of_bytes(sheet)?;
+pub fn read(table: &Table, sheet: &[u8], lent: usize) -> Taken<Vec<i32>> {
+    let (lines, _) = of_bytes(table, sheet)?;
     if lent < 749 {
         return refuse(13, 0);
     }
@@ -273,8 +284,8 @@ pub fn read(sheet: &[u8], lent: usize) -> Taken<Vec<i32>> {
 }
 
 /// What writing does: the bytes, or a refusal.
-pub fn write(words: &[i32], lent: usize) -> Taken<Vec<u8>> {
-    let lines = of_words(words)?;
+pub fn write(table: &Table, words: &[i32], lent: usize) -> Taken<Vec<u8>> {
+    let lines = of_words(table, words)?;
     if lent < 5243 {
         return refuse(13, 0);
     }

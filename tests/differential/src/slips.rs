@@ -50,12 +50,34 @@ pub enum Slip {
     MadeUpNeverMadeEqual,
     KeyClashIsCovered,
     KeyOfOneColumn,
+    TableAfterSheet,
+    EmptyTableIsTheOwn,
+    ThirtyThreeRelationsTaken,
+    TableLinesFromZero,
+    RelationNumberUnasked,
+    FiveColumnsTaken,
+    KeyOfAllColumnsTaken,
+    ParentItselfTaken,
+    ParentOfOtherColumnsTaken,
+    ParentWithParentTaken,
+    RelationsByOwnTen,
+    FactsByOwnTen,
+    EvaluationAsksForKeys,
+    EvaluationAsksForParents,
+    OwnTensKeys,
+    EveryKeyOfTwoColumns,
+    KeyBesideParentForgotten,
+    KeysOfParentsForgotten,
+    ParentForgotten,
+    LawsOfFirstTenAlone,
+    SetSentBackByTable,
+    TableBeforeEnds,
 }
 
 use Slip::*;
 
-/// Each slip with the call that it is looked for in, by its place in main's table of calls.
-pub const ALL: [(Slip, usize); 45] = [
+/// Each slip with the call that it is looked for in, by its place in the table of calls.
+pub const ALL: [(Slip, usize); 69] = [
     (MinusZeroTaken, 0),
     (UnclosedLastLineTaken, 0),
     (ConstantOneTooHigh, 0),
@@ -101,6 +123,30 @@ pub const ALL: [(Slip, usize); 45] = [
     (MadeUpNeverMadeEqual, 4),
     (KeyClashIsCovered, 4),
     (KeyOfOneColumn, 4),
+    (TableAfterSheet, 6),
+    (EmptyTableIsTheOwn, 6),
+    (ThirtyThreeRelationsTaken, 6),
+    (TableLinesFromZero, 6),
+    (RelationNumberUnasked, 6),
+    (FiveColumnsTaken, 6),
+    (KeyOfAllColumnsTaken, 6),
+    (ParentItselfTaken, 6),
+    (ParentOfOtherColumnsTaken, 6),
+    (ParentWithParentTaken, 6),
+    (RelationsByOwnTen, 6),
+    (RelationsByOwnTen, 7),
+    (TableAfterSheet, 8),
+    (FactsByOwnTen, 8),
+    (EvaluationAsksForKeys, 8),
+    (EvaluationAsksForParents, 8),
+    (OwnTensKeys, 9),
+    (EveryKeyOfTwoColumns, 9),
+    (KeyBesideParentForgotten, 9),
+    (KeysOfParentsForgotten, 9),
+    (ParentForgotten, 9),
+    (LawsOfFirstTenAlone, 9),
+    (SetSentBackByTable, 10),
+    (TableBeforeEnds, 10),
 ];
 
 static CURRENT: AtomicUsize = AtomicUsize::new(None as usize);

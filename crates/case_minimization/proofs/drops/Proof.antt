@@ -40,8 +40,8 @@ returns c =
     let a = s .args in
     let o = c .before .is-owed in
     λ ready owes e clean k.
-    owed-stays (take (a .n * 5) (a .facts .now)) (a .i) (take ((a .n - 1) * 5) (a .room .now))
-    (subst (λ (b : Bool). OwedBy b (take (a .n * 5) (a .facts .now)) (a .i) (take ((a .n - 1) * 5) (a .room .now))) (c .if1 .taken) (o .ensures)) (k .2)
+    owed-stays (a .p .now) (take (a .n * 5) (a .facts .now)) (a .i) (take ((a .n - 1) * 5) (a .room .now))
+    (subst (λ (b : Bool). OwedBy (a .p .now) b (take (a .n * 5) (a .facts .now)) (a .i) (take ((a .n - 1) * 5) (a .room .now))) (c .if1 .taken) (o .ensures (ready .size))) (k .2)
 
 sub-is-left : tie.Need-sub-is-left
 sub-is-left c = search needs
@@ -64,9 +64,9 @@ returns-2 c =
     let rest = take ((a .n - 1) * 5) (a .room .now) in
     λ ready owes e clean.
     c .is-left .ensures ready clean
-    (subst Parented (sym e)
-    (unowed-goes ms (a .n) (a .i) (length-take-le (a .n * 5) (a .facts .now) (s .pre .2)) (s .pre .0) owes
-    (subst (λ (l : List ℕ). OwedBy false ms (a .i) l) e (subst (λ (b : Bool). OwedBy b ms (a .i) rest) (c .before .before .if1 .left) (o .ensures)))))
+    (subst (Parented (a .p .now)) (sym e)
+    (unowed-goes (a .p .now) ms (a .n) (a .i) (length-take-le (a .n * 5) (a .facts .now) (s .pre .2)) (s .pre .0) owes
+    (subst (λ (l : List ℕ). OwedBy (a .p .now) false ms (a .i) l) e (subst (λ (b : Bool). OwedBy (a .p .now) b ms (a .i) rest) (c .before .before .if1 .left) (o .ensures (ready .size))))))
 
 pub drops-spec : {M : Type 1} → statement M
 drops-spec =

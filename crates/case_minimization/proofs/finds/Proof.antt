@@ -9,10 +9,10 @@ use Rattle.case_minimization.proofs.finds.Statement.{statement}
 use Rattle.case_minimization.proofs.finds.Tie as tie
 
 abbrev Inv-loop : tie.InvT-loop
-Inv-loop facts relation row owing n k₀ k = (k ≤ n) × ((j : ℕ) → j < k → Like owing facts j relation row → ⊥)
+Inv-loop p facts relation row owing n k₀ k = (k ≤ n) × ((j : ℕ) → j < k → Like p owing facts j relation row → ⊥)
 
 abbrev μ-loop : tie.MeasureT-loop
-μ-loop facts relation row owing n k₀ k = n - k
+μ-loop p facts relation row owing n k₀ k = n - k
 
 loop-holds : tie.Need-loop-holds Inv-loop μ-loop
 loop-holds c = (omega arith, λ j h. absurd (omega arith))
@@ -24,7 +24,7 @@ returns : tie.Need-returns Inv-loop μ-loop
 returns c =
     let a = c .before .before .before .before .before .args in
     let o = c .before .before .before .loop in
-    (o .k, omega arith, subst (λ b. LikeBy b (a .owing) (a .facts .now) (o .k) (a .relation) (a .row)) (c .if1 .taken) (c .before .is-like .ensures))
+    (o .k, omega arith, subst (λ b. LikeBy (a .p .now) b (a .owing) (a .facts .now) (o .k) (a .relation) (a .row)) (c .if1 .taken) (c .before .is-like .ensures))
 
 add-k : tie.Need-add-k Inv-loop μ-loop
 add-k c = search needs
@@ -36,7 +36,7 @@ loop-again : tie.Need-loop-again Inv-loop μ-loop
 loop-again c =
     let a = c .before .before .before .before .before .args in
     let o = c .before .before .before .loop in
-    (omega arith, below-more (λ j. Like (a .owing) (a .facts .now) j (a .relation) (a .row) → ⊥) (o .k) (o .inv .1) (subst (λ b. LikeBy b (a .owing) (a .facts .now) (o .k) (a .relation) (a .row)) (c .if1 .left) (c .before .is-like .ensures)))
+    (omega arith, below-more (λ j. Like (a .p .now) (a .owing) (a .facts .now) j (a .relation) (a .row) → ⊥) (o .k) (o .inv .1) (subst (λ b. LikeBy (a .p .now) b (a .owing) (a .facts .now) (o .k) (a .relation) (a .row)) (c .if1 .left) (c .before .is-like .ensures)))
 
 returns-2 : tie.Need-returns-2 Inv-loop μ-loop
 returns-2 c = let o = c .before .loop in λ f. o .inv .1 (f .0) (let l = f .1 in omega arith) (f .2)

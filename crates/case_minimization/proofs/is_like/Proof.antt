@@ -30,7 +30,7 @@ same-requires c κs = search needs
 returns-2 : tie.Need-returns-2
 returns-2 c =
     let a = c .before .before .before .before .before .before .args in
-    like-by (c .same .result) (a .owing) (a .facts .now) (a .k) (a .relation) (a .row)
+    like-by (a .p .now) (c .same .result) (a .owing) (a .facts .now) (a .k) (a .relation) (a .row)
     (sym (c .before .before .before .relation-by .ensures) ∙ c .before .before .if1 .left)
     (subst (λ t. SameBy (c .same .result) t (a .row)) (c .before .values .ensures) (c .same .ensures))
 

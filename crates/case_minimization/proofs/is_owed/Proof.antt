@@ -23,7 +23,7 @@ shared-slice-read-relation : tie.Need-shared-slice-read-relation
 shared-slice-read-relation c = search needs
 
 returns : tie.Need-returns
-returns c = λ some s. absurd (omega arith)
+returns c = λ long some s. absurd (omega arith)
 
 is-parent-requires : tie.Need-is-parent-requires
 is-parent-requires c κs = search needs
@@ -32,8 +32,8 @@ returns-2 : tie.Need-returns-2
 returns-2 c =
     let a = c .before .before .before .before .before .before .args in
     let f = c .before .is-parent in
-    λ some s.
-    let z = f .ensures (not-true (f .result) (c .if2 .taken)) (getD (a .rest .now) (s .0 * 5) 0) (s .2 .0) in
+    λ long some s.
+    let z = f .ensures long (not-true (f .result) (c .if2 .taken)) (getD (a .rest .now) (s .0 * 5) 0) (s .2 .0) in
     absurd (omega arith)
 
 values-requires : tie.Need-values-requires
@@ -49,7 +49,7 @@ returns-3 c =
     let f = c .before .finds in
     let relation = getD (a .facts .now) (a .i * 5) 0 in
     let row = fourOf (a .facts .now) (a .i * 5 + 1) in
-    λ some s. absurd (subst (λ (b : Bool). FindsBy b true (a .rest .now) relation row) (not-true (f .result) (c .if3 .taken)) (subst (λ (r : List ℕ). FindsBy (f .result) true (a .rest .now) relation r) (v .ensures) (f .ensures)) s)
+    λ long some s. absurd (subst (λ (b : Bool). FindsBy (a .p .now) b true (a .rest .now) relation row) (not-true (f .result) (c .if3 .taken)) (subst (λ (r : List ℕ). FindsBy (a .p .now) (f .result) true (a .rest .now) relation r) (v .ensures) (f .ensures)) s)
 
 finds-requires-2 : tie.Need-finds-requires-2
 finds-requires-2 c κs = search needs
@@ -62,9 +62,9 @@ returns-4 c =
     let g = c .finds2 in
     let relation = getD (a .facts .now) (a .i * 5) 0 in
     let row = fourOf (a .facts .now) (a .i * 5 + 1) in
-    owed-by (g .result) (a .facts .now) (a .i) (a .rest .now) (let z = c .before .before .before .before .before .before .if1 .left in omega arith)
-    (subst (λ (b : Bool). FindsBy b true (a .rest .now) relation row) (not-false (f .result) (c .before .if3 .left)) (subst (λ (r : List ℕ). FindsBy (f .result) true (a .rest .now) relation r) (v .ensures) (f .ensures)))
-    (subst (λ (r : List ℕ). FindsBy (g .result) false (a .rest .now) relation r) (v .ensures) (g .ensures))
+    λ long. owed-by (a .p .now) (g .result) (a .facts .now) (a .i) (a .rest .now) (let z = c .before .before .before .before .before .before .if1 .left in omega arith)
+    (subst (λ (b : Bool). FindsBy (a .p .now) b true (a .rest .now) relation row) (not-false (f .result) (c .before .if3 .left)) (subst (λ (r : List ℕ). FindsBy (a .p .now) (f .result) true (a .rest .now) relation r) (v .ensures) (f .ensures)))
+    (subst (λ (r : List ℕ). FindsBy (a .p .now) (g .result) false (a .rest .now) relation r) (v .ensures) (g .ensures))
 
 pub is-owed-spec : {M : Type 1} → statement M
 is-owed-spec =

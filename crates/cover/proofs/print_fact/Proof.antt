@@ -5,10 +5,10 @@ use Rattle.cover.proofs.print_fact.Statement.{statement}
 use Rattle.cover.proofs.print_fact.Tie as tie
 
 abbrev Inv-loop : tie.InvT-loop
-Inv-loop fact columns i₀ i = i ≤ columns + 1
+Inv-loop table fact columns i₀ i = i ≤ columns + 1
 
 abbrev μ-loop : tie.MeasureT-loop
-μ-loop fact columns i₀ i = columns + 1 - i
+μ-loop table fact columns i₀ i = columns + 1 - i
 
 print-number-requires : tie.Need-print-number-requires Inv-loop μ-loop
 print-number-requires c κs = search needs

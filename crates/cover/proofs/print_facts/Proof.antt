@@ -5,10 +5,10 @@ use Rattle.cover.proofs.print_facts.Statement.{statement}
 use Rattle.cover.proofs.print_facts.Tie as tie
 
 abbrev Inv-loop : tie.InvT-loop
-Inv-loop facts count i₀ i = i ≤ count
+Inv-loop table facts count i₀ i = i ≤ count
 
 abbrev μ-loop : tie.MeasureT-loop
-μ-loop facts count i₀ i = count - i
+μ-loop table facts count i₀ i = count - i
 
 loop-holds : tie.Need-loop-holds Inv-loop μ-loop
 loop-holds c = search needs

@@ -7,16 +7,16 @@ use Rattle.day.proofs.gather.Statement.{statement}
 use Rattle.day.proofs.gather.Tie as tie
 
 abbrev Inv-loop : tie.InvT-loop
-Inv-loop bytes₀ ends₀ count at₀ k₀ bytes ends at k = (at ≤ length bytes) × (length bytes ≡ length bytes₀) × (length ends ≡ length ends₀)
+Inv-loop table bytes₀ ends₀ count first at₀ k₀ bytes ends at k = (at ≤ length bytes) × (length bytes ≡ length bytes₀) × (length ends ≡ length ends₀)
 
 abbrev μ-loop : tie.MeasureT-loop
-μ-loop bytes₀ ends₀ count at₀ k₀ bytes ends at k = count - k
+μ-loop table bytes₀ ends₀ count first at₀ k₀ bytes ends at k = count - k
 
 loop-holds : tie.Need-loop-holds Inv-loop μ-loop
 loop-holds c = search needs
 
-add-put-file : tie.Need-add-put-file Inv-loop μ-loop
-add-put-file c = search needs
+number-requires : tie.Need-number-requires Inv-loop μ-loop
+number-requires c κs = search needs
 
 put-file-requires : tie.Need-put-file-requires Inv-loop μ-loop
 put-file-requires c κs = search needs
@@ -55,7 +55,7 @@ gather-spec =
     Inv-loop
     μ-loop
     loop-holds
-    add-put-file
+    number-requires
     put-file-requires
     least-requires
     mul-ends

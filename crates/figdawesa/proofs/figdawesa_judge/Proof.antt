@@ -1,5 +1,6 @@
 use mathlib.Core.Path.{subst, sym}
 use borrow.Author.Needs.{needs}
+use Rattle.sheet_format.specs.Table.{ten}
 use Rattle.judge_result.specs.Judged.{Judged}
 use Rattle.figdawesa.proofs.figdawesa_judge.Statement.{statement}
 use Rattle.figdawesa.proofs.figdawesa_judge.Tie as tie
@@ -17,7 +18,7 @@ returns : tie.Need-returns
 returns c =
     let j = c .before .before .judge in
     let a = c .before .before .before .before .before .args in
-    subst (Judged (a .sheet .now) (a .out .now) (j .last .1 .0)) (sym (c .passed .ensures)) (j .ensures)
+    subst (Judged ten (a .sheet .now) (a .out .now) (j .last .1 .0)) (sym (c .passed .ensures)) (j .ensures)
 
 pub figdawesa-judge-spec : {M : Type 1} → statement M
 figdawesa-judge-spec = tie.close (tie.spec judge-requires passed-requires same-length returns)

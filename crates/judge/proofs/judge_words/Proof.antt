@@ -1,5 +1,6 @@
 -- The plan of an accepted number form is ready for the search.
 use mathlib.Core.Path.{refl}
+use Rattle.sheet_format.specs.Table.{tableIn}
 use Rattle.sheet_format.specs.Line.{wordLines}
 use Rattle.case_verdicts.specs.Sheets.{sheetOf}
 use Rattle.judge.proofs.Ways.{decided-short, ready-plan}
@@ -18,7 +19,7 @@ plain-requires c κs = search needs
 returns : tie.Need-returns
 returns c =
     let s = c .before .before in
-    decided-short (sheetOf (wordLines (s .args .ws .now))) (s .args .out .now) (c .before .if1 .taken) (c .plain .result) (c .plain .ensures)
+    λ sound. decided-short (sheetOf (tableIn (s .args .table .now)) (wordLines (s .args .ws .now))) (s .args .out .now) (c .before .if1 .taken) (c .plain .result) (c .plain .ensures)
 
 slice-aggregate-plan : tie.Need-slice-aggregate-plan
 slice-aggregate-plan c = search needs
@@ -36,7 +37,9 @@ returns-2 : tie.Need-returns-2
 returns-2 c =
     let s = c .before .before .before .before .before .before .before .before in
     let p = c .before .before .before .before .before .plan in
-    c .before .decide .ensures (sheetOf (wordLines (s .args .ws .now))) (ready-plan (wordLines (s .args .ws .now)) (s .pre) (p .last .1 .0) (p .ensures .0 refl (s .pre)))
+    let t = tableIn (s .args .table .now) in
+    let ls = wordLines (s .args .ws .now) in
+    λ sound. c .before .decide .ensures (sheetOf t ls) (ready-plan t ls (s .pre) sound (p .last .1 .1 .0) (p .ensures .0 refl (s .pre)))
 
 pub judge-words-spec : {M : Type 1} → statement M
 judge-words-spec =

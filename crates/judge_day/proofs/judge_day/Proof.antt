@@ -1,22 +1,17 @@
--- By the number: nothing lent is changed, or the set is judged and its page is put.
-use mathlib.Core.Path.{sym, _∙_}
 use borrow.Author.Needs.{needs}
-use Rattle.judge_day.proofs.Laws.{by-number, set-shown, day-sent, day-taken}
+use Rattle.sheet_format.specs.Table.{ten}
+use Rattle.sheet_own_table.specs.Own.{ownBytes}
+use Rattle.judge_result.specs.Judged.{Judged, JudgedBy}
+use Rattle.judge.proofs.Ways.{own-judged}
+use Rattle.judge_day.proofs.Laws.{day-as}
 use Rattle.judge_day.proofs.judge_day.Statement.{statement}
 use Rattle.judge_day.proofs.judge_day.Tie as tie
 
-day-refusal-requires : tie.Need-day-refusal-requires
-day-refusal-requires c κs = search needs
+own-requires : tie.Need-own-requires
+own-requires c κs = search needs
 
-judge-unless-requires : tie.Need-judge-unless-requires
-judge-unless-requires c κs = search needs
-
-print-unless-requires : tie.Need-print-unless-requires
-print-unless-requires c κs =
-    let j = c .before .before .before in
-    let d = j .before .before in
-    let a = d .before .before .before .before .before .before .args in
-    λ zero. set-shown (a .bytes .now) (a .ends .now) (a .out .now) (a .page .now) (j .judge-unless .last .1 .1 .1 .0) (j .judge-unless .result) (sym (d .day-refusal .ensures) ∙ zero) (j .judge-unless .ensures .1 zero)
+judge-day-loaded-requires : tie.Need-judge-day-loaded-requires
+judge-day-loaded-requires c κs = (ownBytes, c .before .before .own .ensures)
 
 same-length : tie.Need-same-length
 same-length c = search needs
@@ -26,25 +21,8 @@ same-length-2 c = search needs
 
 returns : tie.Need-returns
 returns c =
-    let p = c .before .before in
-    let j = p .before .before .before .before in
-    let d = j .before .before in
-    let a = d .before .before .before .before .before .before .args in
-    let after = j .judge-unless .last .1 .1 .1 .0 in
-    let printed = p .print-unless .last .1 .1 .1 .0 in
-    let set = j .judge-unless .result in
-    let n = p .print-unless .result in
-    by-number (d .day-refusal .result)
-    (λ zero. day-taken (a .bytes .now) (a .ends .now) (a .out .now) (a .page .now) after printed set n (sym (d .day-refusal .ensures) ∙ zero) (j .judge-unless .ensures .1 zero) (p .print-unless .ensures .1 zero))
-    (λ some. day-sent (a .bytes .now) (a .ends .now) (a .out .now) (a .page .now) (d .day-refusal .result) after printed set n (d .day-refusal .ensures) some (j .judge-unless .ensures .0 some) (p .print-unless .ensures .0 some))
+    let j = c .before .before .before .judge-day-loaded in
+    day-as (JudgedBy ownBytes) (Judged ten) own-judged _ _ _ _ _ _ (j .result) (j .ensures ownBytes (c .before .before .before .before .before .before .own .ensures))
 
 pub judge-day-spec : {M : Type 1} → statement M
-judge-day-spec =
-    tie.close
-    (tie.spec
-    day-refusal-requires
-    judge-unless-requires
-    print-unless-requires
-    same-length
-    same-length-2
-    returns)
+judge-day-spec = tie.close (tie.spec own-requires judge-day-loaded-requires same-length same-length-2 returns)

@@ -1,5 +1,6 @@
 use native.Mathlib.Omega.{arith}
 use borrow.Author.Needs.{needs}
+use Rattle.judge_result.specs.Judged.{JudgedBy}
 use Rattle.judge_set.proofs.Laws.{placed}
 use Rattle.judge_set.proofs.judge_place.Statement.{statement}
 use Rattle.judge_set.proofs.judge_place.Tie as tie
@@ -16,38 +17,38 @@ shared-slice-read-end c = search needs
 first-word-requires : tie.Need-first-word-requires
 first-word-requires c κs = search needs
 
-sub-judge : tie.Need-sub-judge
-sub-judge c =
+sub-judge-loaded : tie.Need-sub-judge-loaded
+sub-judge-loaded c =
     let s = c .before .before .before .before .before in
     omega (arith, s .pre .0 .ordered (s .args .place) (s .pre .1))
 
-part-judge-start : tie.Need-part-judge-start
-part-judge-start c =
+part-judge-loaded-start : tie.Need-part-judge-loaded-start
+part-judge-loaded-start c =
     let s = c .before .before .before .before .before in
     omega (arith, s .pre .0 .ordered (s .args .place) (s .pre .1))
 
-part-judge-end : tie.Need-part-judge-end
-part-judge-end c =
+part-judge-loaded-end : tie.Need-part-judge-loaded-end
+part-judge-loaded-end c =
     let s = c .before .before .before .before .before in
     omega (arith, s .pre .0 .within (s .args .place) (s .pre .1))
 
-add-judge : tie.Need-add-judge
-add-judge c = search needs
+add-judge-loaded : tie.Need-add-judge-loaded
+add-judge-loaded c = search needs
 
-mul-judge : tie.Need-mul-judge
-mul-judge c = search needs
+mul-judge-loaded : tie.Need-mul-judge-loaded
+mul-judge-loaded c = search needs
 
-sub-judge-2 : tie.Need-sub-judge-2
-sub-judge-2 c = search needs
+sub-judge-loaded-2 : tie.Need-sub-judge-loaded-2
+sub-judge-loaded-2 c = search needs
 
-part-judge-start-2 : tie.Need-part-judge-start-2
-part-judge-start-2 c = search needs
+part-judge-loaded-start-2 : tie.Need-part-judge-loaded-start-2
+part-judge-loaded-start-2 c = search needs
 
-part-judge-end-2 : tie.Need-part-judge-end-2
-part-judge-end-2 c = search needs
+part-judge-loaded-end-2 : tie.Need-part-judge-loaded-end-2
+part-judge-loaded-end-2 c = search needs
 
-judge-requires : tie.Need-judge-requires
-judge-requires c κs = search needs
+judge-loaded-requires : tie.Need-judge-loaded-requires
+judge-loaded-requires c κs = search needs
 
 same-length : tie.Need-same-length
 same-length c = search needs
@@ -57,9 +58,9 @@ returns c =
     let w = c .before .before .before .before in
     let s = w .before .before .before .before .before in
     let a = s .args in
-    let j = c .before .judge in
+    let j = c .before .judge-loaded in
     let r = s .pre .0 .room in
-    placed (a .place) (a .bytes .now) (a .ends .now) (a .out .now) (j .last .1 .0) _ (j .result) (omega arith) (w .before .before .start-of .ensures) _ (w .first-word .ensures) (j .kept .1 .0) (j .ensures)
+    λ tb loads. placed (JudgedBy tb) (a .place) (a .bytes .now) (a .ends .now) (a .out .now) (j .last .1 .1 .0) _ (j .result) (omega arith) (w .before .before .start-of .ensures) _ (w .first-word .ensures) (j .kept .1 .1 .0) (j .ensures tb loads)
 
 pub judge-place-spec : {M : Type 1} → statement M
 judge-place-spec =
@@ -69,14 +70,14 @@ judge-place-spec =
     mul-end
     shared-slice-read-end
     first-word-requires
-    sub-judge
-    part-judge-start
-    part-judge-end
-    add-judge
-    mul-judge
-    sub-judge-2
-    part-judge-start-2
-    part-judge-end-2
-    judge-requires
+    sub-judge-loaded
+    part-judge-loaded-start
+    part-judge-loaded-end
+    add-judge-loaded
+    mul-judge-loaded
+    sub-judge-loaded-2
+    part-judge-loaded-start-2
+    part-judge-loaded-end-2
+    judge-loaded-requires
     same-length
     returns)

@@ -1,19 +1,22 @@
 -- So many places as were passed are judged.
-use mathlib.Core.Path.{subst, _≡_, sym}
-use Prim.Native.Nat.{_≤_, _-_}
+use mathlib.Core.Path.{subst, _≡_, refl, sym, _∙_}
+use mathlib.Core.List.{List}
+use Prim.Native.Nat.{ℕ, _≤_, _-_}
 use native.Mathlib.Omega.{arith}
 use borrow.Author.Needs.{needs}
 use lib.ListN.{length}
+use Rattle.sheet_table.specs.Loads.{Loads}
+use Rattle.judge_result.specs.Judged.{JudgedBy}
 use Rattle.judge_ends.specs.Sets.{JudgedTo}
 use Rattle.judge_set.proofs.Laws.{judged-none, judged-more}
 use Rattle.judge_set.proofs.judge_places.Statement.{statement}
 use Rattle.judge_set.proofs.judge_places.Tie as tie
 
 abbrev Inv-loop : tie.InvT-loop
-Inv-loop bytes ends out₀ sheets₀ next₀ out sheets next = (next ≤ length ends) × JudgedTo next bytes ends out₀ out sheets
+Inv-loop table bytes ends out₀ sheets₀ next₀ out sheets next = (next ≤ length ends) × (length out ≡ length out₀) × ((tb : List ℕ) → Loads tb table → JudgedTo (JudgedBy tb) next bytes ends out₀ out sheets)
 
 abbrev μ-loop : tie.MeasureT-loop
-μ-loop bytes ends out₀ sheets₀ next₀ out sheets next = length ends - next
+μ-loop table bytes ends out₀ sheets₀ next₀ out sheets next = length ends - next
 
 none-judged-requires : tie.Need-none-judged-requires Inv-loop μ-loop
 none-judged-requires c κs = search needs
@@ -21,7 +24,7 @@ none-judged-requires c κs = search needs
 loop-holds : tie.Need-loop-holds Inv-loop μ-loop
 loop-holds c =
     let a = c .before .before .before .args in
-    (omega arith, subst (λ js. JudgedTo 0 (a .bytes .now) (a .ends .now) (a .out .now) (a .out .now) js) (sym (c .none-judged .ensures)) (judged-none (a .bytes .now) (a .ends .now) (a .out .now)))
+    (omega arith, refl, λ tb loads. subst (λ js. JudgedTo (JudgedBy tb) 0 (a .bytes .now) (a .ends .now) (a .out .now) (a .out .now) js) (sym (c .none-judged .ensures)) (judged-none (JudgedBy tb) (a .bytes .now) (a .ends .now) (a .out .now)))
 
 add-next : tie.Need-add-next Inv-loop μ-loop
 add-next c = search needs
@@ -29,7 +32,7 @@ add-next c = search needs
 judge-place-requires : tie.Need-judge-place-requires Inv-loop μ-loop
 judge-place-requires c κs =
     let s = c .before .before .before .before .before .before in
-    let same = c .before .before .loop .inv .1 .same in
+    let same = c .before .before .loop .inv .1 in
     let p = s .pre in
     (record { few = p .few; ordered = p .ordered; within = p .within; room = omega arith }, omega arith)
 
@@ -50,7 +53,8 @@ loop-again c =
     let j = c .before .judge-place in
     let p = s .pre in (
       omega arith,
-      judged-more (l .loop .next) (a .bytes .now) (a .ends .now) (a .out .now) (l .loop .out) (j .last .1 .1 .1 .0) (l .loop .sheets) (j .result) (omega arith) (l .loop .inv .1) (j .ensures) (j .kept .1 .1 .1 .0),
+      j .kept .1 .1 .1 .1 .0 ∙ l .loop .inv .1,
+      λ tb loads. judged-more (JudgedBy tb) (l .loop .next) (a .bytes .now) (a .ends .now) (a .out .now) (l .loop .out) (j .last .1 .1 .1 .1 .0) (l .loop .sheets) (j .result) (omega arith) (l .loop .inv .2 tb loads) (j .ensures tb loads) (j .kept .1 .1 .1 .1 .0),
     )
 
 same-length : tie.Need-same-length Inv-loop μ-loop
@@ -61,7 +65,7 @@ returns c =
     let l = c .before in
     let a = l .before .before .before .before .args in
     let e : l .loop .next ≡ length (a .ends .now) = omega arith in
-    subst (λ n. JudgedTo n (a .bytes .now) (a .ends .now) (a .out .now) (l .loop .out) (l .loop .sheets)) e (l .loop .inv .1)
+    λ tb loads. subst (λ n. JudgedTo (JudgedBy tb) n (a .bytes .now) (a .ends .now) (a .out .now) (l .loop .out) (l .loop .sheets)) e (l .loop .inv .2 tb loads)
 
 pub judge-places-spec : {M : Type 1} → statement M
 judge-places-spec =

@@ -1,54 +1,25 @@
-use mathlib.Core.Path.{sym, _∙_}
 use borrow.Author.Needs.{needs}
-use Rattle.judge_ends.proofs.Laws.{parted}
-use Rattle.judge_set.proofs.Laws.{set-sent, set-taken}
+use Rattle.sheet_format.specs.Table.{ten}
+use Rattle.sheet_own_table.specs.Own.{ownBytes}
+use Rattle.judge_result.specs.Judged.{Judged, JudgedBy}
+use Rattle.judge.proofs.Ways.{own-judged}
+use Rattle.judge_set.proofs.Laws.{set-as}
 use Rattle.judge_set.proofs.judge_set.Statement.{statement}
 use Rattle.judge_set.proofs.judge_set.Tie as tie
 
-set-refusal-requires : tie.Need-set-refusal-requires
-set-refusal-requires c κs = search needs
+own-requires : tie.Need-own-requires
+own-requires c κs = search needs
 
-sent-requires : tie.Need-sent-requires
-sent-requires c κs = search needs
+judge-set-loaded-requires : tie.Need-judge-set-loaded-requires
+judge-set-loaded-requires c κs = search needs
 
 same-length : tie.Need-same-length
 same-length c = search needs
 
 returns : tie.Need-returns
 returns c =
-    let t = c .before in
-    let a = t .before .before .before .before .before .args in
-    let n = t .before .set-refusal in
-    set-sent (a .bytes .now) (a .ends .now) (a .out .now) (c .sent .result) (n .result) (n .ensures) (t .if1 .taken) (c .sent .ensures)
-
-judge-places-requires : tie.Need-judge-places-requires
-judge-places-requires c κs =
-    let t = c .before in
-    let a = t .before .before .before .before .before .args in
-    parted (a .bytes .now) (a .ends .now) (a .out .now) (sym (t .before .set-refusal .ensures) ∙ t .if1 .left)
-
-taken-requires : tie.Need-taken-requires
-taken-requires c κs = search needs
-
-same-length-2 : tie.Need-same-length-2
-same-length-2 c = search needs
-
-returns-2 : tie.Need-returns-2
-returns-2 c =
-    let p = c .before .before .judge-places in
-    let t = c .before .before .before .before in
-    let a = t .before .before .before .before .before .args in
-    set-taken (a .bytes .now) (a .ends .now) (a .out .now) (c .taken .result) (p .last .1 .1 .0) (p .result) (sym (t .before .set-refusal .ensures) ∙ t .if1 .left) (p .ensures) (c .taken .ensures)
+    let j = c .before .judge-set-loaded in
+    set-as (JudgedBy ownBytes) (Judged ten) own-judged _ _ _ _ (j .result) (j .ensures ownBytes (c .before .before .before .own .ensures))
 
 pub judge-set-spec : {M : Type 1} → statement M
-judge-set-spec =
-    tie.close
-    (tie.spec
-    set-refusal-requires
-    sent-requires
-    same-length
-    returns
-    judge-places-requires
-    taken-requires
-    same-length-2
-    returns-2)
+judge-set-spec = tie.close (tie.spec own-requires judge-set-loaded-requires same-length returns)

@@ -14,9 +14,9 @@ nothing-requires c κs = search needs
 
 returns : tie.Need-returns
 returns c =
-    λ _.
+    λ t _.
     let s = c .before .before in
-    no-block (wordLines (s .args .ws .now)) (s .args .k) _ _ _ (c .nothing .ensures) (ap (isBlock (wordLines (s .args .ws .now))) (c .before .if1 .taken))
+    no-block t (wordLines (s .args .ws .now)) (s .args .k) _ _ _ (c .nothing .ensures) (ap (isBlock (wordLines (s .args .ws .now))) (c .before .if1 .taken))
 
 head-line-requires : tie.Need-head-line-requires
 head-line-requires c κs = search needs
@@ -26,10 +26,10 @@ nothing-requires-2 c κs = search needs
 
 returns-2 : tie.Need-returns-2
 returns-2 c =
-    λ a.
+    λ t a.
     let s = c .before .before .before .before in
     let n = lines-length (s .args .ws .now) in
-    no-block (wordLines (s .args .ws .now)) (s .args .k) _ _ _ (c .nothing2 .ensures) (c .before .before .head-line .ensures .1 a .nowhere (omega arith))
+    no-block t (wordLines (s .args .ws .now)) (s .args .k) _ _ _ (c .nothing2 .ensures) (c .before .before .head-line .ensures .1 (t, a) .nowhere (omega arith))
 
 entries-requires : tie.Need-entries-requires
 entries-requires c κs = search needs
@@ -42,11 +42,11 @@ atom-count-requires c κs = search needs
 
 returns-3 : tie.Need-returns-3
 returns-3 c =
-    λ a.
+    λ t a.
     let s = c .before .before .before .before .before in
     let h = c .before .before .before .head-line in
     let e = c .before .entries .ensures in
-    found-block (s .args .ws .now) (s .args .k) (h .result) (c .atom-count .result) (c .before .entries .result) a (omega arith) (h .ensures .1 a) (e .0) (e .1) (c .atom-count .ensures a)
+    found-block t (s .args .ws .now) (s .args .k) (h .result) (c .atom-count .result) (c .before .entries .result) a (omega arith) (h .ensures .1 (t, a)) (e .0) (e .1) (c .atom-count .ensures (t, a))
 
 pub block-spec : {M : Type 1} → statement M
 block-spec =

@@ -7,18 +7,19 @@ use borrow.Author.Tests.{eq-eqb, ne-eqb, not-true, not-false}
 use lib.IntN.{pos}
 use lib.ListN.{getD}
 use Rattle.list_laws.proofs.Words.{word-back}
-use Rattle.sheet_format.specs.Relations.{columnsOf}
-use Rattle.query_facts.proofs.Laws.{columns-most, wrong-told}
+use Rattle.sheet_format.specs.Table.{columnsOf, tableIn}
+use Rattle.sheet_terms.proofs.Laws.{columns-most}
+use Rattle.query_facts.proofs.Laws.{wrong-told}
 use Rattle.query_facts.proofs.is_wrong.Statement.{statement}
 use Rattle.query_facts.proofs.is_wrong.Tie as tie
 
-told : (c : tie.After-columns) → c .columns .result ≡ columnsOf (getD (c .before .before .args .fs .now) (5 * c .before .before .args .i) (pos 0))
+told : (c : tie.After-columns) → c .columns .result ≡ columnsOf (tableIn (c .before .before .before .args .table .now)) (getD (c .before .before .before .args .fs .now) (5 * c .before .before .before .args .i) (pos 0))
 told c =
-    let a = c .before .before .args in
+    let a = c .before .before .before .args in
     rw (word-back (a .fs .now) (5 * a .i) (c .before .columns-arg .given)) at (c .columns .ensures)
 
 most : (c : tie.After-columns) → c .columns .result ≤ 4
-most c = rw (told c) (columns-most (getD (c .before .before .args .fs .now) (5 * c .before .before .args .i) (pos 0)))
+most c = rw (told c) (columns-most (c .before .before .before .args .table .now) (getD (c .before .before .before .args .fs .now) (5 * c .before .before .before .args .i) (pos 0)))
 
 mul-at : tie.Need-mul-at
 mul-at c = search needs
@@ -35,8 +36,8 @@ columns-requires c κs = search needs
 returns : tie.Need-returns
 returns c =
     let k = c .before in
-    let s = k .before .before in
-    rw (eq-eqb (k .columns .result) 0 (c .if1 .taken)) at (wrong-told (s .args .fs .now) (s .args .i) (s .pre) (k .columns .result) _ _ (told k) refl refl)
+    let s = k .before .before .before in
+    rw (eq-eqb (k .columns .result) 0 (c .if1 .taken)) at (wrong-told (s .args .fs .now) (s .args .i) (s .pre) (tableIn (s .args .table .now)) (columns-most (s .args .table .now)) (k .columns .result) _ _ (told k) refl refl)
 
 add-unused : tie.Need-add-unused
 add-unused c = search needs
@@ -53,9 +54,9 @@ all-in-range-requires c κs = let m = most (c .before) in omega arith
 returns-2 : tie.Need-returns-2
 returns-2 c =
     let k = c .before .before .before in
-    let s = k .before .before in
+    let s = k .before .before .before in
     rw (ne-eqb (k .columns .result) 0 (c .before .before .if1 .left), not-true (c .before .all-in-range .result) (c .if2 .taken))
-    at (wrong-told (s .args .fs .now) (s .args .i) (s .pre) (k .columns .result) (c .before .all-in-range .result) _ (told k) (c .before .all-in-range .ensures) refl)
+    at (wrong-told (s .args .fs .now) (s .args .i) (s .pre) (tableIn (s .args .table .now)) (columns-most (s .args .table .now)) (k .columns .result) (c .before .all-in-range .result) _ (told k) (c .before .all-in-range .ensures) refl)
 
 add-all-in-range-2 : tie.Need-add-all-in-range-2
 add-all-in-range-2 c = search needs
@@ -67,9 +68,9 @@ returns-3 : tie.Need-returns-3
 returns-3 c =
     let d = c .before .before in
     let k = d .before .before in
-    let s = k .before .before in
+    let s = k .before .before .before in
     rw (ne-eqb (k .columns .result) 0 (d .before .if1 .left), not-false (d .all-in-range .result) (c .before .if2 .left))
-    at (wrong-told (s .args .fs .now) (s .args .i) (s .pre) (k .columns .result) (d .all-in-range .result) (c .all-in-range2 .result) (told k) (d .all-in-range .ensures) (c .all-in-range2 .ensures))
+    at (wrong-told (s .args .fs .now) (s .args .i) (s .pre) (tableIn (s .args .table .now)) (columns-most (s .args .table .now)) (k .columns .result) (d .all-in-range .result) (c .all-in-range2 .result) (told k) (d .all-in-range .ensures) (c .all-in-range2 .ensures))
 
 pub is-wrong-spec : {M : Type 1} → statement M
 is-wrong-spec =

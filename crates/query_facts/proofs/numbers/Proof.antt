@@ -20,7 +20,7 @@ abbrev μ-loop : tie.MeasureT-loop
 μ-loop fs ns₀ i₀ ns i = length fs - i
 
 returns : tie.Need-returns Inv-loop μ-loop
-returns c = (λ r h. let few = c .if1 .taken in absurd (omega arith), λ _. refl)
+returns c = (λ t r h. let few = c .if1 .taken in absurd (omega arith), λ _. refl)
 
 loop-holds : tie.Need-loop-holds Inv-loop μ-loop
 loop-holds c = (refl, omega arith, refl)
@@ -63,7 +63,7 @@ returns-2 : tie.Need-returns-2 Inv-loop μ-loop
 returns-2 c =
     let l = c .before .loop in
     let w = c .loop-test .left in
-    (λ r h. numbers-read (c .before .before .before .before .args .fs .now) (l .ns) (l .i) (omega arith) (l .inv .2) r, λ few. let room = c .before .before .if1 .left in absurd (omega arith))
+    (λ t r h. numbers-read t (c .before .before .before .before .args .fs .now) (l .ns) (l .i) (omega arith) (l .inv .2) r, λ few. let room = c .before .before .if1 .left in absurd (omega arith))
 
 pub numbers-spec : {M : Type 1} → statement M
 numbers-spec =

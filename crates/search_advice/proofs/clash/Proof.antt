@@ -5,10 +5,10 @@ use Rattle.search_advice.proofs.clash.Statement.{statement}
 use Rattle.search_advice.proofs.clash.Tie as tie
 
 abbrev Inv-loop : tie.InvT-loop
-Inv-loop trial bd bits keyed relation₀ relation = relation ≤ 64
+Inv-loop p trial bd bits keyed digit₀ digit = digit ≤ 64
 
 abbrev μ-loop : tie.MeasureT-loop
-μ-loop trial bd bits keyed relation₀ relation = 64 - relation
+μ-loop p trial bd bits keyed digit₀ digit = 64 - digit
 
 get-requires : tie.Need-get-requires Inv-loop μ-loop
 get-requires c κs = search needs
@@ -22,8 +22,8 @@ loop-holds c = search needs
 facts-to-test-requires : tie.Need-facts-to-test-requires Inv-loop μ-loop
 facts-to-test-requires c κs = search needs
 
-key-requires : tie.Need-key-requires Inv-loop μ-loop
-key-requires c κs = search needs
+key-of-requires : tie.Need-key-of-requires Inv-loop μ-loop
+key-of-requires c κs = search needs
 
 clash-of-requires : tie.Need-clash-of-requires Inv-loop μ-loop
 clash-of-requires c κs = search needs
@@ -31,8 +31,8 @@ clash-of-requires c κs = search needs
 returns : tie.Need-returns Inv-loop μ-loop
 returns c = search needs
 
-add-next-digit : tie.Need-add-next-digit Inv-loop μ-loop
-add-next-digit c = search needs
+add-relation : tie.Need-add-relation Inv-loop μ-loop
+add-relation c = search needs
 
 next-digit-requires-2 : tie.Need-next-digit-requires-2 Inv-loop μ-loop
 next-digit-requires-2 c κs = search needs
@@ -58,11 +58,11 @@ clash-spec =
     get-requires
     next-digit-requires
     loop-holds
+    add-relation
     facts-to-test-requires
-    key-requires
+    key-of-requires
     clash-of-requires
     returns
-    add-next-digit
     next-digit-requires-2
     loop-less
     loop-again

@@ -1,7 +1,7 @@
 -- `search_keys::are_clashing` meets its contract. Assumes nothing.
 use Rattle.search_keys.specs.Clashes.{OneIn}
 use Rattle.search_keys.proofs.Marks.{one-yes, one-no, relation-at}
-use Rattle.sheet_format.specs.Relations.{keyOf}
+use Rattle.tableau_plan.specs.Plan.{keyIn}
 use borrow.Author.Tests.{not-true, not-false}
 use mathlib.Core.Path.{subst}
 use mathlib.Core.Bool.{true≢false}
@@ -45,8 +45,8 @@ element-copy-out-if3 c = search needs
 returns-3 : tie.Need-returns-3
 returns-3 c = λ e. absurd (true≢false (sym e))
 
-key-requires : tie.Need-key-requires
-key-requires c κs = search needs
+key-of-requires : tie.Need-key-of-requires
+key-of-requires c κs = search needs
 
 returns-4 : tie.Need-returns-4
 returns-4 c = λ e. absurd (true≢false (sym e))
@@ -65,9 +65,9 @@ returns-6 c = λ e.
     let all = c .are-one2 in
     let one = c .before .before .are-one in
     let at-key = c .before .before .before .before in
-    let key = at-key .key in
+    let key = at-key .key-of in
     let a = at-key .before .before .before .before .before .before .args in
-    let is = key .ensures .0 ∙ ap keyOf (relation-at (a .p .now) (a .i)) in
+    let is = key .ensures .0 ∙ ap (keyIn (a .p .now)) (relation-at (a .p .now) (a .i)) in
     record {
       relation = sym (relation-at (a .p .now) (a .i)) ∙ at-key .before .if3 .left ∙ relation-at (a .p .now) (a .k);
       some = let h = is in let z = c .before .before .before .if4 .left in omega arith;
@@ -88,7 +88,7 @@ are-clashing-spec =
     mul-if3-2
     element-copy-out-if3
     returns-3
-    key-requires
+    key-of-requires
     returns-4
     are-one-requires
     returns-5

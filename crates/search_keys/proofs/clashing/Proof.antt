@@ -15,10 +15,10 @@ use Rattle.search_keys.proofs.clashing.Lts as lts
 use Rattle.search_keys.proofs.is_clash.Reads as is-clash-reads
 
 abbrev Inv-loop : tie.InvT-loop
-Inv-loop facts i m k₀ k = (m ≡ length facts / 5) × (i < k) × (k ≤ m) × SettledTo facts i k
+Inv-loop p facts i m k₀ k = (m ≡ length facts / 5) × (i < k) × (k ≤ m) × SettledTo p facts i k
 
 abbrev μ-loop : tie.MeasureT-loop
-μ-loop facts i m k₀ k = m - k
+μ-loop p facts i m k₀ k = m - k
 
 add-k : tie.Need-add-k Inv-loop μ-loop
 add-k c = search needs
@@ -34,7 +34,7 @@ returns c =
     let l = c .before .before .before .loop in
     let k = c .before .is-clash in
     record {
-      clash = λ lt. clash-yes _ _ _ (k .result) (c .if1 .taken) (k .ensures);
+      clash = λ lt. clash-yes _ _ _ _ (k .result) (c .if1 .taken) (k .ensures);
       none = λ le. let m = l .inv .0 in let t = c .before .before .loop-test .taken in absurd (omega arith);
     }
 
@@ -50,7 +50,7 @@ loop-again c =
     let k = c .before .is-clash in
     let t = c .before .before .loop-test .taken in
     let a = c .before .before .before .before .before .args in
-    (l .inv .0, (let h = l .inv .1 in omega arith), omega arith, settled-more (a .facts .now) (a .i) (l .k) (l .inv .3) (clash-no _ _ _ (k .result) (c .if1 .left) (k .ensures)))
+    (l .inv .0, (let h = l .inv .1 in omega arith), omega arith, settled-more (a .p .now) (a .facts .now) (a .i) (l .k) (l .inv .3) (clash-no _ _ _ _ (k .result) (c .if1 .left) (k .ensures)))
 
 returns-2 : tie.Need-returns-2 Inv-loop μ-loop
 returns-2 c =

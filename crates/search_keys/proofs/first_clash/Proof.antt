@@ -16,10 +16,10 @@ use Rattle.search_keys.proofs.first_clash.Lts as lts
 use Rattle.search_keys.proofs.clashing.Reads as clashing-reads
 
 abbrev Inv-loop : tie.InvT-loop
-Inv-loop facts m i₀ i = (m ≡ length facts / 5) × (i ≤ m) × ((j : ℕ) → j < i → SettledTo facts j m)
+Inv-loop p facts m i₀ i = (m ≡ length facts / 5) × (i ≤ m) × ((j : ℕ) → j < i → SettledTo p facts j m)
 
 abbrev μ-loop : tie.MeasureT-loop
-μ-loop facts m i₀ i = m - i
+μ-loop p facts m i₀ i = m - i
 
 loop-holds : tie.Need-loop-holds Inv-loop μ-loop
 loop-holds c = (search needs, omega arith, λ d h. absurd (omega arith))
@@ -46,7 +46,7 @@ loop-again c =
     let t = c .before .before .loop-test .taken in
     let a = c .before .before .before .before .before .args in
     let m = l .inv .0 in
-    (l .inv .0, omega arith, each-more (a .facts .now) _ (l .i) (l .inv .2) (subst (λ n. SettledTo (a .facts .now) (l .i) n) (sym m) (k .ensures .none (let f = c .if1 .left in omega arith))))
+    (l .inv .0, omega arith, each-more (a .p .now) (a .facts .now) _ (l .i) (l .inv .2) (subst (λ n. SettledTo (a .p .now) (a .facts .now) (l .i) n) (sym m) (k .ensures .none (let f = c .if1 .left in omega arith))))
 
 returns-2 : tie.Need-returns-2 Inv-loop μ-loop
 returns-2 c =
@@ -54,7 +54,7 @@ returns-2 c =
     let t = c .loop-test .left in
     let m = l .inv .0 in
     let a = c .before .before .before .args in
-    all-settled (a .facts .now) (λ i k lt h. l .inv .2 i (omega arith) k lt (omega arith))
+    all-settled (a .p .now) (a .facts .now) (λ i k lt h. l .inv .2 i (omega arith) k lt (omega arith))
 
 pub first-clash-spec : {M : Type 1} → statement M
 first-clash-spec =

@@ -37,12 +37,12 @@ shared-slice-read-if1 c = search needs
 returns : tie.Need-returns
 returns c = λ h. absurd (c .if1 .taken (h .relation))
 
-key-requires : tie.Need-key-requires
-key-requires c κs = search needs
+key-of-requires : tie.Need-key-of-requires
+key-of-requires c κs = search needs
 
 returns-2 : tie.Need-returns-2
 returns-2 c = λ h.
-    let e = c .before .key .ensures .0 in
+    let e = c .before .key-of .ensures .0 in
     let z = c .if2 .taken in
     let some = h .some in
     absurd (omega arith)
@@ -55,20 +55,20 @@ returns-3 c = λ h.
     let a = c .before .before .before .before .before .before .before .before .args in
     let one = c .before .are-alike in
     absurd (alike-no (a .facts .now) (a .i) (a .k) _ (one .result) (not-true (one .result) (c .if3 .taken)) (one .ensures)
-    (subst (λ n. AlikeIn (a .facts .now) (a .i) (a .k) n) (sym (c .before .before .before .key .ensures .0)) (h .first)))
+    (subst (λ n. AlikeIn (a .facts .now) (a .i) (a .k) n) (sym (c .before .before .before .key-of .ensures .0)) (h .first)))
 
 are-alike-requires-2 : tie.Need-are-alike-requires-2
 are-alike-requires-2 c κs = search needs
 
 returns-4 : tie.Need-returns-4
 returns-4 c =
-    let key = c .before .before .before .before .key in
+    let key = c .before .before .before .before .key-of in
     let one = c .before .before .are-alike in
     let all = c .are-alike2 in
     let if1 = c .before .before .before .before .before .if1 in
     let a = c .before .before .before .before .before .before .before .before .before .args in
     let pre = c .before .before .before .before .before .before .before .before .before .pre in
-    clash-by (a .facts .now) (a .i) (a .k) (all .result) (pre .0) (pre .1) (record {
+    clash-by (a .p .now) (a .facts .now) (a .i) (a .k) (all .result) (pre .0) (pre .1) (record {
       relation = if1 .left;
       some = let e = key .ensures .0 in let z = c .before .before .before .if2 .left in omega arith;
       first = subst (λ n. AlikeIn (a .facts .now) (a .i) (a .k) n) (key .ensures .0) (alike-yes (a .facts .now) (a .i) (a .k) _ (one .result) (not-false (one .result) (c .before .if3 .left)) (one .ensures));
@@ -85,7 +85,7 @@ is-clash-spec =
     mul-if1-2
     shared-slice-read-if1
     returns
-    key-requires
+    key-of-requires
     returns-2
     are-alike-requires
     returns-3

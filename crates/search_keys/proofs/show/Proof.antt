@@ -1,6 +1,6 @@
 -- `search_keys::show` meets its contract. Assumes nothing.
 use Rattle.search_keys.proofs.Marks.{clash-shown, relation-at}
-use Rattle.sheet_format.specs.Relations.{keyOf}
+use Rattle.tableau_plan.specs.Plan.{keyIn}
 use mathlib.Core.Path.{_≡_, refl, sym, ap, _∙_}
 use mathlib.Core.Logic.{⊎-elim}
 use Prim.Native.Nat.{ℕ, _≤_, _<_, _-_, _%_, _+_, _*_}
@@ -21,17 +21,17 @@ returns c = (λ i. absurd (let t = c .if1 .taken in omega arith), refl)
 returns-2 : tie.Need-returns-2
 returns-2 c = (λ i k. absurd (let t = c .if2 .taken in omega arith), refl)
 
-mul-key : tie.Need-mul-key
-mul-key c = search needs
+mul-key-of : tie.Need-mul-key-of
+mul-key-of c = search needs
 
-mul-key-2 : tie.Need-mul-key-2
-mul-key-2 c = search needs
+mul-key-of-2 : tie.Need-mul-key-of-2
+mul-key-of-2 c = search needs
 
-element-copy-out-key : tie.Need-element-copy-out-key
-element-copy-out-key c = search needs
+element-copy-out-key-of : tie.Need-element-copy-out-key-of
+element-copy-out-key-of c = search needs
 
-key-requires : tie.Need-key-requires
-key-requires c κs = search needs
+key-of-requires : tie.Need-key-of-requires
+key-of-requires c κs = search needs
 
 mark-key-requires : tie.Need-mark-key-requires
 mark-key-requires c κs = search needs
@@ -49,7 +49,7 @@ returns-3 c =
     let marked = c .before .before .before .before .mark-key in
     let at-key = c .before .before .before .before .before .before in
     let a = at-key .before .before .before .before .args in (
-      λ li lk f g. clash-shown (a .p .now) (a .ws .now) (a .i) (a .k) _ (at-key .key .ensures .0 ∙ ap keyOf (relation-at (a .p .now) (a .i))) (marked .ensures .0 f g) (left .ensures .0 f) (right .ensures .0 g),
+      λ li lk f g. clash-shown (a .p .now) (a .ws .now) (a .i) (a .k) _ (at-key .key-of .ensures .0 ∙ ap (keyIn (a .p .now)) (relation-at (a .p .now) (a .i))) (marked .ensures .0 f g) (left .ensures .0 f) (right .ensures .0 g),
       right .ensures .1 ∙ left .ensures .1 ∙ marked .ensures .1,
     )
 
@@ -59,10 +59,10 @@ show-spec =
     (tie.spec
     returns
     returns-2
-    mul-key
-    mul-key-2
-    element-copy-out-key
-    key-requires
+    mul-key-of
+    mul-key-of-2
+    element-copy-out-key-of
+    key-of-requires
     mark-key-requires
     mark-row-requires
     mark-row-requires-2

@@ -33,8 +33,9 @@ first-clash-requires c κs = search needs
 returns : tie.Need-returns
 returns c =
     let w = c .before .before .before in
+    let p = w .before .before .args .p .now in
     let v = c .first-clash .result in
-    λ x r size. subst (λ ns. KeysBy (v .some) ns (v .left) (v .right)) (w .write-facts .ensures .1 x r size) (c .first-clash .ensures)
+    λ x r size. subst (λ ns. KeysBy (v .some) p ns (v .left) (v .right)) (w .write-facts .ensures .1 x r size) (c .first-clash .ensures)
 
 pub first-clash-spec : {M : Type 1} → statement M
 first-clash-spec =

@@ -34,7 +34,7 @@ returns-3 c = λ x r on size e.
     let s = a .before .before in
     let ready = ready-views (s .args .p .now) x r in
     good (s .args .p .now) x r (s .args .goal) (stateOf top (s .args .ws .now)) (s .args .facts .now) e (a .is-answered .ensures .0 ready size (c .before .before .before .before .if1 .left))
-    (none-clash (s .args .facts .now) (k .result .some) (k .result .left) (k .result .right) (c .before .before .if2 .left) (k .ensures))
+    (none-clash (s .args .p .now) (s .args .facts .now) (k .result .some) (k .result .left) (k .result .right) (c .before .before .if2 .left) (k .ensures))
     (f .result .some) (f .result .view) (f .result .values) (not-true (f .result .some) on) (f .ensures .0 ready)
 
 pub is-clean-spec : {M : Type 1} → statement M

@@ -10,6 +10,7 @@ use Rattle.list_laws.proofs.Words.{word-back}
 use Rattle.sheet_format.specs.Cause.{term}
 use Rattle.sheet_format.specs.Cause.Kind.{atom}
 use Rattle.sheet_format.specs.Line.{all}
+use Rattle.sheet_format.specs.Table.{tableIn}
 use Rattle.sheet_line_causes.specs.Parts.{causeBy, fields}
 use Rattle.sheet_line_causes.proofs.Words.{failed, held}
 use Rattle.sheet_line_causes.proofs.Lines.{atom-cause, atom-short, atomRest}
@@ -17,10 +18,10 @@ use borrow.Author.Needs.{needs}
 use Rattle.sheet_line_causes.proofs.atom_cause.Statement.{statement}
 use Rattle.sheet_line_causes.proofs.atom_cause.Tie as tie
 
-placed : (c : tie.After-columns) → let s = c .before .before .before .before .before in causeBy (s .args .g) [] atom (fields (s .args .n) (s .args .words .now)) ≡ atomRest (s .args .g) (s .args .n) (s .args .words .now) (c .columns .result)
+placed : (c : tie.After-columns) → let s = c .before .before .before .before .before .before in causeBy (tableIn (s .args .table .now)) (s .args .g) [] atom (fields (s .args .n) (s .args .words .now)) ≡ atomRest (s .args .g) (s .args .n) (s .args .words .now) (c .columns .result)
 placed c =
-    let s = c .before .before .before .before .before in
-    atom-cause (s .pre) (s .args .g) (c .before .before .before .before .if1 .left) (c .before .before .before .if2 .left) (c .before .before .if3 .left) (c .columns .result)
+    let s = c .before .before .before .before .before .before in
+    atom-cause (s .pre) (tableIn (s .args .table .now)) (s .args .g) (c .before .before .before .before .if1 .left) (c .before .before .before .if2 .left) (c .before .before .if3 .left) (c .columns .result)
     (rw (word-back (s .args .words .now) 2 (c .before .columns-arg .given)) at (c .columns .ensures))
 
 returns : tie.Need-returns
@@ -30,7 +31,7 @@ returns-2 : tie.Need-returns-2
 returns-2 c = rw (le-leb _ _ (c .before .if1 .left), lt-leb _ _ (c .if2 .taken))
 
 returns-3 : tie.Need-returns-3
-returns-3 c = let s = c .before .before .before in sym (atom-short (s .pre) (s .args .g) (c .before .before .if1 .left) (c .before .if2 .left) (c .if3 .taken))
+returns-3 c = let s = c .before .before .before .before in sym (atom-short (s .pre) (tableIn (s .args .table .now)) (s .args .g) (c .before .before .if1 .left) (c .before .if2 .left) (c .if3 .taken))
 
 shared-slice-copy-out-columns : tie.Need-shared-slice-copy-out-columns
 shared-slice-copy-out-columns c = search needs
@@ -60,7 +61,7 @@ all-pass-requires c κs = search needs
 returns-6 : tie.Need-returns-6
 returns-6 c =
     let a = c .before .before .before .before in
-    let s = a .before .before .before .before .before in
+    let s = a .before .before .before .before .before .before in
     let t : all term (slice 3 (s .args .n + 1) (s .args .words .now)) ≡ false = failed (c .before .all-pass .ensures) (c .if6 .taken) in
     sym (placed a ∙ rw (ne-eqb _ _ (c .before .before .before .if4 .left), eq-eqb _ _ (c .before .before .if5 .left), t))
 
@@ -70,7 +71,7 @@ most-atoms-requires c κs = search needs
 returns-7 : tie.Need-returns-7
 returns-7 c =
     let a = c .before .before .before .before .before .before in
-    let s = a .before .before .before .before .before in
+    let s = a .before .before .before .before .before .before in
     let t : all term (slice 3 (s .args .n + 1) (s .args .words .now)) ≡ true = held (c .before .before .before .all-pass .ensures) (c .before .before .if6 .left) in
     let m = ap (λ m. leb m (s .args .g .atoms)) (sym (c .before .most-atoms .ensures)) ∙ le-leb _ _ (c .if7 .taken) in
     sym (placed a ∙ rw (ne-eqb _ _ (c .before .before .before .before .before .if4 .left), eq-eqb _ _ (c .before .before .before .before .if5 .left), t, m))
@@ -78,7 +79,7 @@ returns-7 c =
 returns-8 : tie.Need-returns-8
 returns-8 c =
     let a = c .before .before .before .before .before .before in
-    let s = a .before .before .before .before .before in
+    let s = a .before .before .before .before .before .before in
     let t : all term (slice 3 (s .args .n + 1) (s .args .words .now)) ≡ true = held (c .before .before .before .all-pass .ensures) (c .before .before .if6 .left) in
     let m = ap (λ m. leb m (s .args .g .atoms)) (sym (c .before .most-atoms .ensures)) ∙ lt-leb _ _ (c .if7 .left) in
     sym (placed a ∙ rw (ne-eqb _ _ (c .before .before .before .before .before .if4 .left), eq-eqb _ _ (c .before .before .before .before .if5 .left), t, m))

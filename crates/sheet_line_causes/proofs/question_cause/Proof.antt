@@ -13,14 +13,14 @@ use Rattle.sheet_line_causes.proofs.question_cause.Statement.{statement
 use Rattle.sheet_line_causes.proofs.question_cause.Tie as tie
 
 returns : tie.Need-returns
-returns c =
+returns c table =
     let s = c .before in
-    sym (question-cause (s .pre) (s .args .g) ∙ rw (ne-eqb _ _ (c .if1 .taken)))
+    sym (question-cause (s .pre) table (s .args .g) ∙ rw (ne-eqb _ _ (c .if1 .taken)))
 
 returns-2 : tie.Need-returns-2
-returns-2 c =
+returns-2 c table =
     let s = c .before .before in
-    sym (question-cause (s .pre) (s .args .g) ∙ rw (eq-eqb _ _ (c .before .if1 .left), lt-leb _ _ (c .if2 .taken)))
+    sym (question-cause (s .pre) table (s .args .g) ∙ rw (eq-eqb _ _ (c .before .if1 .left), lt-leb _ _ (c .if2 .taken)))
 
 add-all-pass : tie.Need-add-all-pass
 add-all-pass c = search needs
@@ -29,16 +29,16 @@ all-pass-requires : tie.Need-all-pass-requires
 all-pass-requires c κs = search needs
 
 returns-3 : tie.Need-returns-3
-returns-3 c =
+returns-3 c table =
     let s = c .before .before .before .before in
     let t : all term (slice 2 (s .args .n + 1) (s .args .words .now)) ≡ false = failed (c .before .all-pass .ensures) (c .if3 .taken) in
-    sym (question-cause (s .pre) (s .args .g) ∙ rw (eq-eqb _ _ (c .before .before .before .if1 .left), le-leb _ _ (c .before .before .if2 .left), t))
+    sym (question-cause (s .pre) table (s .args .g) ∙ rw (eq-eqb _ _ (c .before .before .before .if1 .left), le-leb _ _ (c .before .before .if2 .left), t))
 
 returns-4 : tie.Need-returns-4
-returns-4 c =
+returns-4 c table =
     let s = c .before .before .before .before in
     let t : all term (slice 2 (s .args .n + 1) (s .args .words .now)) ≡ true = held (c .before .all-pass .ensures) (c .if3 .left) in
-    sym (question-cause (s .pre) (s .args .g) ∙ rw (eq-eqb _ _ (c .before .before .before .if1 .left), le-leb _ _ (c .before .before .if2 .left), t))
+    sym (question-cause (s .pre) table (s .args .g) ∙ rw (eq-eqb _ _ (c .before .before .before .if1 .left), le-leb _ _ (c .before .before .if2 .left), t))
 
 pub question-cause-spec : {M : Type 1} → statement M
 question-cause-spec =

@@ -13,14 +13,14 @@ use Rattle.sheet_line_causes.proofs.view_cause.Statement.{statement}
 use Rattle.sheet_line_causes.proofs.view_cause.Tie as tie
 
 returns : tie.Need-returns
-returns c =
+returns c table =
     let s = c .before in
-    sym (view-cause (s .pre) (s .args .g) ∙ rw (lt-leb _ _ (c .if1 .taken)))
+    sym (view-cause (s .pre) table (s .args .g) ∙ rw (lt-leb _ _ (c .if1 .taken)))
 
 returns-2 : tie.Need-returns-2
-returns-2 c =
+returns-2 c table =
     let s = c .before .before in
-    sym (view-cause (s .pre) (s .args .g) ∙ rw (le-leb _ _ (c .before .if1 .left), lt-leb _ _ (c .if2 .taken)))
+    sym (view-cause (s .pre) table (s .args .g) ∙ rw (le-leb _ _ (c .before .if1 .left), lt-leb _ _ (c .if2 .taken)))
 
 add-all-pass : tie.Need-add-all-pass
 add-all-pass c = search needs
@@ -29,22 +29,22 @@ all-pass-requires : tie.Need-all-pass-requires
 all-pass-requires c κs = search needs
 
 returns-3 : tie.Need-returns-3
-returns-3 c =
+returns-3 c table =
     let s = c .before .before .before .before in
     let t : all term (slice 2 (s .args .n + 1) (s .args .words .now)) ≡ false = failed (c .before .all-pass .ensures) (c .if3 .taken) in
-    sym (view-cause (s .pre) (s .args .g) ∙ rw (le-leb _ _ (c .before .before .before .if1 .left), le-leb _ _ (c .before .before .if2 .left), t))
+    sym (view-cause (s .pre) table (s .args .g) ∙ rw (le-leb _ _ (c .before .before .before .if1 .left), le-leb _ _ (c .before .before .if2 .left), t))
 
 returns-4 : tie.Need-returns-4
-returns-4 c =
+returns-4 c table =
     let s = c .before .before .before .before .before in
     let t : all term (slice 2 (s .args .n + 1) (s .args .words .now)) ≡ true = held (c .before .before .all-pass .ensures) (c .before .if3 .left) in
-    sym (view-cause (s .pre) (s .args .g) ∙ rw (le-leb _ _ (c .before .before .before .before .if1 .left), le-leb _ _ (c .before .before .before .if2 .left), t, le-leb _ _ (c .if4 .taken)))
+    sym (view-cause (s .pre) table (s .args .g) ∙ rw (le-leb _ _ (c .before .before .before .before .if1 .left), le-leb _ _ (c .before .before .before .if2 .left), t, le-leb _ _ (c .if4 .taken)))
 
 returns-5 : tie.Need-returns-5
-returns-5 c =
+returns-5 c table =
     let s = c .before .before .before .before .before in
     let t : all term (slice 2 (s .args .n + 1) (s .args .words .now)) ≡ true = held (c .before .before .all-pass .ensures) (c .before .if3 .left) in
-    sym (view-cause (s .pre) (s .args .g) ∙ rw (le-leb _ _ (c .before .before .before .before .if1 .left), le-leb _ _ (c .before .before .before .if2 .left), t, lt-leb _ _ (c .if4 .left)))
+    sym (view-cause (s .pre) table (s .args .g) ∙ rw (le-leb _ _ (c .before .before .before .before .if1 .left), le-leb _ _ (c .before .before .before .if2 .left), t, lt-leb _ _ (c .if4 .left)))
 
 pub view-cause-spec : {M : Type 1} → statement M
 view-cause-spec =

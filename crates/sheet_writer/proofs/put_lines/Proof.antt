@@ -24,10 +24,11 @@ put-bytes-requires : tie.Need-put-bytes-requires Inv-loop μ-loop
 put-bytes-requires c κs =
     let l = c .before .before .loop in
     let ws = c .before .before .before .before .args .words .now in
-    let p = c .before .before .before .before .pre .0 in
-    let f = few-lines ws p in
-    let s = at-small ws p (l .i) (l .at) (c .before .before .before .before .args .out .now) (l .out) (l .inv .0) (l .inv .2) in
-    (omega arith, omega arith, line-formed ws p (l .i) (omega arith))
+    let t = c .before .before .before .before .pre .0 in
+    let p = c .before .before .before .before .pre .1 in
+    let f = few-lines t ws p in
+    let s = at-small t ws p (l .i) (l .at) (c .before .before .before .before .args .out .now) (l .out) (l .inv .0) (l .inv .2) in
+    (omega arith, omega arith, line-formed t ws p (l .i) (omega arith))
 
 add-i : tie.Need-add-i Inv-loop μ-loop
 add-i c = search needs
@@ -40,7 +41,7 @@ loop-again c =
     let l = c .before .before .before .before .before .loop in
     let a = c .before .before .before .before .before .before .before .args in
     let p = c .before .before .put-bytes in
-    (omega arith, omega arith, lines-more (a .words .now) (c .before .before .before .before .before .before .before .pre .0) (l .i) (l .at) (p .result) (a .out .now) (l .out) (p .last .1 .1 .0) (omega arith) (l .inv .2) (p .ensures))
+    (omega arith, omega arith, lines-more (c .before .before .before .before .before .before .before .pre .0) (a .words .now) (c .before .before .before .before .before .before .before .pre .1) (l .i) (l .at) (p .result) (a .out .now) (l .out) (p .last .1 .1 .0) (omega arith) (l .inv .2) (p .ensures))
 
 same-length : tie.Need-same-length Inv-loop μ-loop
 same-length c =
@@ -50,7 +51,7 @@ returns : tie.Need-returns Inv-loop μ-loop
 returns c =
     let l = c .before .loop in
     let a = c .before .before .before .args in
-    lines-all (a .words .now) (c .before .before .before .pre .0) (l .i) (l .at) (a .out .now) (l .out) (omega arith) (l .inv .2)
+    lines-all (c .before .before .before .pre .0) (a .words .now) (c .before .before .before .pre .1) (l .i) (l .at) (a .out .now) (l .out) (omega arith) (l .inv .2)
 
 pub put-lines-spec : {M : Type 1} → statement M
 put-lines-spec =

@@ -1,11 +1,15 @@
 -- `plan::plan` meets its contract: blocks, rows, tableau and counts together. Assumes nothing.
-use mathlib.Core.Path.{refl, subst}
+use mathlib.Core.Path.{_≡_, refl, _∙_, subst}
+use Rattle.sheet_format.specs.Limits.{table-numbers}
 use native.Mathlib.Omega.{arith}
 use lib.ListN.{length}
 use Prim.Native.Nat.{_/_}
 use Rattle.sheet_format.proofs.WordLines.{lines-length}
 use Rattle.sheet_format.specs.Line.{wordLines}
+use Rattle.query_blocks.specs.Parts.{AcceptedLines}
 use Rattle.tableau_plan.specs.Parts.{Closed}
+use Rattle.sheet_format.specs.Table.{tableIn}
+use Rattle.tableau_plan.proofs.Laws.{closed-kept, table-stands}
 use Rattle.tableau_plan.proofs.Whole.{plan-of}
 use borrow.Author.Needs.{needs}
 use Rattle.tableau_plan.proofs.plan.Statement.{statement}
@@ -35,12 +39,16 @@ views-of-requires c κs = search needs
 put-counts-requires : tie.Need-put-counts-requires
 put-counts-requires c κs = search needs
 
+put-table-requires : tie.Need-put-table-requires
+put-table-requires c κs = search needs
+
 same-length : tie.Need-same-length
 same-length c = search needs
 
 returns-2 : tie.Need-returns-2
 returns-2 c =
-    let at-views-of = c .before .before .before in
+    let at-put-counts = c .before .before .before .before .before .before .before in
+    let at-views-of = at-put-counts .before in
     let at-put-tableau = at-views-of .before .before .before .before in
     let at-put-copy = at-put-tableau .before .before .before .before in
     let at-put-rows = at-put-copy .before .before .before .before in
@@ -50,17 +58,23 @@ returns-2 c =
     let start = at-if1 .before .before in (
       λ long ok.
           let w = start .args .ws .now in
+          let table = start .args .table .now in
           let k = at-count-lists .count-lists in
           let b = at-put-blocks .put-blocks in
           let r = at-put-rows .put-rows in
           let q = at-put-copy .put-copy in
           let t = at-put-tableau .put-tableau in
-          let n = c .before .before .put-counts in
+          let n = at-put-counts .put-counts in
+          let e = c .before .before .put-table in
+          let p = e .last .1 .0 in
           let l = lines-length w in
-          let (v, d) = r .ensures .2 ok in
-          let counts = subst (λ m. Closed (t .last .0) (n .last .0) (t .result) (q .result) (r .result) (k .result) m) (at-views-of .views-of .ensures) (n .ensures) in
-          plan-of (wordLines w) ok (b .last .1 .1 .0) (r .last .1 .0) (q .last .0) (t .last .0) (n .last .0) (b .result) (k .result) (length w / 7) v (r .result) (q .result) (t .result) (b .ensures .0) (k .ensures ok) (b .ensures .1 ok (k .ensures ok)) (r .ensures .1) (r .ensures .0) (omega arith) d
-          (q .ensures .1) (q .ensures .2) (t .ensures .1) (t .ensures .0) (t .ensures .2) counts,
+          let accepted : AcceptedLines (wordLines w) = (tableIn table, ok) in
+          let (v, d) = r .ensures .2 accepted in
+          let counts = subst (λ m. Closed (t .last .1 .0) (n .last .0) (t .result) (q .result) (r .result) (k .result) m) (at-views-of .views-of .ensures) (n .ensures) in
+          let closed = closed-kept (t .last .1 .0) (n .last .0) p (t .result) (q .result) (r .result) (k .result) _ counts (e .ensures .0) in
+          let size = closed .same ∙ t .ensures .1 .same ∙ q .ensures .1 .same ∙ r .ensures .1 .same ∙ b .ensures .0 in
+          plan-of (tableIn table) (wordLines w) ok (b .last .1 .1 .0) (r .last .1 .0) (q .last .1 .0) (t .last .1 .0) p (b .result) (k .result) (length w / 7) v (r .result) (q .result) (t .result) (b .ensures .0) (k .ensures accepted) (b .ensures .1 accepted (k .ensures accepted)) (r .ensures .1) (r .ensures .0) (omega arith) d
+          (q .ensures .1) (q .ensures .2) (t .ensures .1) (t .ensures .0) (t .ensures .2) closed (table-stands p table size (e .ensures .2) (e .ensures .1)),
       λ other. absurd (other (at-if1 .if1 .left)),
     )
 
@@ -76,5 +90,6 @@ plan-spec =
     put-tableau-requires
     views-of-requires
     put-counts-requires
+    put-table-requires
     same-length
     returns-2)

@@ -5,6 +5,7 @@ use Prim.Native.Nat.{ℕ, _≤_, _<_, _-_, _+_, _*_}
 use native.Mathlib.Omega.{arith}
 use borrow.Author.Needs.{needs}
 use lib.ListN.{length, drop}
+use Rattle.sheet_format.specs.Table.{tableIn}
 use Rattle.tableau_layout.specs.Layout.{rows-at, tableau-atoms}
 use Rattle.list_laws.proofs.Ranges.{kept-none, kept-more}
 use Rattle.query_meaning.specs.Meaning.{Atom}
@@ -15,14 +16,14 @@ use Rattle.tableau_plan.proofs.put_atoms.Statement.{statement}
 use Rattle.tableau_plan.proofs.put_atoms.Tie as tie
 
 abbrev Inv-loop : tie.InvT-loop
-Inv-loop p₀ copy from n at next₀ j₀ p next j =
+Inv-loop table p₀ copy from n at next₀ j₀ p next j =
     (j ≤ n)
     × (next ≤ tableau-atoms)
     × KeptOutside p₀ p 0 rows-at
-    × ((l left : List PlacedAtom) (own : List Atom) → length l ≤ tableau-atoms → n ≡ length own → ((i : ℕ) → i < n → AtomAt p₀ (from + i * 5) (atomAt own i)) → AtomsStored p₀ at l (ownAtoms copy own ++ left) → AtomsStored p next l (ownAtoms copy (drop j own) ++ left))
+    × ((l left : List PlacedAtom) (own : List Atom) → length l ≤ tableau-atoms → n ≡ length own → ((i : ℕ) → i < n → AtomAt p₀ (from + i * 5) (atomAt own i)) → AtomsStored p₀ at l (ownAtoms (tableIn table) copy own ++ left) → AtomsStored p next l (ownAtoms (tableIn table) copy (drop j own) ++ left))
 
 abbrev μ-loop : tie.MeasureT-loop
-μ-loop p₀ copy from n at next₀ j₀ p next j = n - j
+μ-loop table p₀ copy from n at next₀ j₀ p next j = n - j
 
 loop-holds : tie.Need-loop-holds Inv-loop μ-loop
 loop-holds c = (omega arith, omega arith, kept-none (c .before .args .p .now) 0 rows-at, λ l left own few count stand d. d)
@@ -54,12 +55,12 @@ loop-again c =
     let w = c .before .before .put-atom in (
       omega arith,
       w .ensures .0,
-      kept-more (a .p .now) (o .p) (w .last .0) 0 rows-at (o .inv .2) (w .ensures .1),
+      kept-more (a .p .now) (o .p) (w .last .1 .0) 0 rows-at (o .inv .2) (w .ensures .1),
       λ l left own few count stand d.
           let lt : o .j < length own = omega arith in
-          w .ensures .2 l (ownAtoms (a .copy) (drop (o .j + 1) own) ++ left) (atomAt own (o .j)) few
+          w .ensures .2 l (ownAtoms (tableIn (a .table .now)) (a .copy) (drop (o .j + 1) own) ++ left) (atomAt own (o .j)) few
           (atom-same (a .p .now) (o .p) (a .from + o .j * 5) (atomAt own (o .j)) (omega arith) (o .inv .2) (stand (o .j) (omega arith)))
-          (subst (AtomsStored (o .p) (o .next) l) (own-first (a .copy) (o .j) own left lt) (o .inv .3 l left own few count stand d)),
+          (subst (AtomsStored (o .p) (o .next) l) (own-first (tableIn (a .table .now)) (a .copy) (o .j) own left lt) (o .inv .3 l left own few count stand d)),
     )
 
 same-length : tie.Need-same-length Inv-loop μ-loop
@@ -71,7 +72,7 @@ returns c =
     let a = c .before .before .before .args in (
       o .inv .1,
       o .inv .2,
-      λ l left own few count stand d. subst (AtomsStored (o .p) (o .next) l) (own-none (a .copy) (o .j) own left (omega arith)) (o .inv .3 l left own few count stand d),
+      λ l left own few count stand d. subst (AtomsStored (o .p) (o .next) l) (own-none (tableIn (a .table .now)) (a .copy) (o .j) own left (omega arith)) (o .inv .3 l left own few count stand d),
     )
 
 pub put-atoms-spec : {M : Type 1} → statement M

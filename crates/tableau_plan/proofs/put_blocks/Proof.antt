@@ -37,7 +37,7 @@ returns c =
     let at = c .before .before .before .before in
     let l = at .loop in
     let a = at .before .before .args in
-    (l .inv .1, λ ok so. begun-end (l .p) (wordLines (a .ws .now)) (a .lists) (l .b) ok so (l .inv .2 ok) (f .result .atoms) (f .result .numbers) (f .result .some) (not-true _ (c .if1 .taken)) (f .ensures ok))
+    (l .inv .1, λ ok so. begun-end (l .p) (wordLines (a .ws .now)) (a .lists) (l .b) ok so (l .inv .2 ok) (f .result .atoms) (f .result .numbers) (f .result .some) (not-true _ (c .if1 .taken)) (f .ensures (ok .0) (ok .1)))
 
 place-requires : tie.Need-place-requires Inv-loop μ-loop
 place-requires c κs = search needs
@@ -53,7 +53,7 @@ returns-2 c =
     let l = at .loop in
     let a = at .before .before .args in
     let e = c .before .place .ensures in
-    (l .inv .1, λ ok so. begun-out (l .p) (wordLines (a .ws .now)) (a .lists) (l .b) ok so (l .inv .2 ok) (f .result .some) (f .result .atoms) (f .result .numbers) (not-false _ (some .if1 .left)) (f .ensures ok) (subst (λ n. most-blocks ≤ n) e (c .if2 .taken)))
+    (l .inv .1, λ ok so. begun-out (l .p) (wordLines (a .ws .now)) (a .lists) (l .b) ok so (l .inv .2 ok) (f .result .some) (f .result .atoms) (f .result .numbers) (not-false _ (some .if1 .left)) (f .ensures (ok .0) (ok .1)) (subst (λ n. most-blocks ≤ n) e (c .if2 .taken)))
 
 put-block-requires : tie.Need-put-block-requires Inv-loop μ-loop
 put-block-requires c κs = let some = c .before .before .before in let l = some .before .before .before .before .loop in (l .inv .1, c .before .if2 .left)
@@ -77,7 +77,7 @@ loop-again c =
       omega arith,
       w .ensures .long,
       λ ok. begun-more (l .p) (w .last .0) (wordLines (a .ws .now)) (a .lists) (l .b) (f .result .some) (f .result .atoms) (f .result .numbers) (subst (λ n. n < most-blocks) e (low .if2 .left)) (l .inv .1)
-          (subst (λ n. BlockStored (l .p) (w .last .0) n (f .result .atoms) (f .result .numbers)) e (w .ensures)) (not-false _ (some .if1 .left)) (f .ensures ok) (l .inv .2 ok),
+          (subst (λ n. BlockStored (l .p) (w .last .0) n (f .result .atoms) (f .result .numbers)) e (w .ensures)) (not-false _ (some .if1 .left)) (f .ensures (ok .0) (ok .1)) (l .inv .2 ok),
     )
 
 same-length-3 : tie.Need-same-length-3 Inv-loop μ-loop

@@ -5,6 +5,7 @@ use native.Mathlib.Omega.{arith}
 use native.Mathlib.Numerals.{add-one}
 use lib.ListN.{drop}
 use borrow.Author.Needs.{needs}
+use Rattle.sheet_format.specs.Table.{tableIn}
 use Rattle.tableau_layout.specs.Layout.{rows-at}
 use Rattle.list_laws.proofs.Ranges.{kept-none}
 use Rattle.tableau_plan.specs.Parts.{atomsFrom, AtomsStored, TableauDone}
@@ -35,7 +36,7 @@ returns c =
       omega arith,
       kept-none (a .p .now) 0 rows-at,
       λ n bs lt d h.
-          let f = copy-few (a .p .now) n bs (a .copy) (o .result) (o .ensures .0 (d .low (a .copy) lt)) d lt in
+          let f = copy-few (tableIn (a .table .now)) (a .p .now) n bs (a .copy) (o .result) (o .ensures .0 (d .low (a .copy) lt)) d lt in
           absurd (omega arith),
     )
 
@@ -63,9 +64,9 @@ returns-2 c =
           let is = o .ensures .0 (d .low (a .copy) lt) in
           let p = a .p .now in
           let k = a .copy in
-          subst (λ i. AtomsStored (w .last .0) (w .result) (atomsFrom 0 bs) (atomsFrom i (drop i bs))) (sym (add-one k))
-          (w .ensures .2 (atomsFrom 0 bs) (atomsFrom (suc k) (drop (suc k) bs)) (copyBlock p n bs k (o .result) is d lt .atoms) (d .few) (copy-size p n bs k (o .result) is d lt) (copy-atoms p n bs k (o .result) is d lt)
-          (subst (AtomsStored p (a .at) (atomsFrom 0 bs)) (copy-ahead k bs lt) h)),
+          subst (λ i. AtomsStored (w .last .1 .0) (w .result) (atomsFrom (tableIn (a .table .now)) 0 bs) (atomsFrom (tableIn (a .table .now)) i (drop i bs))) (sym (add-one k))
+          (w .ensures .2 (atomsFrom (tableIn (a .table .now)) 0 bs) (atomsFrom (tableIn (a .table .now)) (suc k) (drop (suc k) bs)) (copyBlock (tableIn (a .table .now)) p n bs k (o .result) is d lt .atoms) (d .few) (copy-size (tableIn (a .table .now)) p n bs k (o .result) is d lt) (copy-atoms (tableIn (a .table .now)) p n bs k (o .result) is d lt)
+          (subst (AtomsStored p (a .at) (atomsFrom (tableIn (a .table .now)) 0 bs)) (copy-ahead (tableIn (a .table .now)) k bs lt) h)),
     )
 
 pub put-copy-spec : {M : Type 1} → statement M

@@ -4,6 +4,7 @@ use Prim.Native.Nat.{_≤_, _-_, _+_}
 use native.Mathlib.Omega.{arith}
 use borrow.Author.Needs.{needs}
 use mathlib.Core.List.{List}
+use Rattle.sheet_format.specs.Table.{tableIn}
 use Rattle.tableau_layout.specs.Layout.{rows-at, tableau-atoms}
 use Rattle.list_laws.proofs.Ranges.{kept-none, kept-more}
 use Rattle.query_meaning.specs.Meaning.{Block}
@@ -13,10 +14,10 @@ use Rattle.tableau_plan.proofs.put_tableau.Statement.{statement}
 use Rattle.tableau_plan.proofs.put_tableau.Tie as tie
 
 abbrev Inv-loop : tie.InvT-loop
-Inv-loop p₀ n asked at₀ copy₀ p at copy = (copy ≤ n + 1) × (at ≤ tableau-atoms) × KeptOutside p₀ p 0 rows-at × ((bs : List Block) → Sources p₀ n bs → TableauDone p₀ 1 asked bs → TableauDone p copy at bs)
+Inv-loop table p₀ n asked at₀ copy₀ p at copy = (copy ≤ n + 1) × (at ≤ tableau-atoms) × KeptOutside p₀ p 0 rows-at × ((bs : List Block) → Sources (tableIn table) p₀ n bs → TableauDone (tableIn table) p₀ 1 asked bs → TableauDone (tableIn table) p copy at bs)
 
 abbrev μ-loop : tie.MeasureT-loop
-μ-loop p₀ n asked at₀ copy₀ p at copy = n + 1 - copy
+μ-loop table p₀ n asked at₀ copy₀ p at copy = n + 1 - copy
 
 loop-holds : tie.Need-loop-holds Inv-loop μ-loop
 loop-holds c = (omega arith, omega arith, kept-none (c .before .args .p .now) 0 rows-at, λ bs d h. h)
@@ -41,10 +42,10 @@ loop-again c =
     let t = c .before .before .put-copy in (
       omega arith,
       t .ensures .0,
-      kept-more (a .p .now) (l .p) (t .last .0) 0 rows-at (l .inv .2) (t .ensures .1),
+      kept-more (a .p .now) (l .p) (t .last .1 .0) 0 rows-at (l .inv .2) (t .ensures .1),
       λ bs d h.
           let n = d .count in
-          t .ensures .2 (a .n) bs (omega arith) (sources-kept (a .p .now) (l .p) (a .n) bs (s .pre .0) (l .inv .2) d) (l .inv .3 bs d h),
+          t .ensures .2 (a .n) bs (omega arith) (sources-kept (tableIn (a .table .now)) (a .p .now) (l .p) (a .n) bs (s .pre .0) (l .inv .2) d) (l .inv .3 bs d h),
     )
 
 same-length : tie.Need-same-length Inv-loop μ-loop
@@ -55,7 +56,7 @@ returns c =
     let l = c .before .loop in
     let a = c .before .before .before .args in
     let e : l .copy ≡ a .n + 1 = omega arith in
-    (l .inv .1, l .inv .2, λ bs d h. subst (λ k. TableauDone (l .p) k (l .at) bs) e (l .inv .3 bs d h))
+    (l .inv .1, l .inv .2, λ bs d h. subst (λ k. TableauDone (tableIn (a .table .now)) (l .p) k (l .at) bs) e (l .inv .3 bs d h))
 
 pub put-tableau-spec : {M : Type 1} → statement M
 put-tableau-spec =

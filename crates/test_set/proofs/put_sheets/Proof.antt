@@ -6,10 +6,10 @@ use Rattle.test_set.proofs.put_sheets.Statement.{statement}
 use Rattle.test_set.proofs.put_sheets.Tie as tie
 
 abbrev Inv-loop : tie.InvT-loop
-Inv-loop out₀ at bytes ends lent count sheets n₀ start₀ k₀ out n start k = length out ≡ length out₀
+Inv-loop out₀ at table bytes ends lent count sheets n₀ start₀ k₀ out n start k = length out ≡ length out₀
 
 abbrev μ-loop : tie.MeasureT-loop
-μ-loop out₀ at bytes ends lent count sheets n₀ start₀ k₀ out n start k = count - k
+μ-loop out₀ at table bytes ends lent count sheets n₀ start₀ k₀ out n start k = count - k
 
 loop-holds : tie.Need-loop-holds Inv-loop μ-loop
 loop-holds c = search needs

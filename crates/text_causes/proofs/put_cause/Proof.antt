@@ -1,7 +1,8 @@
 -- Each cause by itself, and every other.
+use mathlib.Core.Path.{_∙_}
 use native.Mathlib.Omega.{arith}
 use borrow.Author.Needs.{needs}
-use Rattle.text_writer.proofs.Parts.{known, apart, numbered-else}
+use Rattle.text_writer.proofs.Parts.{known, apart, numbered-else, unless-is}
 use Rattle.text_buffer.proofs.Laws.{said}
 use Rattle.text_writer.specs.Texts.{causeBytes, causes}
 use Rattle.text_buffer.specs.Words.{bytes}
@@ -68,6 +69,12 @@ slice-aggregate-put-10 c = search needs
 put-requires-10 : tie.Need-put-requires-10
 put-requires-10 c κs = search needs
 
+slice-aggregate-put-11 : tie.Need-slice-aggregate-put-11
+slice-aggregate-put-11 c = search needs
+
+put-requires-11 : tie.Need-put-requires-11
+put-requires-11 c κs = search needs
+
 same-length : tie.Need-same-length
 same-length c = search needs
 
@@ -126,9 +133,17 @@ same-length-10 : tie.Need-same-length-10
 same-length-10 c = search needs
 
 returns-10 : tie.Need-returns-10
-returns-10 c =
+returns-10 c = said (known causeBytes (c .before .before .before .before .before .match .keys10)) (c .before .before .put10 .ensures)
+
+same-length-11 : tie.Need-same-length-11
+same-length-11 c = search needs
+
+returns-11 : tie.Need-returns-11
+returns-11 c =
     let r = c .before .before .before .before .before .match .rest in
-    said (numbered-else causes (bytes "there is not room enough") (c .before .before .before .before .before .before .before .args .number) (λ z. let l = apart (apart (apart (apart (apart (apart (apart (apart (apart (apart (omega arith) z) (r .0 .0 .0 .0 .0 .0 .0 .0 .1)) (r .0 .0 .0 .0 .0 .0 .0 .1)) (r .0 .0 .0 .0 .0 .0 .1)) (r .0 .0 .0 .0 .0 .1)) (r .0 .0 .0 .0 .1)) (r .0 .0 .0 .1)) (r .0 .0 .1)) (r .0 .1)) (r .1) in omega arith)) (c .before .before .put10 .ensures)
+    let n = c .before .before .before .before .before .before .before .args .number in
+    let listed = numbered-else causes (bytes "there is not room enough") n (λ z. let l = apart (apart (apart (apart (apart (apart (apart (apart (apart (apart (omega arith) z) (r .0 .0 .0 .0 .0 .0 .0 .0 .0 .1)) (r .0 .0 .0 .0 .0 .0 .0 .0 .1)) (r .0 .0 .0 .0 .0 .0 .0 .1)) (r .0 .0 .0 .0 .0 .0 .1)) (r .0 .0 .0 .0 .0 .1)) (r .0 .0 .0 .0 .1)) (r .0 .0 .0 .1)) (r .0 .0 .1)) (r .0 .1) in omega arith) in
+    said (listed ∙ unless-is (bytes "a line of the table is not right, or the table has none") (r .1)) (c .before .before .put11 .ensures)
 
 pub put-cause-spec : {M : Type 1} → statement M
 put-cause-spec =
@@ -154,6 +169,8 @@ put-cause-spec =
     put-requires-9
     slice-aggregate-put-10
     put-requires-10
+    slice-aggregate-put-11
+    put-requires-11
     same-length
     returns
     same-length-2
@@ -173,4 +190,6 @@ put-cause-spec =
     same-length-9
     returns-9
     same-length-10
-    returns-10)
+    returns-10
+    same-length-11
+    returns-11)

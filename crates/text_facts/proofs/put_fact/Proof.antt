@@ -5,7 +5,7 @@ use Rattle.text_writer.proofs.Parts.{fact-parts}
 use Rattle.text_buffer.proofs.Laws.{said, followed}
 use Rattle.list_laws.proofs.Words.{word-back}
 use Rattle.sheet_format.specs.Line.{natural}
-use Rattle.sheet_format.specs.Relations.{columnsOf}
+use Rattle.sheet_format.specs.Table.{columnsOf, tableIn}
 use Rattle.text_facts.proofs.put_fact.Statement.{statement}
 use Rattle.text_facts.proofs.put_fact.Tie as tie
 
@@ -46,13 +46,14 @@ returns : tie.Need-returns
 returns c =
     let at-least = c .before .before .before .before .before .before .before .before .before .before in
     let at-columns = at-least .before in
-    let at-relation = at-columns .before in
+    let at-relation = at-columns .before .before in
     let start = at-relation .before .before in
+    let t = tableIn (start .args .table .now) in
     let ws = start .args .fact .now in
     let b = word-back ws 0 (at-relation .relation .given) in
     let n = c .before .before .before .before .before .before .before .before .natural .ensures ∙ ap natural b in
-    let k = at-columns .columns .ensures ∙ ap columnsOf b in
-    said (fact-parts ws (at-least .least .result) (start .pre) n k (at-least .least .ensures)) (followed (c .before .before .before .before .before .before .before .put-relation .ensures) (c .before .before .put-terms .ensures))
+    let k = at-columns .columns .ensures ∙ ap (columnsOf t) b in
+    said (fact-parts t ws (at-least .least .result) (start .pre) n k (at-least .least .ensures)) (followed (c .before .before .before .before .before .before .before .put-relation .ensures) (c .before .before .put-terms .ensures))
 
 pub put-fact-spec : {M : Type 1} → statement M
 put-fact-spec =

@@ -8,6 +8,7 @@ use mathlib.Core.List.{[], map, List, _++_}
 use Rattle.text_buffer.specs.Puts.{Put}
 use Rattle.text_buffer.specs.Words.{bytes}
 use Rattle.text_buffer.proofs.Laws.{nothing, kept, said}
+use Rattle.sheet_format.specs.Table.{tableIn}
 use Rattle.text_writer.specs.Texts.{separated, groups, factBytes, factsBytes}
 use Rattle.text_writer.proofs.Parts.{more-separated, groups-length, groups-at, part-of}
 use lib.Seq.{take-all}
@@ -18,10 +19,10 @@ use Rattle.text_facts.proofs.put_facts.Statement.{statement}
 use Rattle.text_facts.proofs.put_facts.Tie as tie
 
 abbrev Inv-loop : tie.InvT-loop
-Inv-loop out₀ at facts count some n₀ i₀ out n i = (i ≤ some) × (length out ≡ length out₀) × Put out₀ out n₀ (separated (bytes ", ") (map factBytes (take i (groups 5 some facts)))) n
+Inv-loop table out₀ at facts count some n₀ i₀ out n i = (i ≤ some) × (length out ≡ length out₀) × Put out₀ out n₀ (separated (bytes ", ") (map (factBytes (tableIn table)) (take i (groups 5 some facts)))) n
 
 abbrev μ-loop : tie.MeasureT-loop
-μ-loop out₀ at facts count some n₀ i₀ out n i = some - i
+μ-loop table out₀ at facts count some n₀ i₀ out n i = some - i
 
 least-requires : tie.Need-least-requires Inv-loop μ-loop
 least-requires c κs = search needs
@@ -60,12 +61,14 @@ loop-less c = search needs
 loop-again : tie.Need-loop-again Inv-loop μ-loop
 loop-again c =
     let l = c .before .before .before .before .before .before .loop in
-    let ws = c .before .before .before .before .before .before .before .before .before .args .facts .now in
+    let start = c .before .before .before .before .before .before .before .before .before in
+    let fact = factBytes (tableIn (start .args .table .now)) in
+    let ws = start .args .facts .now in
     let some = c .before .before .before .before .before .before .before .least .result in
-    let part : List ℤ → List ℕ = λ f. cond (eqb (l .i) 0) (factBytes f) (bytes ", " ++ factBytes f) in
+    let part : List ℤ → List ℕ = λ f. cond (eqb (l .i) 0) (fact f) (bytes ", " ++ fact f) in
     let here = part-of (l .i * 5) 5 ws ∙ sym (groups-at 5 some ws (l .i) (omega arith)) in
     let p = said (ap part here) (c .before .before .put-next-fact .ensures) in
-    (search needs, kept p ∙ l .inv .1, more-separated factBytes (bytes ", ") [] (groups 5 some ws) (l .i) (omega (arith, groups-length 5 some ws)) (l .inv .2) p)
+    (search needs, kept p ∙ l .inv .1, more-separated fact (bytes ", ") [] (groups 5 some ws) (l .i) (omega (arith, groups-length 5 some ws)) (l .inv .2) p)
 
 same-length : tie.Need-same-length Inv-loop μ-loop
 same-length c = search needs
@@ -73,10 +76,11 @@ same-length c = search needs
 returns : tie.Need-returns Inv-loop μ-loop
 unfolding factsBytes
 returns c =
-    let ws = c .before .before .before .before .args .facts .now in
+    let start = c .before .before .before .before in
+    let ws = start .args .facts .now in
     let some = c .before .before .least .result in
     let all = take-all (c .before .loop .i) (groups 5 some ws) (omega (arith, groups-length 5 some ws)) ∙ ap (λ n. groups 5 n ws) (c .before .before .least .ensures) in
-    said (ap (λ fs. separated (bytes ", ") (map factBytes fs)) all) (c .before .loop .inv .2)
+    said (ap (λ fs. separated (bytes ", ") (map (factBytes (tableIn (start .args .table .now))) fs)) all) (c .before .loop .inv .2)
 
 pub put-facts-spec : {M : Type 1} → statement M
 put-facts-spec =

@@ -2,6 +2,7 @@
 use borrow.Author.Needs.{needs}
 use Rattle.text_writer.proofs.Parts.{where-is, unless-is}
 use Rattle.text_buffer.proofs.Laws.{said, followed}
+use Rattle.sheet_format.specs.Table.{tableIn}
 use Rattle.text_writer.specs.Texts.{factBytes}
 use Rattle.text_buffer.specs.Words.{bytes}
 use mathlib.Core.List.{_++_}
@@ -15,7 +16,9 @@ same-length : tie.Need-same-length
 same-length c = search needs
 
 returns : tie.Need-returns
-returns c = said (where-is (bytes ", " ++ factBytes (c .before .before .before .before .before .before .args .fact .now)) (c .before .before .before .before .if1 .taken)) (c .before .before .put-fact .ensures)
+returns c =
+    let start = c .before .before .before .before .before .before in
+    said (where-is (bytes ", " ++ factBytes (tableIn (start .args .table .now)) (start .args .fact .now)) (c .before .before .before .before .if1 .taken)) (c .before .before .put-fact .ensures)
 
 slice-aggregate-put : tie.Need-slice-aggregate-put
 slice-aggregate-put c = search needs
@@ -33,7 +36,7 @@ returns-2 : tie.Need-returns-2
 returns-2 c =
     let at-if1 = c .before .before .before .before .before .before .before .before .before in
     let start = at-if1 .before .before in
-    said (unless-is (factBytes (start .args .fact .now)) (at-if1 .if1 .left)) (followed (c .before .before .before .before .before .before .put .ensures) (c .before .before .put-fact2 .ensures))
+    said (unless-is (factBytes (tableIn (start .args .table .now)) (start .args .fact .now)) (at-if1 .if1 .left)) (followed (c .before .before .before .before .before .before .put .ensures) (c .before .before .put-fact2 .ensures))
 
 pub put-next-fact-spec : {M : Type 1} → statement M
 put-next-fact-spec =

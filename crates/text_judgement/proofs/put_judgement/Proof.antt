@@ -1,5 +1,6 @@
 -- What is said of each verdict.
 use borrow.Author.Needs.{needs}
+use Rattle.sheet_format.specs.Table.{tableIn}
 use Rattle.text_buffer.proofs.Laws.{said}
 use Rattle.text_judgement.proofs.Calls.{covered, no-log, refused, case}
 use Rattle.text_judgement.proofs.put_judgement.Statement.{statement}
@@ -19,7 +20,7 @@ returns c =
     let p = c .before .before in
     let t = p .before .before .before in
     let a = t .before .before .args in
-    said (covered (a .columns) (a .j) (a .facts .now) (t .if1 .taken)) (p .put .ensures)
+    said (covered (tableIn (a .table .now)) (a .columns) (a .j) (a .facts .now) (t .if1 .taken)) (p .put .ensures)
 
 slice-aggregate-put-2 : tie.Need-slice-aggregate-put-2
 slice-aggregate-put-2 c = search needs
@@ -35,7 +36,7 @@ returns-2 c =
     let p = c .before .before in
     let t = p .before .before .before in
     let a = t .before .before .before .args in
-    said (no-log (a .columns) (a .j) (a .facts .now) (t .if2 .taken)) (p .put2 .ensures)
+    said (no-log (tableIn (a .table .now)) (a .columns) (a .j) (a .facts .now) (t .if2 .taken)) (p .put2 .ensures)
 
 put-refusal-requires : tie.Need-put-refusal-requires
 put-refusal-requires c κs = search needs
@@ -48,7 +49,7 @@ returns-3 c =
     let p = c .before .before in
     let t = p .before .before in
     let a = t .before .before .before .before .args in
-    said (refused (a .columns) (a .j) (a .facts .now) (t .if3 .taken)) (p .put-refusal .ensures)
+    said (refused (tableIn (a .table .now)) (a .columns) (a .j) (a .facts .now) (t .if3 .taken)) (p .put-refusal .ensures)
 
 put-case-requires : tie.Need-put-case-requires
 put-case-requires c κs = search needs
@@ -61,7 +62,7 @@ returns-4 c =
     let p = c .before .before in
     let t = p .before .before .before in
     let a = t .before .before .before .before .args in
-    said (case (a .columns) (a .j) (a .facts .now) (t .before .before .if1 .left) (t .before .if2 .left) (t .if3 .left)) (p .put-case .ensures)
+    said (case (tableIn (a .table .now)) (a .columns) (a .j) (a .facts .now) (t .before .before .if1 .left) (t .before .if2 .left) (t .if3 .left)) (p .put-case .ensures)
 
 pub put-judgement-spec : {M : Type 1} → statement M
 put-judgement-spec =

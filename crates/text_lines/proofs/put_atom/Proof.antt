@@ -4,6 +4,7 @@ use borrow.Author.Needs.{needs}
 use Rattle.text_writer.proofs.Parts.{where-is, unless-is}
 use Rattle.text_lines.proofs.Facts.{line-fact}
 use Rattle.text_buffer.proofs.Laws.{said, followed, nothing}
+use Rattle.sheet_format.specs.Table.{tableIn}
 use Rattle.text_writer.specs.Texts.{if}
 use Rattle.text_buffer.specs.Words.{bytes}
 use lib.Dec.{eqb}
@@ -38,7 +39,7 @@ returns c =
     let at-put-byte = at-put-facts .before .before .before .before .before in
     let start = at-put-byte .before .before .before in
     let a = start .args in
-    let f = said (line-fact (a .line .now) (start .pre)) (at-put-facts .put-facts .ensures) in
+    let f = said (line-fact (tableIn (a .table .now)) (a .line .now) (start .pre)) (at-put-facts .put-facts .ensures) in
     let n = said (where-is (if (eqb (a .block) 3) (bytes " =")) (c .before .before .before .before .if1 .taken)) (c .before .before .put-byte2 .ensures) in
     followed (followed (at-put-byte .put-byte .ensures) f) n
 
@@ -57,7 +58,7 @@ returns-2 c =
     let at-put-byte = at-put-facts .before .before .before .before .before in
     let start = at-put-byte .before .before .before in
     let a = start .args in
-    let f = said (line-fact (a .line .now) (start .pre)) (at-put-facts .put-facts .ensures) in
+    let f = said (line-fact (tableIn (a .table .now)) (a .line .now) (start .pre)) (at-put-facts .put-facts .ensures) in
     let n = said (where-is [] (c .before .before .before .before .before .if2 .taken) ∙ unless-is (bytes ",") (c .before .before .before .before .before .before .if1 .left)) (c .before .before .put .ensures) in
     followed (followed (at-put-byte .put-byte .ensures) f) n
 
@@ -69,8 +70,8 @@ returns-3 c =
     let at-put-byte = c .before .before .before .before .before .before .before .before .before in
     let start = at-put-byte .before .before .before in
     let a = start .args in
-    let f = said (line-fact (a .line .now) (start .pre)) (c .before .before .before .before .put-facts .ensures) in
-    let n = said (unless-is (bytes " =") (c .if2 .left) ∙ unless-is (bytes ",") (c .before .if1 .left)) (nothing (c .before .before .before .before .put-facts .last .0) (c .before .before .before .before .put-facts .result)) in
+    let f = said (line-fact (tableIn (a .table .now)) (a .line .now) (start .pre)) (c .before .before .before .before .put-facts .ensures) in
+    let n = said (unless-is (bytes " =") (c .if2 .left) ∙ unless-is (bytes ",") (c .before .if1 .left)) (nothing (c .before .before .before .before .put-facts .last .1 .0) (c .before .before .before .before .put-facts .result)) in
     followed (followed (at-put-byte .put-byte .ensures) f) n
 
 pub put-atom-spec : {M : Type 1} → statement M

@@ -3,6 +3,7 @@ use mathlib.Core.Path.{_∙_}
 use borrow.Author.Needs.{needs}
 use Rattle.text_writer.proofs.Parts.{where-is, unless-is}
 use Rattle.text_buffer.proofs.Laws.{said}
+use Rattle.sheet_format.specs.Table.{tableIn}
 use Rattle.text_writer.specs.Texts.{atomBytes, rowBytes, headBytes}
 use lib.Dec.{eqb}
 use mathlib.Core.Bool.{cond}
@@ -30,7 +31,7 @@ returns-2 : tie.Need-returns-2
 returns-2 c =
     let a = c .before .before .before .before .before .before .before .args in
     let l = a .line .now in
-    said (where-is (headBytes l (a .kind)) (c .before .before .before .before .if2 .taken) ∙ unless-is (atomBytes l (a .block) (a .next)) (c .before .before .before .before .before .if1 .left)) (c .before .before .put-row .ensures)
+    said (where-is (headBytes l (a .kind)) (c .before .before .before .before .if2 .taken) ∙ unless-is (atomBytes (tableIn (a .table .now)) l (a .block) (a .next)) (c .before .before .before .before .before .if1 .left)) (c .before .before .put-row .ensures)
 
 put-head-requires : tie.Need-put-head-requires
 put-head-requires c κs = search needs
@@ -42,7 +43,7 @@ returns-3 : tie.Need-returns-3
 returns-3 c =
     let a = c .before .before .before .before .before .before .before .args in
     let l = a .line .now in
-    said (unless-is (rowBytes l (a .next)) (c .before .before .before .before .if2 .left) ∙ unless-is (atomBytes l (a .block) (a .next)) (c .before .before .before .before .before .if1 .left)) (c .before .before .put-head .ensures)
+    said (unless-is (rowBytes l (a .next)) (c .before .before .before .before .if2 .left) ∙ unless-is (atomBytes (tableIn (a .table .now)) l (a .block) (a .next)) (c .before .before .before .before .before .if1 .left)) (c .before .before .put-head .ensures)
 
 pub put-kind-spec : {M : Type 1} → statement M
 put-kind-spec =

@@ -26,7 +26,7 @@ same-length-2 c = search needs
 
 returns-2 : tie.Need-returns-2
 unfolding lineText
-returns-2 c = followed (c .before .before .before .put-kind .ensures) (said (unless-below (bytes "\n") (c .if1 .left)) (nothing (c .before .before .before .put-kind .last .0) (c .before .before .before .put-kind .result)))
+returns-2 c = followed (c .before .before .before .put-kind .ensures) (said (unless-below (bytes "\n") (c .if1 .left)) (nothing (c .before .before .before .put-kind .last .1 .0) (c .before .before .before .put-kind .result)))
 
 pub put-line-spec : {M : Type 1} → statement M
 put-line-spec =

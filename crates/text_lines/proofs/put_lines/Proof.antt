@@ -5,6 +5,7 @@ use borrow.Author.Needs.{needs}
 use lib.ListN.{length, drop}
 use mathlib.Core.List.{List}
 use Rattle.text_buffer.proofs.Laws.{kept, said}
+use Rattle.sheet_format.specs.Table.{tableIn}
 use Rattle.text_writer.specs.Texts.{groups, linesFrom, linesBytes, lineText}
 use Rattle.text_lines.proofs.Written.{LinesWritten, begun, more-lines, all-lines}
 use Rattle.text_writer.proofs.Parts.{part-of}
@@ -13,13 +14,13 @@ use Rattle.text_lines.proofs.put_lines.Statement.{statement}
 use Rattle.text_lines.proofs.put_lines.Tie as tie
 
 abbrev Inv-loop : tie.InvT-loop
-Inv-loop out₀ words lines n₀ block₀ i₀ out n block i = (i ≤ lines) × (length out ≡ length out₀) × LinesWritten out₀ out n block (drop i (groups 7 lines words)) (linesFrom 0 (groups 7 lines words))
+Inv-loop table out₀ words lines n₀ block₀ i₀ out n block i = (i ≤ lines) × (length out ≡ length out₀) × LinesWritten (tableIn table) out₀ out n block (drop i (groups 7 lines words)) (linesFrom (tableIn table) 0 (groups 7 lines words))
 
 abbrev μ-loop : tie.MeasureT-loop
-μ-loop out₀ words lines n₀ block₀ i₀ out n block i = lines - i
+μ-loop table out₀ words lines n₀ block₀ i₀ out n block i = lines - i
 
 loop-holds : tie.Need-loop-holds Inv-loop μ-loop
-loop-holds c = let ws = c .before .args .words .now in (search needs, search needs, begun (c .before .args .out .now) (groups 7 (length ws / 7) ws))
+loop-holds c = let ws = c .before .args .words .now in (search needs, search needs, begun (tableIn (c .before .args .table .now)) (c .before .args .out .now) (groups 7 (length ws / 7) ws))
 
 mul-from : tie.Need-mul-from Inv-loop μ-loop
 mul-from c = search needs
@@ -66,14 +67,15 @@ loop-again c =
     let start = at-loop .before .before in
     let l = at-loop .loop in
     let ws = start .args .words .now in
+    let table = tableIn (start .args .table .now) in
     let lines = length ws / 7 in
     let kind = c .before .before .before .before .before .before .before .kind-at .result in
     let block = c .before .before .before .before .before .before .block-at .result in
-    let line : List ℤ → List ℕ = λ x. lineText x kind block (c .before .before .before .kind-at2 .result) in
+    let line : List ℤ → List ℕ = λ x. lineText table x kind block (c .before .before .before .kind-at2 .result) in
     let p = said (ap line (part-of (l .i * 7) 7 ws)) (c .before .before .put-line .ensures) in (
       search needs,
       kept p ∙ l .inv .1,
-      more-lines lines ws (l .i) (linesFrom 0 (groups 7 lines ws)) (c .before .before .before .before .before .before .before .before .loop-test .taken) (c .before .before .before .before .before .before .before .kind-at .ensures) (c .before .before .before .kind-at2 .ensures) (c .before .before .before .before .before .before .block-at .ensures) (l .inv .2) p,
+      more-lines table lines ws (l .i) (linesFrom table 0 (groups 7 lines ws)) (c .before .before .before .before .before .before .before .before .loop-test .taken) (c .before .before .before .before .before .before .before .kind-at .ensures) (c .before .before .before .kind-at2 .ensures) (c .before .before .before .before .before .before .block-at .ensures) (l .inv .2) p,
     )
 
 same-length : tie.Need-same-length Inv-loop μ-loop
@@ -83,7 +85,8 @@ returns : tie.Need-returns Inv-loop μ-loop
 unfolding linesBytes
 returns c =
     let ws = c .before .before .before .args .words .now in
-    all-lines (length ws / 7) ws (c .before .loop .i) (linesFrom 0 (groups 7 (length ws / 7) ws)) (c .loop-test .left) (c .before .loop .inv .2)
+    let table = tableIn (c .before .before .before .args .table .now) in
+    all-lines table (length ws / 7) ws (c .before .loop .i) (linesFrom table 0 (groups 7 (length ws / 7) ws)) (c .loop-test .left) (c .before .loop .inv .2)
 
 pub put-lines-spec : {M : Type 1} → statement M
 put-lines-spec =

@@ -1,105 +1,25 @@
+use mathlib.Core.Path.{subst}
 use borrow.Author.Needs.{needs}
-use Rattle.text_to_sheet.proofs.Calls.{too-long, expected-made, many-made, sheet-made, refused-made}
+use Rattle.text_to_sheet.specs.Texts.{MadeAs}
 use Rattle.text_to_sheet.proofs.sheet_of.Statement.{statement}
 use Rattle.text_to_sheet.proofs.sheet_of.Tie as tie
 
-returns : tie.Need-returns
-returns c = too-long (c .if1 .taken)
+own-table-requires : tie.Need-own-table-requires
+own-table-requires c κs = search needs
 
-slice-aggregate-run : tie.Need-slice-aggregate-run
-slice-aggregate-run c = search needs
-
-slice-aggregate-run-2 : tie.Need-slice-aggregate-run-2
-slice-aggregate-run-2 c = search needs
-
-run-requires : tie.Need-run-requires
-run-requires c κs = search needs
-
-returns-2 : tie.Need-returns-2
-returns-2 c =
-    let s = c .before .before .before .before .before .before .before .before .before .before .before .before in
-    let a = s .args in
-    let r = c .before .before .before .before .before .before .run in
-    expected-made (a .text .now) (a .out .now) (c .before .before .before .before .before .before .before .before .before .if1 .left) (r .ensures) (c .if2 .taken)
-
-returns-3 : tie.Need-returns-3
-returns-3 c =
-    let s = c .before .before .before .before .before .before .before .before .before .before .before .before .before in
-    let a = s .args in
-    let r = c .before .before .before .before .before .before .before .run in
-    many-made (a .text .now) (a .out .now) (c .before .before .before .before .before .before .before .before .before .before .if1 .left) (r .ensures) (c .before .if2 .left) (c .if3 .taken)
-
-mul-write : tie.Need-mul-write
-mul-write c = search needs
-
-sub-write : tie.Need-sub-write
-sub-write c = search needs
-
-part-write-start : tie.Need-part-write-start
-part-write-start c = search needs
-
-part-write-end : tie.Need-part-write-end
-part-write-end c = search needs
-
-write-requires : tie.Need-write-requires
-write-requires c κs = search needs
-
-enum-known-n : tie.Need-enum-known-n
-enum-known-n c = search needs
-
-enum-known-number : tie.Need-enum-known-number
-enum-known-number c = search needs
-
-slice-aggregate-text-line : tie.Need-slice-aggregate-text-line
-slice-aggregate-text-line c = search needs
-
-text-line-requires : tie.Need-text-line-requires
-text-line-requires c κs = search needs
+sheet-by-numbers-requires : tie.Need-sheet-by-numbers-requires
+sheet-by-numbers-requires c κs = search needs
 
 same-length : tie.Need-same-length
 same-length c = search needs
 
-returns-4 : tie.Need-returns-4
-returns-4 c =
-    let s = c .before .before .before .before .before .before .before .before .before .before .before .before .before .before .before .before .before .before .before .before .before .before in
-    let a = s .args in
-    let r = c .before .before .before .before .before .before .before .before .before .before .before .before .before .before .before .before .run in
-    let w = c .before .before .before .before .before .write in
-    let g = c .before .n2 .given in
-    sheet-made (a .text .now) (a .out .now) (c .before .before .before .before .before .before .before .before .before .before .before .before .before .before .before .before .before .before .before .if1 .left) (r .ensures) (c .before .before .before .before .before .before .before .before .before .before .if2 .left) (c .before .before .before .before .before .before .before .before .before .if3 .left) (w .last .1 .0) (w .result) (w .ensures .0) (w .ensures .1) (g .0 .0) (g .1)
-
-same-length-2 : tie.Need-same-length-2
-same-length-2 c = search needs
-
-returns-5 : tie.Need-returns-5
-returns-5 c =
-    let s = c .before .before .before .before .before .before .before .before .before .before .before .before .before .before .before .before .before .before .before .before .before .before .before .before in
-    let a = s .args in
-    let r = c .before .before .before .before .before .before .before .before .before .before .before .before .before .before .before .before .before .before .run in
-    let w = c .before .before .before .before .before .before .before .write in
-    let g = c .before .before .before .number .given in
-    refused-made (a .text .now) (a .out .now) (c .before .before .before .before .before .before .before .before .before .before .before .before .before .before .before .before .before .before .before .before .before .if1 .left) (r .ensures) (c .before .before .before .before .before .before .before .before .before .before .before .before .if2 .left) (c .before .before .before .before .before .before .before .before .before .before .before .if3 .left) (w .last .1 .0) (w .result) (w .ensures .0) (w .ensures .1) (g .0 .0) (g .0 .1 .0) (c .text-line .result) (g .1) (c .text-line .ensures)
+returns : tie.Need-returns
+returns c =
+    let made = c .before .before .sheet-by-numbers in
+    let own = c .before .before .before .before .before .own-table in
+    let a = c .before .before .before .before .before .before .before .before .args in
+    subst (λ t. MadeAs t (a .text .now) (a .out .now) (made .last .1 .1 .0) (made .result)) (own .ensures) (made .ensures)
 
 pub sheet-of-spec : {M : Type 1} → statement M
 sheet-of-spec =
-    tie.close
-    (tie.spec
-    returns
-    slice-aggregate-run
-    slice-aggregate-run-2
-    run-requires
-    returns-2
-    returns-3
-    mul-write
-    sub-write
-    part-write-start
-    part-write-end
-    write-requires
-    enum-known-n
-    enum-known-number
-    slice-aggregate-text-line
-    text-line-requires
-    same-length
-    returns-4
-    same-length-2
-    returns-5)
+    tie.close (tie.spec own-table-requires sheet-by-numbers-requires same-length returns)

@@ -27,7 +27,7 @@ returns c =
     let l = c .before .before .before in
     let w = l .before .before .args .word .now in
     let r = l .loop .r in
-    let e = ap (sameBytes w) (sym (name-of r (l .loop .inv .0))) ∙ sym (c .before .is-named .ensures) ∙ c .if1 .taken in
+    let e = ap (sameBytes w) (sym (name-of r (l .loop .inv .0) (omega arith))) ∙ sym (c .before .is-named .ensures) ∙ c .if1 .taken in
     sym (l .loop .inv .2 ∙ among-here w (r - 1) r relationNames (omega arith) e)
 
 add-r : tie.Need-add-r Inv-loop μ-loop
@@ -41,7 +41,7 @@ loop-again c =
     let l = c .before .before .before in
     let w = l .before .before .args .word .now in
     let r = l .loop .r in
-    let e = ap (sameBytes w) (sym (name-of r (l .loop .inv .0))) ∙ sym (c .before .is-named .ensures) ∙ c .if1 .left in
+    let e = ap (sameBytes w) (sym (name-of r (l .loop .inv .0) (omega arith))) ∙ sym (c .before .is-named .ensures) ∙ c .if1 .left in
     let n : r - 1 + 1 ≡ r + 1 - 1 = omega arith in
     (omega arith, omega arith, l .loop .inv .2 ∙ among-next w (r - 1) r relationNames (omega arith) e ∙ ap (λ k. among w (suc r) (drop k relationNames)) n ∙ rw add-one)
 

@@ -1,15 +1,26 @@
--- A relation's name is its part of all names, without blanks.
+-- A relation's name is its part of all names, without blanks; beyond the ten it is a letter and the number.
 use borrow.Author.Needs.{needs}
 use Rattle.text_writer.proofs.Parts.{no-relation, far-relation, name-at}
-use Rattle.text_buffer.proofs.Laws.{nothing, said}
+use Rattle.text_buffer.proofs.Laws.{nothing, said, followed}
 use Rattle.text_writer.proofs.put_relation.Statement.{statement}
 use Rattle.text_writer.proofs.put_relation.Tie as tie
 
 returns : tie.Need-returns
 returns c = said (no-relation (c .if1 .taken)) (nothing (c .before .before .args .out .now) (c .before .before .args .at))
 
+put-byte-requires : tie.Need-put-byte-requires
+put-byte-requires c κs = search needs
+
+put-number-requires : tie.Need-put-number-requires
+put-number-requires c κs = search needs
+
+same-length : tie.Need-same-length
+same-length c = search needs
+
 returns-2 : tie.Need-returns-2
-returns-2 c = said (far-relation (c .if2 .taken)) (nothing (c .before .before .before .args .out .now) (c .before .before .before .args .at))
+returns-2 c =
+    let start = c .before .before .before .before .before .before .before .before in
+    said (far-relation (start .before .before .before .args .relation) (start .if2 .taken)) (followed (c .before .before .before .before .before .before .put-byte .ensures) (c .before .before .put-number .ensures))
 
 mul-from : tie.Need-mul-from
 mul-from c = search needs
@@ -29,8 +40,8 @@ part-put-plain-end c = search needs
 put-plain-requires : tie.Need-put-plain-requires
 put-plain-requires c κs = search needs
 
-same-length : tie.Need-same-length
-same-length c = search needs
+same-length-2 : tie.Need-same-length-2
+same-length-2 c = search needs
 
 returns-3 : tie.Need-returns-3
 returns-3 c = said (name-at (c .before .before .before .before .before .before .before .before .before .args .relation) (c .before .before .before .before .before .before .before .if1 .left) (c .before .before .before .before .before .before .if2 .left)) (c .before .before .put-plain .ensures)
@@ -40,6 +51,9 @@ put-relation-spec =
     tie.close
     (tie.spec
     returns
+    put-byte-requires
+    put-number-requires
+    same-length
     returns-2
     mul-from
     add-put-plain
@@ -47,5 +61,5 @@ put-relation-spec =
     part-put-plain-start
     part-put-plain-end
     put-plain-requires
-    same-length
+    same-length-2
     returns-3)

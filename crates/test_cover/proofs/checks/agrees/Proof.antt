@@ -5,22 +5,16 @@ use Rattle.test_cover.proofs.checks.agrees.Statement.{statement}
 use Rattle.test_cover.proofs.checks.agrees.Tie as tie
 
 abbrev Inv-loop : tie.InvT-loop
-Inv-loop sheet words facts blocks block₀ block = Unit {0}
+Inv-loop table sheet words facts blocks block₀ block = Unit {0}
 
 abbrev μ-loop : tie.MeasureT-loop
-μ-loop sheet words facts blocks block₀ block = blocks - block
+μ-loop table sheet words facts blocks block₀ block = blocks - block
 
-are-signals-requires : tie.Need-are-signals-requires Inv-loop μ-loop
-are-signals-requires c κs = search needs
+is-lawful-requires : tie.Need-is-lawful-requires Inv-loop μ-loop
+is-lawful-requires c κs = search needs
 
 returns : tie.Need-returns Inv-loop μ-loop
 returns c = search needs
-
-are-settled-requires : tie.Need-are-settled-requires Inv-loop μ-loop
-are-settled-requires c κs = search needs
-
-returns-2 : tie.Need-returns-2 Inv-loop μ-loop
-returns-2 c = search needs
 
 heads-requires : tie.Need-heads-requires Inv-loop μ-loop
 heads-requires c κs = search needs
@@ -37,8 +31,8 @@ add-block c = search needs
 is-listed-requires : tie.Need-is-listed-requires Inv-loop μ-loop
 is-listed-requires c κs = search needs
 
-returns-3 : tie.Need-returns-3 Inv-loop μ-loop
-returns-3 c = search needs
+returns-2 : tie.Need-returns-2 Inv-loop μ-loop
+returns-2 c = search needs
 
 loop-less : tie.Need-loop-less Inv-loop μ-loop
 loop-less c = search needs
@@ -46,8 +40,8 @@ loop-less c = search needs
 loop-again : tie.Need-loop-again Inv-loop μ-loop
 loop-again c = search needs
 
-returns-4 : tie.Need-returns-4 Inv-loop μ-loop
-returns-4 c = search needs
+returns-3 : tie.Need-returns-3 Inv-loop μ-loop
+returns-3 c = search needs
 
 pub agrees-spec : {M : Type 1} → statement M
 agrees-spec =
@@ -55,16 +49,14 @@ agrees-spec =
     (tie.spec
     Inv-loop
     μ-loop
-    are-signals-requires
+    is-lawful-requires
     returns
-    are-settled-requires
-    returns-2
     heads-requires
     heads-requires-2
     loop-holds
     add-block
     is-listed-requires
-    returns-3
+    returns-2
     loop-less
     loop-again
-    returns-4)
+    returns-3)

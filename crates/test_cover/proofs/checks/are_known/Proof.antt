@@ -6,10 +6,10 @@ use Rattle.test_cover.proofs.checks.are_known.Statement.{statement}
 use Rattle.test_cover.proofs.checks.are_known.Tie as tie
 
 abbrev Inv-loop : tie.InvT-loop
-Inv-loop words facts i₀ i = i ≤ length facts
+Inv-loop numbers words facts i₀ i = i ≤ length facts
 
 abbrev μ-loop : tie.MeasureT-loop
-μ-loop words facts i₀ i = length facts - i
+μ-loop numbers words facts i₀ i = length facts - i
 
 loop-holds : tie.Need-loop-holds Inv-loop μ-loop
 loop-holds c = search needs

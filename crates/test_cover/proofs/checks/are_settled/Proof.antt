@@ -6,10 +6,10 @@ use Rattle.test_cover.proofs.checks.are_settled.Statement.{statement}
 use Rattle.test_cover.proofs.checks.are_settled.Tie as tie
 
 abbrev Inv-loop : tie.InvT-loop
-Inv-loop facts i₀ i = 1 ≤ i
+Inv-loop numbers facts i₀ i = 1 ≤ i
 
 abbrev μ-loop : tie.MeasureT-loop
-μ-loop facts i₀ i = length facts / 5 - i
+μ-loop numbers facts i₀ i = length facts / 5 - i
 
 loop-holds : tie.Need-loop-holds Inv-loop μ-loop
 loop-holds c = search needs

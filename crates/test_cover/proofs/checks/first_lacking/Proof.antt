@@ -5,10 +5,10 @@ use Rattle.test_cover.proofs.checks.first_lacking.Statement.{statement}
 use Rattle.test_cover.proofs.checks.first_lacking.Tie as tie
 
 abbrev Inv-loop : tie.InvT-loop
-Inv-loop sheet lists facts asked n i₀ i = i ≤ n
+Inv-loop table sheet lists facts asked n i₀ i = i ≤ n
 
 abbrev μ-loop : tie.MeasureT-loop
-μ-loop sheet lists facts asked n i₀ i = n - i
+μ-loop table sheet lists facts asked n i₀ i = n - i
 
 loop-holds : tie.Need-loop-holds Inv-loop μ-loop
 loop-holds c = search needs

@@ -6,10 +6,10 @@ use Rattle.test_cover.proofs.checks.is_bare.Statement.{statement}
 use Rattle.test_cover.proofs.checks.is_bare.Tie as tie
 
 abbrev Inv-loop : tie.InvT-loop
-Inv-loop sheet words facts i₀ i = Unit {0}
+Inv-loop table sheet words facts i₀ i = Unit {0}
 
 abbrev μ-loop : tie.MeasureT-loop
-μ-loop sheet words facts i₀ i = length facts / 5 - i
+μ-loop table sheet words facts i₀ i = length facts / 5 - i
 
 loop-holds : tie.Need-loop-holds Inv-loop μ-loop
 loop-holds c = search needs

@@ -5,10 +5,10 @@ use Rattle.test_cover.proofs.checks.is_in_a_list.Statement.{statement}
 use Rattle.test_cover.proofs.checks.is_in_a_list.Tie as tie
 
 abbrev Inv-loop : tie.InvT-loop
-Inv-loop sheet lists facts asked i block₀ block = Unit {0}
+Inv-loop table sheet lists facts asked i block₀ block = Unit {0}
 
 abbrev μ-loop : tie.MeasureT-loop
-μ-loop sheet lists facts asked i block₀ block = lists - block
+μ-loop table sheet lists facts asked i block₀ block = lists - block
 
 loop-holds : tie.Need-loop-holds Inv-loop μ-loop
 loop-holds c = search needs
