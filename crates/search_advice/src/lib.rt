@@ -50,6 +50,10 @@ const PATIENCE: usize = 10;
 // More than the listed rows that a row can fit.
 const NO_COUNT: usize = 99;
 
+// A row that comes late weighs so much more than others; and what is more than every weight.
+const LATE: usize = NO_COUNT;
+const NO_WEIGHT: usize = LATE + NO_COUNT;
+
 // So many rows may be visited in these trials.
 const PROBE_BUDGET: usize = 10000;
 
@@ -476,22 +480,114 @@ fn fit_count(
     search_board::ones(f.set)
 }
 
-// Counts for each of n kept rows the listed rows that it fits; a kept row that fits the fewest, or n if nothing is to be done. Stops at one that fits one
+// How many columns of a relation settle the others, by its key or by its parent's; COLUMNS where none do.
+fn settling(p: &[usize; PLAN_NUMBERS], relation: usize) -> usize {
+    let own = tableau_parts::key_of(p, relation);
+    if own != 0 {
+        return own;
+    }
+    let key = tableau_parts::key_of(p, tableau_parts::parent_of(p, relation));
+    if key == 0 {
+        return COLUMNS;
+    }
+    key
+}
+
+// Whether a value is made up and one of a row's.
+fn is_open_in(row: &[usize; 4], v: usize) -> bool {
+    if v < MADE_UP {
+        return false;
+    }
+    (row[0] == v) | (row[1] == v) | (row[2] == v) | (row[3] == v)
+}
+
+// Whether a value is made up and none of a row's.
+fn is_open_beside(row: &[usize; 4], v: usize) -> bool {
+    if v < MADE_UP {
+        return false;
+    }
+    (row[0] != v) & (row[1] != v) & (row[2] != v) & (row[3] != v)
+}
+
+// Whether a row has a made-up value of a fact's first n columns.
+fn is_settling(row: &[usize; 4], fact: &[usize; 4], n: usize) -> bool {
+    ((0 < n) & is_open_in(row, fact[0]))
+        | ((1 < n) & is_open_in(row, fact[1]))
+        | ((2 < n) & is_open_in(row, fact[2]))
+        | ((3 < n) & is_open_in(row, fact[3]))
+}
+
+// Whether a row has a made-up value that stands behind a fact's first n columns, and lacks another one of the fact.
+fn is_waiting(row: &[usize; 4], fact: &[usize; 4], n: usize) -> bool {
+    (((n <= 1) & is_open_in(row, fact[1]))
+        | ((n <= 2) & is_open_in(row, fact[2]))
+        | ((n <= 3) & is_open_in(row, fact[3])))
+        & (is_open_beside(row, fact[0])
+            | is_open_beside(row, fact[1])
+            | is_open_beside(row, fact[2])
+            | is_open_beside(row, fact[3]))
+}
+
+// Whether an entry's row comes late: in the entry's first n facts its made-up values all stand behind keys, and in one of them others are open.
+// Once those are chosen, a key may settle the row's.
+fn is_late(
+    p: &[usize; PLAN_NUMBERS],
+    e: usize,
+    n: usize,
+    row: &[usize; 4],
+    bd: &[u32; BOARD],
+) -> bool {
+    let mut late = false;
+    let mut j = 0;
+    while j < n {
+        let f = search_board::entry_fact(e, j);
+        let fact = search_board::fact_row(bd, f);
+        let front = settling(p, search_board::fact(bd, f, 0));
+        if is_settling(row, &fact, front) {
+            return false;
+        }
+        late = late | is_waiting(row, &fact, front);
+        j += 1;
+    }
+    late
+}
+
+// What kept row k weighs that fits m listed rows: as many, and more where it comes late; NO_WEIGHT if nothing is to be done there. One that fits one or
+// none is never late.
+fn weight(p: &[usize; PLAN_NUMBERS], k: usize, m: usize, bd: &[u32; BOARD]) -> usize {
+    if NO_COUNT <= m {
+        return NO_WEIGHT;
+    }
+    if (m < 2) | (search_board::get(bd, KEYED) == 0) {
+        return m;
+    }
+    let e = kept_entry(bd, k);
+    let n = tableau_parts::size_at(p, search_look::view_block(search_board::entry_view(e)));
+    let row = search_board::entry_row(bd, e);
+    if is_late(p, e, n, &row, bd) {
+        return LATE + m;
+    }
+    m
+}
+
+// Counts for each of n kept rows the listed rows that it fits; a kept row that weighs least, or n if nothing is to be done. Stops at one that fits one
 // or none.
 fn survey(
+    p: &[usize; PLAN_NUMBERS],
     sl: &[usize; MEMORY_NUMBERS],
     n: usize,
     bd: &mut [u32; BOARD],
     bits: &[u64; BITS],
 ) -> usize {
     let mut best = n;
-    let mut few = NO_COUNT;
+    let mut least = NO_WEIGHT;
     let mut k = 0;
     while k < n {
         let m = fit_count(sl, k, bd, bits);
         put_count(bd, k, m);
-        if m < few {
-            few = m;
+        let w = weight(p, k, m, bd);
+        if w < least {
+            least = w;
             best = k;
         }
         if m < 2 {
@@ -651,7 +747,7 @@ fn choose(
     bits: &mut [u64; BITS],
 ) -> Advice {
     let n = kept_count(bd);
-    let best = survey(sl, n, bd, bits);
+    let best = survey(p, sl, n, bd, bits);
     if n <= best {
         return nothing();
     }

@@ -5,10 +5,10 @@ use Rattle.search_advice.proofs.survey.Statement.{statement}
 use Rattle.search_advice.proofs.survey.Tie as tie
 
 abbrev Inv-loop : tie.InvT-loop
-Inv-loop sl n bd₀ bits best₀ few₀ k₀ bd best few k = k ≤ n
+Inv-loop p sl n bd₀ bits best₀ least₀ k₀ bd best least k = k ≤ n
 
 abbrev μ-loop : tie.MeasureT-loop
-μ-loop sl n bd₀ bits best₀ few₀ k₀ bd best few k = n - k
+μ-loop p sl n bd₀ bits best₀ least₀ k₀ bd best least k = n - k
 
 loop-holds : tie.Need-loop-holds Inv-loop μ-loop
 loop-holds c = search needs
@@ -18,6 +18,9 @@ fit-count-requires c κs = search needs
 
 put-count-requires : tie.Need-put-count-requires Inv-loop μ-loop
 put-count-requires c κs = search needs
+
+weight-requires : tie.Need-weight-requires Inv-loop μ-loop
+weight-requires c κs = search needs
 
 returns : tie.Need-returns Inv-loop μ-loop
 returns c = search needs
@@ -43,6 +46,7 @@ survey-spec =
     loop-holds
     fit-count-requires
     put-count-requires
+    weight-requires
     returns
     add-k
     loop-less
