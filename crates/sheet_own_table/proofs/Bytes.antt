@@ -20,7 +20,7 @@ use Rattle.sheet_format.proofs.Lists.{both, all-at}
 use Rattle.sheet_format.proofs.FieldLaws.{field-length}
 use Rattle.sheet_format.proofs.LineLaws.{bytes-length}
 use Rattle.sheet_format.proofs.TableLaws.{line-of}
-use Rattle.sheet_own_table.specs.Own.{linesOf, ownLines, ownBytes}
+use Rattle.sheet_own_table.specs.Own.{linesOf, ownLines, ownBytes, own-table-bytes}
 
 -- ---- lines of four fields
 
@@ -102,12 +102,12 @@ own-line n lt =
     let (c, k, p) = line-of relations keyNumbers parentNumbers n refl refl in
     lines-at tenRelations 1 n lt ∙ rw (c, k, p) (ap (λ m. pos m ∷ pos (getD relations n 0) ∷ pos (getD keyNumbers n 0) ∷ pos (getD parentNumbers n 0) ∷ []) (let q : 1 + n ≡ n + 1 = omega arith in q))
 
-pub own-length : length ownBytes ≡ 330
+pub own-length : length ownBytes ≡ own-table-bytes
 unfolding ownBytes
 own-length = lines-length ownLines refl
 
 -- the byte at a place: of a field, or a line's end
-pub own-field-byte : (i : ℕ) → i < 330 → i % 33 < 32 → getD ownBytes i 0 ≡ getD (fieldBytes (getD (getD ownLines (i / 33) []) (i % 33 / 8) (pos 0))) (i % 33 % 8) 0
+pub own-field-byte : (i : ℕ) → i < own-table-bytes → i % 33 < 32 → getD ownBytes i 0 ≡ getD (fieldBytes (getD (getD ownLines (i / 33) []) (i % 33 / 8) (pos 0))) (i % 33 % 8) 0
 unfolding ownBytes lineBytes
 own-field-byte i lt h =
     let f = four-at ownLines refl (i / 33) (omega arith) in
@@ -116,7 +116,7 @@ own-field-byte i lt h =
     ∙ ap (λ x. getD (lineBytes (getD ownLines (i / 33) [])) x 0) (let q : i % 33 ≡ i % 33 / 8 * 8 + i % 33 % 8 = omega arith in q)
     ∙ fields-byte (getD ownLines (i / 33) []) (10 ∷ []) (i % 33 / 8) (i % 33 % 8) (omega arith) (omega arith)
 
-pub own-end-byte : (i : ℕ) → i < 330 → i % 33 ≡ 32 → getD ownBytes i 0 ≡ 10
+pub own-end-byte : (i : ℕ) → i < own-table-bytes → i % 33 ≡ 32 → getD ownBytes i 0 ≡ 10
 unfolding ownBytes
 own-end-byte i lt h =
     ap (λ x. getD (bytesOf ownLines) x 0) (let q : i ≡ i / 33 * 33 + 32 = omega arith in q)
@@ -154,7 +154,7 @@ pub own-most : (i : ℕ) → i < 96 → getD ownNumbers i 0 ≤ 10
 own-most i lt = leb-true (getD ownNumbers i 0) 10 (all-at (λ n. leb n 10) 0 ownNumbers refl i lt)
 
 -- the table's bytes, written from the first on
-pub own-written : (a b : List ℕ) (i : ℕ) → length a ≡ 330 → i ≡ 330 → Wrote a b 0 i (take i ownBytes) → b ≡ ownBytes
+pub own-written : (a b : List ℕ) (i : ℕ) → length a ≡ own-table-bytes → i ≡ own-table-bytes → Wrote a b 0 i (take i ownBytes) → b ≡ ownBytes
 own-written a b i l e w =
     let n = own-length in
     let t : take i ownBytes ≡ ownBytes = ap (λ k. take k ownBytes) (let q : i ≡ length ownBytes = omega arith in q) ∙ take-length ownBytes in

@@ -15,3 +15,7 @@ ownLines = linesOf 1 tenRelations
 
 unfoldable pub ownBytes : List ℕ
 ownBytes = bytesOf ownLines
+
+-- how many these are
+abbrev pub own-table-bytes : ℕ
+own-table-bytes = 330

@@ -11,7 +11,7 @@ ghost use Prim.Native.Nat.{_<_, _≤_};
 ghost use lib.IntN.{pos};
 ghost use lib.ListN.{getD};
 ghost use Rattle.sheet_table.specs.Loads.{Loads};
-ghost use Rattle.sheet_own_table.specs.Own.{ownLines, ownBytes};
+ghost use Rattle.sheet_own_table.specs.Own.{ownLines, ownBytes, own-table-bytes};
 
 // The bytes of a line up to its end, and with it.
 const LINE_END: usize = TABLE_FIELDS * FIELD_BYTES;
@@ -36,7 +36,7 @@ fn own_field(n: usize, j: usize) -> usize
 
 // The byte at a place.
 fn own_byte(i: usize) -> u8
-    requires { ⌜ i < 330 ⌝ }
+    requires { ⌜ i < own-table-bytes ⌝ }
     ensures { λ r. ⌜ r ≡ getD ownBytes i 0 ⌝ }
 {
     let k = i % LINE_BYTES;
