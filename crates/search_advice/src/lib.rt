@@ -1,8 +1,6 @@
 // What the search should do next in a state: a list that is given the question's head, two facts that clash in a key, or a row of a view to repair and the
 // listed rows to try first.
 // Nothing here is believed: the search checks each proposal, and has a complete walk for where there is none.
-use query_layout::COLUMNS;
-use query_layout::MADE_UP;
 use search_board::ALIVE;
 use search_board::ANY_ROW;
 use search_board::Advice;
@@ -14,8 +12,6 @@ use search_board::BY_LIST;
 use search_board::BYTE;
 use search_board::CHANGED;
 use search_board::COUNTS_AT;
-use search_board::FACT_END;
-use search_board::FACT_WORDS;
 use search_board::FAILURES;
 use search_board::FELL;
 use search_board::FELL_ROW;
@@ -23,7 +19,6 @@ use search_board::FOUND_ENTRY;
 use search_board::HINT;
 use search_board::KEPT_AT;
 use search_board::KEPT_COUNT;
-use search_board::KEY_BROKEN;
 use search_board::KEYED;
 use search_board::LEAST;
 use search_board::LINKS;
@@ -52,6 +47,7 @@ const NO_COUNT: usize = 99;
 
 // A row that comes late weighs so much more than others; and what is more than every weight.
 const LATE: usize = NO_COUNT;
+
 const NO_WEIGHT: usize = LATE + NO_COUNT;
 
 // So many rows may be visited in these trials.
@@ -63,16 +59,6 @@ pub const STAND: usize = CHANGED + 1;
 
 // In the place of a list's number: a trial failed by two facts that clash in a key.
 const BY_KEY: usize = BYTE + 1;
-
-// No advice.
-fn nothing() -> Advice {
-    Advice {
-        kind: NOTHING,
-        block: 0,
-        at: [0; MOST_ATOMS],
-        hint: 0,
-    }
-}
 
 // The facts that an entry's atoms are.
 fn entry_facts(e: usize) -> [usize; MOST_ATOMS] {
@@ -120,162 +106,6 @@ fn kept_count(bd: &[u32; BOARD]) -> usize {
     n
 }
 
-// ---- facts that clash in a key
-
-// Whether two rows are alike in column c, as far as that is one of the first n.
-fn is_alike_at(a: &[usize; 4], b: &[usize; 4], n: usize, c: usize) -> bool {
-    if COLUMNS <= c {
-        return true;
-    }
-    if n <= c {
-        return true;
-    }
-    a[c] == b[c]
-}
-
-// Whether two rows are alike in the first n columns.
-fn is_alike(a: &[usize; 4], b: &[usize; 4], n: usize) -> bool {
-    is_alike_at(a, b, n, 0)
-        & is_alike_at(a, b, n, 1)
-        & is_alike_at(a, b, n, 2)
-        & is_alike_at(a, b, n, 3)
-}
-
-// Those in the set that may have the row's value in column c, as far as that is one of the first n.
-fn alike_at(
-    set: [u64; FACT_WORDS],
-    row: &[usize; 4],
-    n: usize,
-    c: usize,
-    bits: &[u64; BITS],
-) -> [u64; FACT_WORDS] {
-    if COLUMNS <= c {
-        return set;
-    }
-    if n <= c {
-        return set;
-    }
-    search_board::both(set, search_board::sharing(bits, c, row[c]))
-}
-
-// The facts of a relation that count and may have the row's values in the first n columns.
-fn facts_alike(
-    relation: usize,
-    row: &[usize; 4],
-    n: usize,
-    bits: &[u64; BITS],
-) -> [u64; FACT_WORDS] {
-    let all = search_board::alive_of(bits, relation);
-    let a = alike_at(all, row, n, 0, bits);
-    let b = alike_at(a, row, n, 1, bits);
-    let c = alike_at(b, row, n, 2, bits);
-    alike_at(c, row, n, 3, bits)
-}
-
-// Whether two values are constants that differ.
-fn is_apart(v: usize, w: usize) -> bool {
-    (v < MADE_UP) & (w < MADE_UP) & (v != w)
-}
-
-// Whether two rows that are alike in a key break it: they differ; or where only what cannot be mended counts, they have two constants that do.
-fn is_broken(a: &[usize; 4], b: &[usize; 4], fatal: bool) -> bool {
-    if fatal {
-        return is_apart(a[0], b[0])
-            | is_apart(a[1], b[1])
-            | is_apart(a[2], b[2])
-            | is_apart(a[3], b[3]);
-    }
-    !search_board::same_row(a, b)
-}
-
-// A fact that is alike with fact i in the first n columns and breaks the key; FACT_END if there is none.
-fn clashing(
-    relation: usize,
-    i: usize,
-    n: usize,
-    fatal: bool,
-    bd: &[u32; BOARD],
-    bits: &[u64; BITS],
-) -> usize {
-    let row = search_board::fact_row(bd, i);
-    let set = facts_alike(relation, &row, n, bits);
-    let mut k = search_board::next_fact(&set, 0);
-    while k < FACT_END {
-        let other = search_board::fact_row(bd, k);
-        if is_alike(&row, &other, n) {
-            if is_broken(&row, &other, fatal) {
-                return k;
-            }
-        }
-        k = search_board::next_fact(&set, k + 1);
-    }
-    FACT_END
-}
-
-// That two facts clash in a key.
-fn by_facts(i: usize, k: usize) -> Advice {
-    let mut at = [0usize; MOST_ATOMS];
-    at[0] = i;
-    at[1] = k;
-    Advice {
-        kind: KEY_BROKEN,
-        block: 0,
-        at,
-        hint: 0,
-    }
-}
-
-// Two facts of a relation, one of them in the set, that clash in its first n columns.
-fn clash_of(
-    relation: usize,
-    n: usize,
-    of: &[u64; FACT_WORDS],
-    fatal: bool,
-    bd: &[u32; BOARD],
-    bits: &[u64; BITS],
-) -> Advice {
-    let mut i = search_board::next_fact(of, 0);
-    while i < FACT_END {
-        let k = clashing(relation, i, n, fatal, bd, bits);
-        if k < FACT_END {
-            return by_facts(i, k);
-        }
-        i = search_board::next_fact(of, i + 1);
-    }
-    nothing()
-}
-
-// The facts of a relation to look at: all that count; or in a trial those that changed.
-fn facts_to_test(relation: usize, trial: bool, bits: &[u64; BITS]) -> [u64; FACT_WORDS] {
-    if trial {
-        return search_board::changed_of(bits, relation);
-    }
-    search_board::alive_of(bits, relation)
-}
-
-// Two facts that clash in a key; in a trial one of them changed, and nothing can mend it.
-fn clash(p: &[usize; PLAN_NUMBERS], trial: bool, bd: &[u32; BOARD], bits: &[u64; BITS]) -> Advice {
-    let keyed = search_board::get(bd, KEYED) as u64;
-    let mut digit = search_board::next_digit(keyed, 0);
-    while digit < 64 {
-        let relation = digit + 1;
-        let of = facts_to_test(relation, trial, bits);
-        let a = clash_of(
-            relation,
-            tableau_parts::key_of(p, relation),
-            &of,
-            trial,
-            bd,
-            bits,
-        );
-        if a.kind != NOTHING {
-            return a;
-        }
-        digit = search_board::next_digit(keyed, relation);
-    }
-    nothing()
-}
-
 // ---- trying a listed row
 
 // Notes the facts by which a list is given the question's head in a trial.
@@ -309,7 +139,7 @@ fn is_refuted(
             return true;
         }
     }
-    let key = clash(p, true, bd, bits);
+    let key = search_clash::clash(p, true, bd, bits);
     if key.kind != NOTHING {
         let at = key.at;
         search_board::put(bd, BY_LIST, BY_KEY);
@@ -376,47 +206,6 @@ fn try_rows(
 
 // ---- listed rows whose facts are there already
 
-// Whether fact f is one that counts where the row becomes the other.
-fn is_known(
-    row: &[usize; 4],
-    to: &[usize; 4],
-    f: usize,
-    bd: &[u32; BOARD],
-    bits: &[u64; BITS],
-) -> bool {
-    let old = search_board::fact_row(bd, f);
-    let new = search_board::moved_row(row, to, &old);
-    let set = search_board::alive_of(bits, search_board::fact(bd, f, 0));
-    let mut g = search_board::next_fact(&set, 0);
-    while g < FACT_END {
-        let other = search_board::fact_row(bd, g);
-        if search_board::same_row(&new, &other) {
-            return true;
-        }
-        g = search_board::next_fact(&set, g + 1);
-    }
-    false
-}
-
-// Whether the first n facts of an entry are there where its row becomes the other.
-fn are_known(
-    e: usize,
-    n: usize,
-    row: &[usize; 4],
-    to: &[usize; 4],
-    bd: &[u32; BOARD],
-    bits: &[u64; BITS],
-) -> bool {
-    let mut j = 0;
-    while j < n {
-        if !is_known(row, to, search_board::entry_fact(e, j), bd, bits) {
-            return false;
-        }
-        j += 1;
-    }
-    true
-}
-
 // Those of the listed rows in the set that an entry's row can become so that its facts are there already.
 fn known_rows(
     p: &[usize; PLAN_NUMBERS],
@@ -431,7 +220,7 @@ fn known_rows(
     let mut i = search_board::next_digit(set, 0);
     while i < 64 {
         let to = tableau_parts::values_at(p, i);
-        if are_known(e, n, row, &to, bd, bits) {
+        if search_order::are_known(e, n, row, &to, bd, bits) {
             known = known | search_board::bit(i);
         }
         i = search_board::next_digit(set, i + 1);
@@ -480,78 +269,6 @@ fn fit_count(
     search_board::ones(f.set)
 }
 
-// How many columns of a relation settle the others, by its key or by its parent's; COLUMNS where none do.
-fn settling(p: &[usize; PLAN_NUMBERS], relation: usize) -> usize {
-    let own = tableau_parts::key_of(p, relation);
-    if own != 0 {
-        return own;
-    }
-    let key = tableau_parts::key_of(p, tableau_parts::parent_of(p, relation));
-    if key == 0 {
-        return COLUMNS;
-    }
-    key
-}
-
-// Whether a value is made up and one of a row's.
-fn is_open_in(row: &[usize; 4], v: usize) -> bool {
-    if v < MADE_UP {
-        return false;
-    }
-    (row[0] == v) | (row[1] == v) | (row[2] == v) | (row[3] == v)
-}
-
-// Whether a value is made up and none of a row's.
-fn is_open_beside(row: &[usize; 4], v: usize) -> bool {
-    if v < MADE_UP {
-        return false;
-    }
-    (row[0] != v) & (row[1] != v) & (row[2] != v) & (row[3] != v)
-}
-
-// Whether a row has a made-up value of a fact's first n columns.
-fn is_settling(row: &[usize; 4], fact: &[usize; 4], n: usize) -> bool {
-    ((0 < n) & is_open_in(row, fact[0]))
-        | ((1 < n) & is_open_in(row, fact[1]))
-        | ((2 < n) & is_open_in(row, fact[2]))
-        | ((3 < n) & is_open_in(row, fact[3]))
-}
-
-// Whether a row has a made-up value that stands behind a fact's first n columns, and lacks another one of the fact.
-fn is_waiting(row: &[usize; 4], fact: &[usize; 4], n: usize) -> bool {
-    (((n <= 1) & is_open_in(row, fact[1]))
-        | ((n <= 2) & is_open_in(row, fact[2]))
-        | ((n <= 3) & is_open_in(row, fact[3])))
-        & (is_open_beside(row, fact[0])
-            | is_open_beside(row, fact[1])
-            | is_open_beside(row, fact[2])
-            | is_open_beside(row, fact[3]))
-}
-
-// Whether an entry's row comes late: in the entry's first n facts its made-up values all stand behind keys, and in one of them others are open.
-// Once those are chosen, a key may settle the row's.
-fn is_late(
-    p: &[usize; PLAN_NUMBERS],
-    e: usize,
-    n: usize,
-    row: &[usize; 4],
-    bd: &[u32; BOARD],
-) -> bool {
-    let mut late = false;
-    let mut j = 0;
-    while j < n {
-        let f = search_board::entry_fact(e, j);
-        let fact = search_board::fact_row(bd, f);
-        let front = settling(p, search_board::fact(bd, f, 0));
-        if is_settling(row, &fact, front) {
-            return false;
-        }
-        late = late | is_waiting(row, &fact, front);
-        j += 1;
-    }
-    late
-}
-
 // What kept row k weighs that fits m listed rows: as many, and more where it comes late; NO_WEIGHT if nothing is to be done there. One that fits one or
 // none is never late.
 fn weight(p: &[usize; PLAN_NUMBERS], k: usize, m: usize, bd: &[u32; BOARD]) -> usize {
@@ -564,7 +281,7 @@ fn weight(p: &[usize; PLAN_NUMBERS], k: usize, m: usize, bd: &[u32; BOARD]) -> u
     let e = kept_entry(bd, k);
     let n = tableau_parts::size_at(p, search_look::view_block(search_board::entry_view(e)));
     let row = search_board::entry_row(bd, e);
-    if is_late(p, e, n, &row, bd) {
+    if search_order::is_late(p, e, n, &row, bd) {
         return LATE + m;
     }
     m
@@ -749,7 +466,7 @@ fn choose(
     let n = kept_count(bd);
     let best = survey(p, sl, n, bd, bits);
     if n <= best {
-        return nothing();
+        return search_clash::nothing();
     }
     if count_at(bd, best) < 2 {
         return by_entry(kept_entry(bd, best), 0);
@@ -787,7 +504,7 @@ fn last_look(
     if found {
         return by_entry(search_board::get(bd, FOUND_ENTRY), 0);
     }
-    nothing()
+    search_clash::nothing()
 }
 
 // Brings the board up to the words; whether all is new.
@@ -830,7 +547,7 @@ fn advise_row(
         [0; 4]
     };
     search_fold::fold(p, ws, from, &fixed, all, bd, bits);
-    let key = clash(p, false, bd, bits);
+    let key = search_clash::clash(p, false, bd, bits);
     if key.kind != NOTHING {
         search_board::put(bd, LINKS, 1);
         return key;
@@ -913,7 +630,7 @@ pub fn reason(bd: &[u32; BOARD]) -> Advice {
     }
     let at = noted_facts(bd);
     if l == BY_KEY {
-        return by_facts(at[0], at[1]);
+        return search_clash::by_facts(at[0], at[1]);
     }
     Advice {
         kind: LIST_GIVEN,

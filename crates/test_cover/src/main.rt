@@ -17,8 +17,6 @@
 //
 // A bar follows, then the missing answer and a bar, the count of facts and a bar, and the facts, with "/" after each. Of a case SHOWN says
 // which of these are shown, since the case is free: 0 none, 1 the missing answer, 2 all. With any other verdict all are.
-mod checks;
-
 use judge_result::Judgement;
 use judge_result::LEAST_ROOM;
 use libc::STDOUT_FILENO;
@@ -217,7 +215,7 @@ fn put_checks(
     if verdict != 1 {
         return at;
     }
-    checks::put_marks(out, at, table, sheet, facts, missing)
+    test_case::put_marks(out, at, table, sheet, facts, missing)
 }
 
 fn put_missing(out: &mut [u8], at: usize, shown: usize, missing: &[usize; 4]) -> usize {
