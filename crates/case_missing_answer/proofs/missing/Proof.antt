@@ -17,6 +17,18 @@ Inv-loop p facts blk n pace₀ cur₀ pace cur = FormedPlan p → WalkAt (GivenT
 abbrev μ-loop : tie.MeasureT-loop
 μ-loop p facts blk n pace₀ cur₀ pace cur = room (cur .some) (cur .values)
 
+-- ---- points on the way
+
+-- the start, from where the first row is found
+abbrev start : tie.After-follow Inv-loop μ-loop → tie.Start Inv-loop μ-loop
+start c = c .before .before .before .before .before .before
+
+-- where the block is read, from where the first row is found
+abbrev block : tie.After-follow Inv-loop μ-loop → tie.After-block-at Inv-loop μ-loop
+block c = c .before .before .before .before
+
+-- ---- the needs
+
 block-at-requires : tie.Need-block-at-requires Inv-loop μ-loop
 block-at-requires c κs = search needs
 
@@ -31,9 +43,9 @@ follow-requires c κs = search needs
 
 loop-holds : tie.Need-loop-holds Inv-loop μ-loop
 loop-holds c =
-    let b = c .before .before .before .before in
+    let b = block c in
     let n = c .before .before .none in
-    let a = c .before .before .before .before .before .before .args in
+    let a = start c .args in
     λ ready. start-at (GivenToList (a .p .now) (a .facts .now)) (a .p .now) 0 (a .facts .now) (b .block-at .result) (c .follow .result .some) (n .result .some) (n .result .values) (c .follow .result .values)
     ready (inl refl) (b .block-at .ensures (search needs) (ready .size)) (n .ensures) (c .follow .ensures .0)
 
@@ -42,8 +54,9 @@ giving-list-requires c κs = search needs
 
 returns : tie.Need-returns Inv-loop μ-loop
 returns c =
-    let l = c .before .before .before .before .loop in
-    let a = c .before .before .before .before .before .before .before .before .before .before .before .args in
+    let looped = c .before .before .before .before in
+    let l = looped .loop in
+    let a = start (looped .before) .args in
     λ ready. missing-yes (a .p .now) (a .facts .now) (l .cur .some) (l .cur .values) (l .inv ready) (c .before .before .before .loop-test .taken)
     (c .before .giving-list .ensures ready .none (c .if1 .taken))
 
@@ -63,9 +76,10 @@ loop-less c =
 loop-again : tie.Need-loop-again Inv-loop μ-loop
 loop-again c =
     let o = c .before .before .before .onward in
-    let l = c .before .before .before .before .before .before .before .before .loop in
-    let b = c .before .before .before .before .before .before .before .before .before .before .before .before .before in
-    let a = c .before .before .before .before .before .before .before .before .before .before .before .before .before .before .before .args in
+    let looped = c .before .before .before .before .before .before .before .before in
+    let l = looped .loop in
+    let b = block (looped .before) in
+    let a = start (looped .before) .args in
     λ ready.
     let (lt, given) = c .before .before .before .before .before .giving-list .ensures ready .given (let left = c .before .before .before .before .if1 .left in omega arith) in
     on-at (GivenToList (a .p .now) (a .facts .now)) (a .p .now) 0 (a .facts .now) (b .block-at .result) (c .follow2 .result .some) (l .cur .some) (l .cur .values) (o .result .values) (c .follow2 .result .values)
@@ -74,8 +88,9 @@ loop-again c =
 
 returns-2 : tie.Need-returns-2 Inv-loop μ-loop
 returns-2 c =
-    let l = c .before .loop in
-    let a = c .before .before .before .before .before .before .before .before .args in
+    let looped = c .before in
+    let l = looped .loop in
+    let a = start (looped .before) .args in
     λ ready. missing-no (a .p .now) (a .facts .now) (l .cur .some) (l .cur .values) (l .inv ready) (c .loop-test .left)
 
 pub missing-spec : {M : Type 1} → statement M

@@ -22,6 +22,13 @@ Inv-loop blk n facts p a b y few j₀ j = (j ≤ few) × ((k : ℕ) → k < j �
 abbrev μ-loop : tie.MeasureT-loop
 μ-loop blk n facts p a b y few j₀ j = few - j
 
+-- ---- points on the way
+
+abbrev start : tie.At-loop Inv-loop μ-loop → tie.Start Inv-loop μ-loop
+start c = c .before .before .before .before .before .before .before .before
+
+-- ---- the needs
+
 returns : tie.Need-returns Inv-loop μ-loop
 returns c = λ e. absurd (true≢false (sym e))
 
@@ -64,7 +71,7 @@ loop-less c = search needs
 loop-again : tie.Need-loop-again Inv-loop μ-loop
 loop-again c =
     let l = c .before .before .before .loop in
-    let a = c .before .before .before .before .before .before .before .before .before .before .before .args in
+    let a = start (c .before .before .before) .args in
     let y = getD (a .blk .now) (block-head + a .p) 0 in
     let d = c .before .atom-dominates in
     (omega arith, below-more (λ k. AtomDominates (a .blk .now) (a .facts .now) k y (a .a) (a .b)) (l .j) (l .inv .1) (d .ensures (not-false (d .result) (c .if4 .left))))
@@ -72,7 +79,7 @@ loop-again c =
 returns-5 : tie.Need-returns-5 Inv-loop μ-loop
 returns-5 c =
     let l = c .before .loop in
-    let a = c .before .before .before .before .before .before .before .before .before .args in
+    let a = start (c .before) .args in
     let few = c .before .before .few-atoms in
     let once = c .before .before .before .before .is-once in
     let y = getD (a .blk .now) (block-head + a .p) 0 in

@@ -108,8 +108,9 @@ loop-less c = search needs
 
 loop-again : tie.Need-loop-again Inv-loop μ-loop
 loop-again c =
-    let l = c .before .before .before .before .before .before .loop in
-    let s = c .before .before .before .before .before .before .before .before .before .before .before in
+    let looped = c .before .before .before .before .before .before in
+    let l = looped .loop in
+    let s = looped .before .before .before .before .before in
     let a = s .args in
     let f = c .before .column-follows in (
       omega arith,

@@ -9,10 +9,25 @@ use Rattle.search_symmetry.proofs.Laws.{never, all-found}
 use Rattle.search_symmetry.proofs.are_exchanged.Statement.{statement}
 use Rattle.search_symmetry.proofs.are_exchanged.Tie as tie
 
--- ---- what is known on the way
+-- ---- points on the way
 
+-- the start, from where both rows are found listed
 abbrev start : tie.Else4 → tie.Start
 start c = c .before .before .before .before .before .before .before .before
+
+-- where the values of both rows are read, from where they are found swapped
+abbrev read : tie.Else6 → tie.After-values-at2
+read c = c .before .before .before .before .before .before .before
+
+-- where the values are found swapped, from where the sheet stays
+abbrev swapped : tie.Else7 → tie.Else6
+swapped c = c .before .before .before .before .before .before .before .before .before
+
+-- where the values of both rows are read, from where the sheet stays
+abbrev values : tie.Else7 → tie.After-values-at2
+values c = read (swapped c)
+
+-- ---- what is known on the way
 
 listed : (c : tie.Else4) → TwoListed (start c .args .p .now) (start c .args .one) (start c .args .other)
 listed c = c .before .are-listed .ensures (not-false _ (c .if4 .left))
@@ -27,9 +42,6 @@ fours : (c : tie.After-values-at2) → Fours (c .before .values-at .result) (c .
 fours c = (ap length (one-is c), ap length (other-is c))
 
 -- where the sheet stays
-abbrev values : tie.Else7 → tie.After-values-at2
-values c = c .before .before .before .before .before .before .before .before .before .before .before .before .before .before .before .before
-
 sheet : (c : tie.Else7) → SheetTurned (start (values c .before .before) .args .p .now) (values c .before .values-at .result) (values c .values-at2 .result) (rowCount (start (values c .before .before) .args .p .now)) (viewCount (start (values c .before .before) .args .p .now)) (c .before .before .before .is-sheet-turned .last .1 .1 .1 .1 .1 .0)
 sheet c = c .before .before .before .is-sheet-turned .ensures (not-false _ (c .if7 .left))
 
@@ -75,7 +87,10 @@ element-copy-out-is-sheet-turned-2 : tie.Need-element-copy-out-is-sheet-turned-2
 element-copy-out-is-sheet-turned-2 c = search needs
 
 is-sheet-turned-requires : tie.Need-is-sheet-turned-requires
-is-sheet-turned-requires c κs = let l = listed (c .before .before .before .before .before .before .before .before .before .before .before .before .before .before) in (l .few-rows, l .few-views, c .before .before .before .before .before .before .before .before .before .before .before .before .before .before .before .before .if3 .left, fours (c .before .before .before .before .before .before .before .before .before .before .before .before))
+is-sheet-turned-requires c κs =
+    let v = read (c .before .before .before .before .before) in
+    let l = listed (v .before .before) in
+    (l .few-rows, l .few-views, v .before .before .before .before .if3 .left, fours v)
 
 same-length : tie.Need-same-length
 same-length c = search needs
@@ -93,22 +108,28 @@ returns-8 : tie.Need-returns-8
 returns-8 c = never
 
 are-slots-turned-requires : tie.Need-are-slots-turned-requires
-are-slots-turned-requires c κs = let s = sheet (c .before .before .before .before .before .before) in (c .before .before .before .before .before .before .before .before .before .before .before .before .before .before .before .before .before .before .before .before .before .before .before .before .before .before .before .before .if1 .left, c .before .before .before .before .before .before .before .before .before .before .before .before .before .before .before .before .before .before .before .before .before .before .before .before .before .before .before .if2 .left, fours (c .before .before .before .before .before .before .before .before .before .before .before .before .before .before .before .before .before .before .before .before .before .before), s .rows-go .long, s .rows-back)
+are-slots-turned-requires c κs =
+    let stays = c .before .before .before .before .before .before in
+    let s = sheet stays in
+    let v = values stays in
+    (v .before .before .before .before .before .before .if1 .left, v .before .before .before .before .before .if2 .left, fours v, s .rows-go .long, s .rows-back)
 
 same-length-3 : tie.Need-same-length-3
 same-length-3 c = search needs
 
 returns-9 : tie.Need-returns-9
 returns-9 c =
-    let at-swapped = c .before .before .before .before .before .before .before .before .before .before .before .before .before .before .before .before .before in
-    let at-values = at-swapped .before .before .before .before .before .before in
+    let stays = c .before .before .before .before .before .before .before in
+    let found-swapped = swapped stays in
+    let at-swapped = found-swapped .before in
+    let at-values = values stays in
     let a = start (at-values .before .before) .args in
     λ e.
     all-found (a .p .now) (a .ws .now) (a .set .now) (a .u .now) (a .one) (a .other) _ _ _ (one-is at-values) (other-is at-values) (listed (at-values .before .before))
     (c .before .before .before .before .before .is-unmoved .ensures (not-false _ (c .before .before .before .before .if8 .left)))
     (at-swapped .before .before .before .before .agrees .ensures (not-false _ (at-swapped .before .before .before .if5 .left)))
-    (at-swapped .is-swapped .ensures (not-false _ (c .before .before .before .before .before .before .before .before .before .before .before .before .before .before .before .before .if6 .left)))
-    (sheet (c .before .before .before .before .before .before .before))
+    (at-swapped .is-swapped .ensures (not-false _ (found-swapped .if6 .left)))
+    (sheet stays)
     (c .are-slots-turned .ensures e)
 
 pub are-exchanged-spec : {M : Type 1} → statement M

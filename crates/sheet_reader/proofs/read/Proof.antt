@@ -43,9 +43,13 @@ returns-2 c =
 
 returns-3 : tie.Need-returns-3
 returns-3 c =
-    let a = c .before .before .before .before .before .before .before .before .before .before .before .args in
-    let p = c .before .before .before .before .before .before .parse in
-    read-numbers (tableIn (a .table .now)) (a .sheet .now) (length (a .out .now)) (read-short (tableIn (a .table .now)) (a .sheet .now) (p .last .1 .0) (p .result) (p .ensures) (c .before .before .before .before .before .before .before .before .if1 .left) (a .out .now) (c .before .before .before .refusal .result) (c .before .before .before .refusal .ensures) (c .before .if2 .left) (c .if3 .taken))
+    let at-parse = c .before .before .before .before .before .before in
+    let at-if1 = at-parse .before .before in
+    let a = at-if1 .before .before .before .args in
+    let p = at-parse .parse in
+    read-numbers (tableIn (a .table .now)) (a .sheet .now) (length (a .out .now))
+    (read-short (tableIn (a .table .now)) (a .sheet .now) (p .last .1 .0) (p .result) (p .ensures) (at-if1 .if1 .left) (a .out .now)
+    (c .before .before .before .refusal .result) (c .before .before .before .refusal .ensures) (c .before .if2 .left) (c .if3 .taken))
 
 slice-aggregate-copy : tie.Need-slice-aggregate-copy
 slice-aggregate-copy c = search needs

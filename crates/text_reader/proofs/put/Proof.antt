@@ -21,7 +21,11 @@ same-length-2 : tie.Need-same-length-2
 same-length-2 c = search needs
 
 returns-2 : tie.Need-returns-2
-returns-2 c = let s = c .before .before .before .before .before .before .before .before .before .before .before .before in put-variable _ _ _ _ _ _ (not-false _ (c .before .before .before .before .before .before .before .before .if1 .left)) (c .before .before .before .before .before .before .if2 .taken) (s .pre .0 .0) (word-some (s .pre .0 .1) (c .before .before .before .before .before .before .if2 .taken)) (c .before .before .before .put-variable .ensures)
+returns-2 c =
+    let variable = c .before .before .before .before .before .before in
+    let puts = variable .before .before in
+    let s = puts .before .before .before .before in
+    put-variable _ _ _ _ _ _ (not-false _ (puts .if1 .left)) (variable .if2 .taken) (s .pre .0 .0) (word-some (s .pre .0 .1) (variable .if2 .taken)) (c .before .before .before .put-variable .ensures)
 
 cast-put-field : tie.Need-cast-put-field
 cast-put-field c = let v = value-fits (c .before .before .before .before .before .before .before .before .pre .0 .1) in record { sfits = omega arith }

@@ -38,9 +38,10 @@ same-length-2 c = search needs
 
 returns : tie.Need-returns
 returns c =
-    let s = c .before .before .before .before .before .before .before .before .before .before .before .before .before in
+    let placed = c .before .before .before .before .before .before .before .before in
+    let s = placed .before .before .before .before .before in
     let a = s .args in
-    let p = c .before .before .before .before .before .before .before .before .place in
+    let p = placed .place in
     let t = c .before .before .before .before .before .before .term-at in
     let f = c .before .before .before .before .before .put-field in
     let i = p .ensures .1 in

@@ -15,6 +15,25 @@ Inv-loop text words₀ begun₀ names₀ c₀ n₀ at₀ words begun names c n a
 abbrev μ-loop : tie.MeasureT-loop
 μ-loop text words₀ begun₀ names₀ c₀ n₀ at₀ words begun names c n at = length text - at
 
+-- ---- points on the way
+
+-- the token was taken
+abbrev took : tie.After-struct-known Inv-loop μ-loop → tie.After-take Inv-loop μ-loop
+took c = c .before .before .before .before .before .before .before
+
+-- its end was found
+abbrev found : tie.After-take Inv-loop μ-loop → tie.After-token-end Inv-loop μ-loop
+found c = c .before .before .before .before
+
+-- the loop's head
+abbrev looped : tie.After-token-end Inv-loop μ-loop → tie.At-loop Inv-loop μ-loop
+looped c = c .before .before
+
+abbrev start : tie.At-loop Inv-loop μ-loop → tie.Start Inv-loop μ-loop
+start c = c .before .before .before .before
+
+-- ---- the needs
+
 skip-requires : tie.Need-skip-requires Inv-loop μ-loop
 skip-requires c κs = search needs
 
@@ -38,36 +57,46 @@ take-requires c κs =
 
 same-length : tie.Need-same-length Inv-loop μ-loop
 same-length c =
-    let s = c .before .before .before .before .before .before .before .before .before .before .before .before .before .before .before .before .before .before in
+    let t = took (c .before) in
+    let head = looped (found t) in
+    let s = start head in
     let a : length (s .args .words .now) ≡ most-words = ap length (s .pre .1) ∙ length-replicate most-words (pos 0) in
-    let b = c .before .before .before .before .before .before .before .before .before .before .before .before .before .before .loop .inv .held .kept .room .words-size in
-    let k = c .before .before .before .before .before .before .before .before .take .kept .1 .1 .1 .1 .1 .0 in
+    let b = head .loop .inv .held .kept .room .words-size in
+    let k = t .take .kept .1 .1 .1 .1 .1 .0 in
     omega arith
 
 same-length-2 : tie.Need-same-length-2 Inv-loop μ-loop
 same-length-2 c =
-    let s = c .before .before .before .before .before .before .before .before .before .before .before .before .before .before .before .before .before .before in
+    let t = took (c .before) in
+    let head = looped (found t) in
+    let s = start head in
     let a : length (s .args .begun .now) ≡ most-lines = ap length (s .pre .2) ∙ length-replicate {A = ℕ} most-lines 0 in
-    let b = c .before .before .before .before .before .before .before .before .before .before .before .before .before .before .loop .inv .held .kept .room .begun-size in
-    let k = c .before .before .before .before .before .before .before .before .take .kept .1 .1 .1 .1 .1 .1 .0 in
+    let b = head .loop .inv .held .kept .room .begun-size in
+    let k = t .take .kept .1 .1 .1 .1 .1 .1 .0 in
     omega arith
 
 returns : tie.Need-returns Inv-loop μ-loop
-returns c = going-fails (c .before .before .before .before .before .before .before .before .before .before .before .before .before .before .loop .inv) (c .before .before .before .before .before .before .before .before .take .ensures) (c .before .before .before .before .before .before .before .before .before .before .before .before .token-end .ensures) (c .if1 .taken)
+returns c =
+    let t = took (c .before) in
+    let e = found t in
+    going-fails (looped e .loop .inv) (t .take .ensures) (e .token-end .ensures) (c .if1 .taken)
 
 skip-requires-2 : tie.Need-skip-requires-2 Inv-loop μ-loop
 skip-requires-2 c κs = search needs
 
 loop-less : tie.Need-loop-less Inv-loop μ-loop
 loop-less c =
-    let e = c .before .before .before .before .before .before .before .before .before .before .before .before .before .token-end .ensures in
+    let e = found (took (c .before .before)) .token-end .ensures in
     let a = e .after in
     let b = e .inside in
     let k = c .skip2 .ensures .after in
     omega arith
 
 loop-again : tie.Need-loop-again Inv-loop μ-loop
-loop-again c = going-next (c .before .before .before .before .before .before .before .before .before .before .before .before .before .before .before .loop .inv) (c .before .before .before .before .before .before .before .before .before .take .ensures) (c .before .before .before .before .before .before .before .before .before .before .before .before .before .token-end .ensures) (c .before .if1 .left) (c .skip2 .ensures)
+loop-again c =
+    let t = took (c .before .before) in
+    let e = found t in
+    going-next (looped e .loop .inv) (t .take .ensures) (e .token-end .ensures) (c .before .if1 .left) (c .skip2 .ensures)
 
 slice-aggregate-take-2 : tie.Need-slice-aggregate-take-2 Inv-loop μ-loop
 slice-aggregate-take-2 c = search needs
@@ -83,17 +112,19 @@ take-requires-2 c κs =
 
 same-length-3 : tie.Need-same-length-3 Inv-loop μ-loop
 same-length-3 c =
-    let s = c .before .before .before .before .before .before .before .before .before .before .before .before .before in
+    let head = c .before .before .before .before .before .before .before .before .before in
+    let s = start head in
     let a : length (s .args .words .now) ≡ most-words = ap length (s .pre .1) ∙ length-replicate most-words (pos 0) in
-    let b = c .before .before .before .before .before .before .before .before .before .loop .inv .held .kept .room .words-size in
+    let b = head .loop .inv .held .kept .room .words-size in
     let k = c .before .before .before .before .take2 .kept .1 .1 .1 .1 .1 .0 in
     omega arith
 
 same-length-4 : tie.Need-same-length-4 Inv-loop μ-loop
 same-length-4 c =
-    let s = c .before .before .before .before .before .before .before .before .before .before .before .before .before in
+    let head = c .before .before .before .before .before .before .before .before .before in
+    let s = start head in
     let a : length (s .args .begun .now) ≡ most-lines = ap length (s .pre .2) ∙ length-replicate {A = ℕ} most-lines 0 in
-    let b = c .before .before .before .before .before .before .before .before .before .loop .inv .held .kept .room .begun-size in
+    let b = head .loop .inv .held .kept .room .begun-size in
     let k = c .before .before .before .before .take2 .kept .1 .1 .1 .1 .1 .1 .0 in
     omega arith
 

@@ -5,6 +5,16 @@ use Rattle.text_reader.proofs.Steps.{taken}
 use Rattle.text_reader.proofs.take.Statement.{statement}
 use Rattle.text_reader.proofs.take.Tie as tie
 
+-- ---- points on the way
+
+abbrev marked : tie.After-begin → tie.After-mark
+marked c = c .before .before .before .before
+
+abbrev start : tie.After-mark → tie.Start
+start c = c .before .before .before .before .before
+
+-- ---- the needs
+
 sub-mark : tie.Need-sub-mark
 sub-mark c = search needs
 
@@ -25,15 +35,18 @@ begin-requires c κs = let s = c .before .before .before .before .before .before
 
 put-requires : tie.Need-put-requires
 put-requires c κs =
-    let s = c .before .before .before .before .before .before .before .before .before .before .before .before .before .before in
-    let h = c .before .before .before .before .before .begin .ensures .held (s .pre .0 .1 .held) in
-    ((s .pre .0 .0, record { is = c .before .before .before .before .before .before .before .before .before .mark .ensures }), (h .kept .room .words-size, h .noted .size, h .noted .few, h .noted .begin))
+    let begun = c .before .before .before .before .before in
+    let m = marked begun in
+    let s = start m in
+    let h = begun .begin .ensures .held (s .pre .0 .1 .held) in
+    ((s .pre .0 .0, record { is = m .mark .ensures }), (h .kept .room .words-size, h .noted .size, h .noted .few, h .noted .begin))
 
 end-line-requires : tie.Need-end-line-requires
 end-line-requires c κs =
-    let s = c .before .before .before .before .before .before .before .before .before .before .before .before .before .before .before .before .before .before in
+    let begun = c .before .before .before .before .before .before .before .before .before in
+    let s = start (marked begun) in
     let l = s .pre .1 .1 in
-    let a = c .before .before .before .before .before .before .before .before .before .begin .ensures .line in
+    let a = begun .begin .ensures .line in
     let b = c .before .before .before .put .ensures .line in
     omega arith
 
@@ -47,7 +60,9 @@ same-length-3 : tie.Need-same-length-3
 same-length-3 c = search needs
 
 returns : tie.Need-returns
-returns c = taken (c .before .before .before .before .before .before .before .before .before .before .before .before .before .before .mark .ensures) (c .before .before .before .before .before .before .before .before .before .before .before .before .before .step .ensures) (c .before .before .before .before .before .before .before .before .before .before .begin .ensures) (c .before .before .before .before .put .ensures) (c .end-line .ensures)
+returns c =
+    let begun = c .before .before .before .before .before .before .before .before .before .before in
+    taken (marked begun .mark .ensures) (begun .before .before .before .step .ensures) (begun .begin .ensures) (c .before .before .before .before .put .ensures) (c .end-line .ensures)
 
 pub take-spec : {M : Type 1} → statement M
 take-spec =

@@ -4,6 +4,18 @@ use Rattle.text_to_sheet.proofs.Calls.{too-long, expected-made, many-ma
 use Rattle.text_to_sheet.proofs.sheet_by_numbers.Statement.{statement}
 use Rattle.text_to_sheet.proofs.sheet_by_numbers.Tie as tie
 
+-- ---- points on the way
+
+-- the text was read
+abbrev was-read : tie.After-struct-known → tie.After-run
+was-read c = c .before .before .before .before .before
+
+-- the text was not too long
+abbrev began : tie.After-run → tie.Else1
+began c = c .before .before .before
+
+-- ---- the needs
+
 returns : tie.Need-returns
 returns c = too-long (c .if1 .taken)
 
@@ -18,17 +30,17 @@ run-requires c κs = search needs
 
 returns-2 : tie.Need-returns-2
 returns-2 c =
-    let s = c .before .before .before .before .before .before .before .before .before .before .before .before in
-    let a = s .args in
-    let r = c .before .before .before .before .before .before .run in
-    expected-made (tableIn (a .table .now)) (a .text .now) (a .out .now) (c .before .before .before .before .before .before .before .before .before .if1 .left) (r .ensures) (c .if2 .taken)
+    let run = was-read (c .before) in
+    let start = began run in
+    let a = start .before .before .before .args in
+    expected-made (tableIn (a .table .now)) (a .text .now) (a .out .now) (start .if1 .left) (run .run .ensures) (c .if2 .taken)
 
 returns-3 : tie.Need-returns-3
 returns-3 c =
-    let s = c .before .before .before .before .before .before .before .before .before .before .before .before .before in
-    let a = s .args in
-    let r = c .before .before .before .before .before .before .before .run in
-    many-made (tableIn (a .table .now)) (a .text .now) (a .out .now) (c .before .before .before .before .before .before .before .before .before .before .if1 .left) (r .ensures) (c .before .if2 .left) (c .if3 .taken)
+    let run = was-read (c .before .before) in
+    let start = began run in
+    let a = start .before .before .before .args in
+    many-made (tableIn (a .table .now)) (a .text .now) (a .out .now) (start .if1 .left) (run .run .ensures) (c .before .if2 .left) (c .if3 .taken)
 
 mul-write : tie.Need-mul-write
 mul-write c = search needs
@@ -64,8 +76,8 @@ returns-4 : tie.Need-returns-4
 returns-4 c =
     let w = c .before .before .before .before .before .write in
     let fits = c .before .before .before .before .before .before .before .before .before .before in
-    let run = fits .before .before .before .before .before .before .before in
-    let start = run .before .before .before in
+    let run = was-read (fits .before .before) in
+    let start = began run in
     let a = start .before .before .before .args in
     let g = c .before .n2 .given in
     sheet-made (tableIn (a .table .now)) (a .text .now) (a .out .now) (start .if1 .left) (run .run .ensures) (fits .before .if2 .left) (fits .if3 .left) (w .last .1 .1 .0) (w .result) (w .ensures .0) (w .ensures .1) (g .0 .0) (g .1)
@@ -75,10 +87,11 @@ same-length-2 c = search needs
 
 returns-5 : tie.Need-returns-5
 returns-5 c =
-    let w = c .before .before .before .before .before .before .before .write in
-    let fits = c .before .before .before .before .before .before .before .before .before .before .before .before in
-    let run = fits .before .before .before .before .before .before .before in
-    let start = run .before .before .before in
+    let written = c .before .before .before .before .before .before .before in
+    let w = written .write in
+    let fits = written .before .before .before .before .before in
+    let run = was-read (fits .before .before) in
+    let start = began run in
     let a = start .before .before .before .args in
     let g = c .before .before .before .number .given in
     refused-made (tableIn (a .table .now)) (a .text .now) (a .out .now) (start .if1 .left) (run .run .ensures) (fits .before .if2 .left) (fits .if3 .left) (w .last .1 .1 .0) (w .result) (w .ensures .0) (w .ensures .1) (g .0 .0) (g .0 .1 .0) (c .text-line .result) (g .1) (c .text-line .ensures)
