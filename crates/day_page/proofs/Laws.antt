@@ -22,7 +22,7 @@ use Rattle.text_buffer.proofs.Laws.{said, followed}
 use Rattle.judge_result.specs.declared.Judgement.{Judgement}
 use Rattle.judge_result.specs.Judged.{least-room}
 use Rattle.judge_ends.specs.Sets.{most-sheets}
-use Rattle.day_page.specs.Page.{page-room, sheetLine, sheetLines, tally, factSum, closingLine, pageLines, pageOf, Shown, AllShown}
+use Rattle.day_page.specs.Page.{page-room, sheetLine, sheetLines, tally, factSum, closingLine, pageLines, pageOf, Printable, AllShown}
 use Rattle.day_page.specs.Totals.{having, counted, totalsOf}
 
 -- what stands at a place past the end
@@ -79,7 +79,7 @@ at-most-one false = omega arith
 
 -- ---- judgements that fit
 
-pub shown-at : (js : List Judgement) (n i : ℕ) → AllShown (take n js) → i < n → i < length js → Shown (getD js i blank)
+pub shown-at : (js : List Judgement) (n i : ℕ) → AllShown (take n js) → i < n → i < length js → Printable (getD js i blank)
 shown-at [] n i s lt within = absurd (omega arith)
 shown-at (j ∷ js) zero i s lt within = absurd (omega arith)
 shown-at (j ∷ js) (suc n) zero s lt within = s .0

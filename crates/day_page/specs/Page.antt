@@ -46,11 +46,11 @@ pageOf js = bytesOf (pageLines js)
 
 -- ---- what every judgement is: its numbers fit their fields, and its facts the words of a case
 
-pub record Shown (j : Judgement) : Type 0 where
+pub record Printable (j : Judgement) : Type 0 where
   pub verdict : j .verdict < field-end
   pub number : j .number < field-end
   pub count : j .count * fact-words ≤ least-room
 
 abbrev pub AllShown : List Judgement → Type 0
 AllShown [] = Unit {0}
-AllShown (j ∷ js) = Shown j × AllShown js
+AllShown (j ∷ js) = Printable j × AllShown js

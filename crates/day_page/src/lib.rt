@@ -19,7 +19,7 @@ ghost use Rattle.sheet_format.specs.Field.{fieldBytes};
 ghost use Rattle.sheet_format.specs.Line.{lineBytes, bytesOf};
 ghost use Rattle.text_buffer.specs.Puts.{Put};
 ghost use Rattle.judge_ends.specs.Sets.{most-sheets};
-ghost use Rattle.day_page.specs.Page.{sheetLine, sheetLines, tally, factSum, closingLine, pageOf, Shown, AllShown};
+ghost use Rattle.day_page.specs.Page.{sheetLine, sheetLines, tally, factSum, closingLine, pageOf, Printable, AllShown};
 
 // The set's judgement, and how many bytes its page has; none where the set is sent back.
 pub struct DayJudgement {
@@ -84,7 +84,7 @@ fn fact_sum(sheets: [Judgement; MOST_SHEETS], count: usize) -> usize
 
 // A sheet's line.
 fn put_sheet(out: &mut [u8], at: usize, place: usize, j: Judgement) -> usize
-    requires { ⌜ (place < field-end) × Shown j ⌝ }
+    requires { ⌜ (place < field-end) × Printable j ⌝ }
     ensures { λ r. ⌜ Put (now (out .entry)) (now (out .exit)) at (lineBytes (sheetLine place j)) r ⌝ }
 {
     let a = put_number(out, at, place);

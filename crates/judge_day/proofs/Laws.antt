@@ -28,7 +28,7 @@ use Rattle.judge_ends.specs.declared.SetJudgement.{SetJudgement}
 use Rattle.judge_ends.specs.Sets.{Promise, most-sheets, sheetAt, stretchAt, setRefusal, unjudged, setJudgement, SetSent, SetTaken, SetJudged, JudgedTo}
 use Rattle.judge_ends.proofs.Laws.{parted}
 use Rattle.judge_set.proofs.Laws.{set-as}
-use Rattle.day_page.specs.Page.{page-room, pageOf, Shown, AllShown}
+use Rattle.day_page.specs.Page.{page-room, pageOf, Printable, AllShown}
 use Rattle.day_page.proofs.Laws.{page-fits}
 use Rattle.day_page.specs.declared.DayJudgement.{DayJudgement}
 use Rattle.judge_day.specs.Days.{dayRefusal, dayJudgement, setSent, DaySent, DayTaken, DayJudged}
@@ -92,15 +92,15 @@ table-few tb = either-table (null (byteLines tb)) (refusal 15 0) (linesRefusal [
 
 -- what is promised of a sheet, and fits the fields where it has a stretch
 abbrev pub Showing : Promise → Type 0
-Showing J = (s : List ℕ) (out after : List ℤ) (r : Judgement) → J s out after r → length out ≡ least-room → Shown r
+Showing J = (s : List ℕ) (out after : List ℤ) (r : Judgement) → J s out after r → length out ≡ least-room → Printable r
 
-shown-as : (r : Judgement) → r .count * 5 ≤ least-room → (v n l k : ℕ) (t : List ℕ) → r ≡ judgement v n l k t → v ≤ 9 → n ≤ 15 → Shown r
+shown-as : (r : Judgement) → r .count * 5 ≤ least-room → (v n l k : ℕ) (t : List ℕ) → r ≡ judgement v n l k t → v ≤ 9 → n ≤ 15 → Printable r
 shown-as r fits v n l k t e small low =
     let a : r .verdict ≡ v = ap (λ (q : Judgement). q .verdict) e in
     let b : r .number ≡ n = ap (λ (q : Judgement). q .number) e in
     record { verdict = omega arith; number = omega arith; count = fits }
 
-shown-decided : (x : Sheet) (out after : List ℤ) (r : Judgement) → r .count * 5 ≤ least-room → Decided x out after r → Shown r
+shown-decided : (x : Sheet) (out after : List ℤ) (r : Judgement) → r .count * 5 ≤ least-room → Decided x out after r → Printable r
 shown-decided x out after r fits (inl d) = shown-as r fits 9 13 0 0 [] (d .result) (omega arith) (omega arith)
 shown-decided x out after r fits (inr (inl d)) = shown-as r fits 0 0 0 0 [] (d .result) (omega arith) (omega arith)
 shown-decided x out after r fits (inr (inr (inl d))) = shown-as r fits 1 0 0 (length (d .handed .log)) (d .handed .answer) (d .result) (omega arith) (omega arith)
@@ -112,7 +112,7 @@ shown table s out after r judged size = go judged
     fits : r .count * 5 ≤ least-room
     fits = count-fits table s out after r judged size
 
-    go : Judged table s out after r → Shown r
+    go : Judged table s out after r → Printable r
     go (inl d) = let h = refusal-few table s in shown-as r fits 9 (sheetRefusal table s .number) (sheetRefusal table s .line) 0 [] (d .result) (omega arith) (omega arith)
     go (inr d) = shown-decided (sheetOf table (byteLines s)) out after r fits (d .1)
 
@@ -120,7 +120,7 @@ pub shown-by : (tb : List ℕ) → Showing (JudgedBy tb)
 shown-by tb s out after r (inl d) size = let h = table-few tb in shown-as r (count-fits-by tb s out after r (inl d) size) 9 (tableRefusal tb .number) (tableRefusal tb .line) 0 [] (d .result) (omega arith) (omega arith)
 shown-by tb s out after r (inr d) size = shown (tableOf tb) s out after r (d .1) size
 
-all-shown : (js : List Judgement) (n : ℕ) → n ≤ length js → ((k : ℕ) → k < n → Shown (getD js k (unjudged 0))) → AllShown (take n js)
+all-shown : (js : List Judgement) (n : ℕ) → n ≤ length js → ((k : ℕ) → k < n → Printable (getD js k (unjudged 0))) → AllShown (take n js)
 all-shown [] zero le each = tt
 all-shown [] (suc n) le each = absurd (omega arith)
 all-shown (j ∷ js) zero le each = tt

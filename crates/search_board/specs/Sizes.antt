@@ -3,11 +3,11 @@ use Prim.Native.Nat.{ℕ, _+_, _*_, _/_}
 use Rattle.tableau_layout.specs.Layout.{tableau-atoms}
 
 -- words with a digit for each atom of the tableau, and the first number past their digits
-abbrev pub fact-words : ℕ
-fact-words = tableau-atoms / 64 + 1
+abbrev pub fact-set-words : ℕ
+fact-set-words = tableau-atoms / 64 + 1
 
 abbrev pub fact-end : ℕ
-fact-end = fact-words * 64
+fact-end = fact-set-words * 64
 
 -- the places where a value of a view's columns may stand
 abbrev pub keys : ℕ

@@ -19,7 +19,7 @@ use tableau_layout::TABLEAU_NUMBERS;
 use tableau_layout::VIEW_BLOCKS;
 ghost use Prim.Native.Nat.{_*_, _≤_};
 ghost use Rattle.tableau_layout.specs.Layout.{tableau-atoms};
-ghost use Rattle.search_board.specs.Sizes.{fact-words, fact-end};
+ghost use Rattle.search_board.specs.Sizes.{fact-set-words, fact-end};
 
 // Words with a digit for each atom of the tableau, and the first number past their digits.
 pub const FACT_WORDS: usize = TABLEAU_ATOMS / 64 + 1;
@@ -455,7 +455,7 @@ pub fn changed_of(bits: &[u64; BITS], relation: usize) -> [u64; FACT_WORDS] {
 
 // The first fact of the set from word w on; FACT_END if there is none.
 fn first_fact(set: &[u64; FACT_WORDS], w: usize) -> usize
-    requires { ⌜ w ≤ fact-words ⌝ }
+    requires { ⌜ w ≤ fact-set-words ⌝ }
     ensures { λ r. ⌜ (w * 64 ≤ r) × (r ≤ fact-end) ⌝ }
 {
     let mut k = w;

@@ -13,7 +13,7 @@ use Rattle.case_verdicts.specs.Tableau.{State, jobs, copy, tableauLog, Meets, G
 use Rattle.tableau_plan.specs.Plan.{rowAt, rowValues, rowCount}
 use Rattle.tableau_parts.specs.Views.{GivenToList, StrayBy}
 use Rattle.search_keys.specs.Keys.{KeysHold}
-use Rattle.search_task.specs.Task.{ReadyPlan, asks, sheetBy, numbersOf, Settled, askedRow}
+use Rattle.search_task.specs.Task.{ReadyPlan, asks, sheetBy, goalFacts, Settled, askedRow}
 use Rattle.search_task.proofs.ReadyLaws.{jobs-count, ready-facts}
 use Rattle.search_task.proofs.Copies.{copy-small, first-met, head-long, head-numbers, row-met}
 use Rattle.search_task.proofs.NodeLaws.{closed}
@@ -35,7 +35,7 @@ module _ (p : List ℕ) (x : Sheet) (r : ReadyPlan p x) (goal : Goal) (s : State
           row-met p x r i lt goal s (head-is i lt (h .each i lt)) c m e
 
   -- no list is given the head, where it is asked, keys hold, and there is no stray row
-  pub good : (ns : List ℕ) → ns ≡ numbersOf goal p s → (asks goal ≡ true → GivenToList p ns (askedRow p s) → ⊥) → KeysHold p ns → (b : Bool) (v : ℕ) (u : List ℕ) → b ≡ false → StrayBy b p ns v u
+  pub good : (ns : List ℕ) → ns ≡ goalFacts goal p s → (asks goal ≡ true → GivenToList p ns (askedRow p s) → ⊥) → KeysHold p ns → (b : Bool) (v : ℕ) (u : List ℕ) → b ≡ false → StrayBy b p ns v u
       → Settled (sheetBy goal x) s → Good (sheetBy goal x) s
   good ns e lacks keys true v u off st = absurd (true≢false off)
   good ns e lacks keys false v u off none = closed p x r goal s ns (subst (λ l. FactNumbers l (tableauLog (sheetBy goal x) s)) (sym e) (ready-facts p x r goal s)) lacks keys none

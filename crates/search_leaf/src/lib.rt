@@ -31,7 +31,7 @@ ghost use Rattle.tableau_plan.specs.Plan.{blockNumbers, blockSize, rowCount, ro
 ghost use Rattle.tableau_parts.specs.Views.{GivenToList, StrayBy};
 ghost use Rattle.tableau_parts.specs.Walks.{FormedPlan};
 ghost use Rattle.search_keys.specs.Keys.{KeysBy};
-ghost use Rattle.search_task.specs.Task.{ReadyPlan, asks, sheetBy, numbersOf, Settled, askedRow};
+ghost use Rattle.search_task.specs.Task.{ReadyPlan, asks, sheetBy, goalFacts, Settled, askedRow};
 ghost use Rattle.search_leaf.specs.Leaf.{rowHead, RowHeads};
 
 // Column c of the head of block b, under the valuation of copy k.
@@ -97,7 +97,7 @@ fn write_facts(
 ) -> usize
     requires { ⌜ tableau-numbers ≤ length (now out) ⌝ }
     ensures { λ r. ⌜ r ≤ tableau-atoms ⌝ }
-    ensures { λ r. ⌜ ((x : Sheet) → ReadyPlan (now (p .entry)) x → length (now (ws .entry)) ≡ slot-end → take (r * 5) (now (out .exit)) ≡ numbersOf goal (now (p .entry)) (stateOf top (now (ws .entry)))) ⌝ }
+    ensures { λ r. ⌜ ((x : Sheet) → ReadyPlan (now (p .entry)) x → length (now (ws .entry)) ≡ slot-end → take (r * 5) (now (out .exit)) ≡ goalFacts goal (now (p .entry)) (stateOf top (now (ws .entry)))) ⌝ }
 {
     let from = search_task::start(p, goal);
     let n = search_state::facts(p, ws, from, out);
@@ -122,7 +122,7 @@ fn is_answered(p: &[usize; PLAN_NUMBERS], goal: Goal, ws: &[usize; SLOTS], facts
 // Whether a state's facts show nothing against it: no list is given the question's head, where that is asked, no two of them clash in a key, and no
 // view is given a stray row.
 fn is_clean(p: &[usize; PLAN_NUMBERS], goal: Goal, ws: &[usize; SLOTS], facts: &[usize]) -> bool
-    ensures { λ r. ⌜ ((x : Sheet) → ReadyPlan (now (p .entry)) x → r ≡ true → length (now (ws .entry)) ≡ slot-end → now (facts .entry) ≡ numbersOf goal (now (p .entry)) (stateOf top (now (ws .entry))) → Settled (sheetBy goal x) (stateOf top (now (ws .entry))) → Good (sheetBy goal x) (stateOf top (now (ws .entry)))) ⌝ }
+    ensures { λ r. ⌜ ((x : Sheet) → ReadyPlan (now (p .entry)) x → r ≡ true → length (now (ws .entry)) ≡ slot-end → now (facts .entry) ≡ goalFacts goal (now (p .entry)) (stateOf top (now (ws .entry))) → Settled (sheetBy goal x) (stateOf top (now (ws .entry))) → Good (sheetBy goal x) (stateOf top (now (ws .entry)))) ⌝ }
 {
     if is_answered(p, goal, ws, facts) {
         return false;
@@ -149,8 +149,8 @@ pub fn is_good(p: &[usize; PLAN_NUMBERS], goal: Goal, ws: &[usize; SLOTS]) -> bo
 
 // Whether the question is asked and the facts of the state give a list its head.
 pub fn is_given(p: &[usize; PLAN_NUMBERS], goal: Goal, ws: &[usize; SLOTS]) -> bool
-    ensures { λ r. ⌜ ((x : Sheet) → ReadyPlan (now (p .entry)) x → length (now (ws .entry)) ≡ slot-end → r ≡ false → asks goal ≡ true → GivenToList (now (p .entry)) (numbersOf goal (now (p .entry)) (stateOf top (now (ws .entry)))) (askedRow (now (p .entry)) (stateOf top (now (ws .entry)))) → ⊥) ⌝ }
-    ensures { λ r. ⌜ ((x : Sheet) → ReadyPlan (now (p .entry)) x → length (now (ws .entry)) ≡ slot-end → r ≡ true → (asks goal ≡ true) × GivenToList (now (p .entry)) (numbersOf goal (now (p .entry)) (stateOf top (now (ws .entry)))) (askedRow (now (p .entry)) (stateOf top (now (ws .entry))))) ⌝ }
+    ensures { λ r. ⌜ ((x : Sheet) → ReadyPlan (now (p .entry)) x → length (now (ws .entry)) ≡ slot-end → r ≡ false → asks goal ≡ true → GivenToList (now (p .entry)) (goalFacts goal (now (p .entry)) (stateOf top (now (ws .entry)))) (askedRow (now (p .entry)) (stateOf top (now (ws .entry)))) → ⊥) ⌝ }
+    ensures { λ r. ⌜ ((x : Sheet) → ReadyPlan (now (p .entry)) x → length (now (ws .entry)) ≡ slot-end → r ≡ true → (asks goal ≡ true) × GivenToList (now (p .entry)) (goalFacts goal (now (p .entry)) (stateOf top (now (ws .entry)))) (askedRow (now (p .entry)) (stateOf top (now (ws .entry))))) ⌝ }
 {
     let mut room = [0; TABLEAU_NUMBERS];
     let n = write_facts(p, goal, ws, &mut room);
@@ -159,7 +159,7 @@ pub fn is_given(p: &[usize; PLAN_NUMBERS], goal: Goal, ws: &[usize; SLOTS]) -> b
 
 // Two facts of the state that clash in a key, if there are any.
 pub fn first_clash(p: &[usize; PLAN_NUMBERS], goal: Goal, ws: &[usize; SLOTS]) -> Clash
-    ensures { λ r. ⌜ ((x : Sheet) → ReadyPlan (now (p .entry)) x → length (now (ws .entry)) ≡ slot-end → KeysBy (r .some) (now (p .entry)) (numbersOf goal (now (p .entry)) (stateOf top (now (ws .entry)))) (r .left) (r .right)) ⌝ }
+    ensures { λ r. ⌜ ((x : Sheet) → ReadyPlan (now (p .entry)) x → length (now (ws .entry)) ≡ slot-end → KeysBy (r .some) (now (p .entry)) (goalFacts goal (now (p .entry)) (stateOf top (now (ws .entry)))) (r .left) (r .right)) ⌝ }
 {
     let mut room = [0; TABLEAU_NUMBERS];
     let n = write_facts(p, goal, ws, &mut room);
@@ -168,8 +168,8 @@ pub fn first_clash(p: &[usize; PLAN_NUMBERS], goal: Goal, ws: &[usize; SLOTS]) -
 
 // The first stray row that the facts of the state give a view, if there is one, and the places of facts that give it.
 pub fn first_stray(p: &[usize; PLAN_NUMBERS], goal: Goal, ws: &[usize; SLOTS]) -> Stray
-    ensures { λ r. ⌜ ((x : Sheet) → ReadyPlan (now (p .entry)) x → length (now (ws .entry)) ≡ slot-end → StrayBy (r .some) (now (p .entry)) (numbersOf goal (now (p .entry)) (stateOf top (now (ws .entry)))) (r .view) (r .values)) ⌝ }
-    ensures { λ r. ⌜ ((x : Sheet) → ReadyPlan (now (p .entry)) x → length (now (ws .entry)) ≡ slot-end → r .some ≡ true → WitnessAt (blockNumbers (now (p .entry)) (view-block (r .view))) (min (blockSize (now (p .entry)) (view-block (r .view))) most-atoms) (numbersOf goal (now (p .entry)) (stateOf top (now (ws .entry)))) (r .values) (r .at)) ⌝ }
+    ensures { λ r. ⌜ ((x : Sheet) → ReadyPlan (now (p .entry)) x → length (now (ws .entry)) ≡ slot-end → StrayBy (r .some) (now (p .entry)) (goalFacts goal (now (p .entry)) (stateOf top (now (ws .entry)))) (r .view) (r .values)) ⌝ }
+    ensures { λ r. ⌜ ((x : Sheet) → ReadyPlan (now (p .entry)) x → length (now (ws .entry)) ≡ slot-end → r .some ≡ true → WitnessAt (blockNumbers (now (p .entry)) (view-block (r .view))) (min (blockSize (now (p .entry)) (view-block (r .view))) most-atoms) (goalFacts goal (now (p .entry)) (stateOf top (now (ws .entry)))) (r .values) (r .at)) ⌝ }
 {
     let mut room = [0; TABLEAU_NUMBERS];
     let n = write_facts(p, goal, ws, &mut room);

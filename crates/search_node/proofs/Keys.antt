@@ -18,7 +18,7 @@ use Rattle.case_verdicts.specs.Tableau.{State, Good}
 use Rattle.case_verdicts.specs.Search.{Met, equations}
 use Rattle.tableau_plan.specs.Plan.{keyIn, slotValue, tableauAt, tableauSize}
 use Rattle.tableau_plan.proofs.Tableau.{tableau-length, tableau-relation, tableau-term}
-use Rattle.search_task.specs.Task.{ReadyPlan, sheetBy, fromBy, numbersOf}
+use Rattle.search_task.specs.Task.{ReadyPlan, sheetBy, fromBy, goalFacts}
 use Rattle.search_task.specs.declared.Goal.{Goal}
 use Rattle.search_task.proofs.Node.{shaped-log}
 use Rattle.search_task.proofs.Columns.{at-met}
@@ -39,22 +39,22 @@ use Rattle.search_node.proofs.Terms.{column-used, constant-stands, term
 module _ (p : List ℕ) (x : Sheet) (r : ReadyPlan p x) (goal : Goal) where
   -- the numbers of atom i's fact, where the search has it
   module _ (s : State) (i : ℕ) (from : fromBy goal p ≤ i) (inside : i < tableauSize p) where
-    relation-of : getD (numbersOf goal p s) ((i - fromBy goal p) * 5) 0 ≡ tableauAt p i 0
+    relation-of : getD (goalFacts goal p s) ((i - fromBy goal p) * 5) 0 ≡ tableauAt p i 0
     relation-of = tableau-relation p s (fromBy goal p) (tableauSize p - fromBy goal p) (i - fromBy goal p) (omega arith) ∙ ap (λ k. tableauAt p k 0) (let e : fromBy goal p + (i - fromBy goal p) ≡ i = omega arith in e)
 
-    value-of : (c : ℕ) → c < 4 → getD (numbersOf goal p s) ((i - fromBy goal p) * 5 + 1 + c) 0 ≡ slotValue s (placeAt p i c)
+    value-of : (c : ℕ) → c < 4 → getD (goalFacts goal p s) ((i - fromBy goal p) * 5 + 1 + c) 0 ≡ slotValue s (placeAt p i c)
     value-of c lc = tableau-term p s (fromBy goal p) (tableauSize p - fromBy goal p) (i - fromBy goal p) c (omega arith) lc
         ∙ ap (λ k. slotValue s (getD p k 0)) (let e : (fromBy goal p + (i - fromBy goal p)) * 5 + 1 + c ≡ i * 5 + (1 + c) = omega arith in e)
 
-  many : (s : State) → length (numbersOf goal p s) / 5 ≡ tableauSize p - fromBy goal p
+  many : (s : State) → length (goalFacts goal p s) / 5 ≡ tableauSize p - fromBy goal p
   many s = let l = tableau-length p s (fromBy goal p) (tableauSize p - fromBy goal p) in omega arith
 
-  pub clash-few : (ws : List ℕ) (i k : ℕ) → KeyClash p (numbersOf goal p (linkedState top ws)) i k → (fromBy goal p + i < tableau-atoms) × (fromBy goal p + k < tableau-atoms)
+  pub clash-few : (ws : List ℕ) (i k : ℕ) → KeyClash p (goalFacts goal p (linkedState top ws)) i k → (fromBy goal p + i < tableau-atoms) × (fromBy goal p + k < tableau-atoms)
   clash-few ws i k h = let m = many (linkedState top ws) in let few = r .plan .few in let a = h .left in let b = h .right in (omega arith, omega arith)
 
   -- ---- facts of the state that clash are atoms that do
 
-  pub clash-atoms : (ws : List ℕ) (i k : ℕ) → KeyClash p (numbersOf goal p (linkedState top ws)) i k → AtomsOf goal p (fromBy goal p + i) (fromBy goal p + k) × ClashAt p ws (fromBy goal p + i) (fromBy goal p + k)
+  pub clash-atoms : (ws : List ℕ) (i k : ℕ) → KeyClash p (goalFacts goal p (linkedState top ws)) i k → AtomsOf goal p (fromBy goal p + i) (fromBy goal p + k) × ClashAt p ws (fromBy goal p + i) (fromBy goal p + k)
   clash-atoms ws i k h = (
     record { left = (omega arith, li); right = (omega arith, lk) },
     record {
@@ -71,17 +71,17 @@ module _ (p : List ℕ) (x : Sheet) (r : ReadyPlan p x) (goal : Goal) where
       lk : fromBy goal p + k < tableauSize p
       lk = let m = many (linkedState top ws) in let l = h .right in omega arith
 
-      relation : (j : ℕ) → fromBy goal p + j < tableauSize p → tableauAt p (fromBy goal p + j) 0 ≡ getD (numbersOf goal p (linkedState top ws)) (j * 5) 0
-      relation j lj = sym (relation-of (linkedState top ws) (fromBy goal p + j) (omega arith) lj) ∙ ap (λ n. getD (numbersOf goal p (linkedState top ws)) n 0) (let e : (fromBy goal p + j - fromBy goal p) * 5 ≡ j * 5 = omega arith in e)
+      relation : (j : ℕ) → fromBy goal p + j < tableauSize p → tableauAt p (fromBy goal p + j) 0 ≡ getD (goalFacts goal p (linkedState top ws)) (j * 5) 0
+      relation j lj = sym (relation-of (linkedState top ws) (fromBy goal p + j) (omega arith) lj) ∙ ap (λ n. getD (goalFacts goal p (linkedState top ws)) n 0) (let e : (fromBy goal p + j - fromBy goal p) * 5 ≡ j * 5 = omega arith in e)
 
-      value : (j : ℕ) → fromBy goal p + j < tableauSize p → (c : ℕ) → c < 4 → getD (numbersOf goal p (linkedState top ws)) (j * 5 + 1 + c) 0 ≡ endAt p ws (fromBy goal p + j) c
-      value j lj c lc = ap (λ n. getD (numbersOf goal p (linkedState top ws)) n 0) (let e : j * 5 + 1 + c ≡ (fromBy goal p + j - fromBy goal p) * 5 + 1 + c = omega arith in e)
+      value : (j : ℕ) → fromBy goal p + j < tableauSize p → (c : ℕ) → c < 4 → getD (goalFacts goal p (linkedState top ws)) (j * 5 + 1 + c) 0 ≡ endAt p ws (fromBy goal p + j) c
+      value j lj c lc = ap (λ n. getD (goalFacts goal p (linkedState top ws)) n 0) (let e : j * 5 + 1 + c ≡ (fromBy goal p + j - fromBy goal p) * 5 + 1 + c = omega arith in e)
           ∙ value-of (linkedState top ws) (fromBy goal p + j) (omega arith) lj c lc ∙ sym (place-state top ws (placeAt p (fromBy goal p + j) c))
 
       rel : tableauAt p (fromBy goal p + i) 0 ≡ tableauAt p (fromBy goal p + k) 0
       rel = relation i li ∙ h .key .relation ∙ sym (relation k lk)
 
-      one : (c : ℕ) → c < 4 → getD (numbersOf goal p (linkedState top ws)) (i * 5 + 1 + c) 0 ≡ getD (numbersOf goal p (linkedState top ws)) (k * 5 + 1 + c) 0 → endAt p ws (fromBy goal p + i) c ≡ endAt p ws (fromBy goal p + k) c
+      one : (c : ℕ) → c < 4 → getD (goalFacts goal p (linkedState top ws)) (i * 5 + 1 + c) 0 ≡ getD (goalFacts goal p (linkedState top ws)) (k * 5 + 1 + c) 0 → endAt p ws (fromBy goal p + i) c ≡ endAt p ws (fromBy goal p + k) c
       one c lc e = sym (value i li c lc) ∙ e ∙ value k lk c lc
 
   -- ---- the node of two atoms
@@ -95,7 +95,7 @@ module _ (p : List ℕ) (x : Sheet) (r : ReadyPlan p x) (goal : Goal) where
     one-row t good o c lc =
         sym (value-of t i (of .left .0) (of .left .1) c lc) ∙ alike c lc ∙ value-of t k (of .right .0) (of .right .1) c lc
       where
-        same : SameKeyAt p (numbersOf goal p t) (i - fromBy goal p) (k - fromBy goal p)
+        same : SameKeyAt p (goalFacts goal p t) (i - fromBy goal p) (k - fromBy goal p)
         same = record {
           relation = relation-of t i (of .left .0) (of .left .1) ∙ clash .relation ∙ sym (relation-of t k (of .right .0) (of .right .1));
           some = subst (λ n. 0 < keyIn p n) (sym (relation-of t i (of .left .0) (of .left .1))) (clash .some);
@@ -105,14 +105,14 @@ module _ (p : List ℕ) (x : Sheet) (r : ReadyPlan p x) (goal : Goal) where
               value-of t i (of .left .0) (of .left .1) d few ∙ shown .first d ld (clash .first d ld) t o ∙ sym (value-of t k (of .right .0) (of .right .1) d few);
         }
 
-        alike : AlikeIn (numbersOf goal p t) (i - fromBy goal p) (k - fromBy goal p) 4
+        alike : AlikeIn (goalFacts goal p t) (i - fromBy goal p) (k - fromBy goal p) 4
         alike =
             let m = many t in
             let a = of .left .0 in
             let b = of .left .1 in
             let d = of .right .0 in
             let e = of .right .1 in
-            keys-made-one p (ready-task p x r goal .plain) (ready-facts p x r goal t) (shaped-log p x (sheetBy goal x) (r .plan) (ready-task p x r goal) t (numbersOf goal p t) (ready-facts p x r goal t)) (good .keyed)
+            keys-made-one p (ready-task p x r goal .plain) (ready-facts p x r goal t) (shaped-log p x (sheetBy goal x) (r .plan) (ready-task p x r goal) t (goalFacts goal p t) (ready-facts p x r goal t)) (good .keyed)
             (i - fromBy goal p) (k - fromBy goal p) (omega arith) (omega arith) same
 
     made : (t : State) → Good (sheetBy goal x) t → Obeys t ws set → Met (valueUnder top t) (equations u v)

@@ -11,7 +11,7 @@ use Rattle.case_verdicts.specs.Sheets.{top}
 use Rattle.case_verdicts.specs.Tableau.{State, Good}
 use Rattle.case_verdicts.specs.Words.{stateOf}
 use Rattle.tableau_parts.specs.Views.{GivenToList, StrayAt, NoStray, StrayBy}
-use Rattle.search_task.specs.Task.{ReadyPlan, asks, sheetBy, numbersOf, askedRow, Settled}
+use Rattle.search_task.specs.Task.{ReadyPlan, asks, sheetBy, goalFacts, askedRow, Settled}
 use Rattle.search_task.specs.declared.Goal.{Goal}
 use Rattle.search_task.specs.declared.Goal.the-variants.{Counterexample, Agreement}
 use Rattle.search_task.proofs.NodeLaws.{closed, stray-is}
@@ -38,28 +38,28 @@ module _ (p : List ℕ) (x : Sheet) (r : ReadyPlan p x) {ws : List ℕ} (out : L
   same : stateOf top out ≡ linkedState top ws
   same = read-state ws out (w .size) size each
 
-  pub read-given : {set : List ℕ} → ((n : ℕ) → inSet set n ≡ true) → asks goal ≡ true → GivenToList p (numbersOf goal p (stateOf top out)) (askedRow p (stateOf top out))
+  pub read-given : {set : List ℕ} → ((n : ℕ) → inSet set n ≡ true) → asks goal ≡ true → GivenToList p (goalFacts goal p (stateOf top out)) (askedRow p (stateOf top out))
       → RestsOn (Good (sheetBy goal x)) ws set
-  read-given {set} full on given = go goal on (subst (λ (s : State). GivenToList p (numbersOf goal p s) (askedRow p s)) same given)
+  read-given {set} full on given = go goal on (subst (λ (s : State). GivenToList p (goalFacts goal p s) (askedRow p s)) same given)
     where
-      go : (g : Goal) → asks g ≡ true → GivenToList p (numbersOf g p (linkedState top ws)) (askedRow p (linkedState top ws)) → RestsOn (Good (sheetBy g x)) ws set
+      go : (g : Goal) → asks g ≡ true → GivenToList p (goalFacts g p (linkedState top ws)) (askedRow p (linkedState top ws)) → RestsOn (Good (sheetBy g x)) ws set
       go Counterexample e k = walk-shut p x r ws set full k
       go Agreement e k = absurd (true≢false (sym e))
 
-  pub read-stray : (b : Bool) (v : ℕ) (u : List ℕ) → b ≡ true → StrayBy b p (numbersOf goal p (stateOf top out)) v u → StrayAt p (numbersOf goal p (linkedState top ws)) v u
-  read-stray b v u e s = subst (λ (t : State). StrayAt p (numbersOf goal p t) v u) same (stray-is p (numbersOf goal p (stateOf top out)) b v u e s)
+  pub read-stray : (b : Bool) (v : ℕ) (u : List ℕ) → b ≡ true → StrayBy b p (goalFacts goal p (stateOf top out)) v u → StrayAt p (goalFacts goal p (linkedState top ws)) v u
+  read-stray b v u e s = subst (λ (t : State). StrayAt p (goalFacts goal p t) v u) same (stray-is p (goalFacts goal p (stateOf top out)) b v u e s)
 
-  pub read-clash : (b : Bool) (i k : ℕ) → b ≡ true → KeysBy b p (numbersOf goal p (stateOf top out)) i k → KeyClash p (numbersOf goal p (linkedState top ws)) i k
-  read-clash b i k e c = subst (λ (t : State). KeyClash p (numbersOf goal p t) i k) same (some-clash p (numbersOf goal p (stateOf top out)) b i k e c)
+  pub read-clash : (b : Bool) (i k : ℕ) → b ≡ true → KeysBy b p (goalFacts goal p (stateOf top out)) i k → KeyClash p (goalFacts goal p (linkedState top ws)) i k
+  read-clash b i k e c = subst (λ (t : State). KeyClash p (goalFacts goal p t) i k) same (some-clash p (goalFacts goal p (stateOf top out)) b i k e c)
 
-  none-left : (b : Bool) (v : ℕ) (u : List ℕ) → b ≡ false → StrayBy b p (numbersOf goal p (stateOf top out)) v u → NoStray p (numbersOf goal p (stateOf top out))
+  none-left : (b : Bool) (v : ℕ) (u : List ℕ) → b ≡ false → StrayBy b p (goalFacts goal p (stateOf top out)) v u → NoStray p (goalFacts goal p (stateOf top out))
   none-left true v u e s = absurd (true≢false e)
   none-left false v u e s = s
 
-  pub read-good : (asks goal ≡ true → GivenToList p (numbersOf goal p (stateOf top out)) (askedRow p (stateOf top out)) → ⊥) → KeysHold p (numbersOf goal p (stateOf top out))
-      → (b : Bool) (v : ℕ) (u : List ℕ) → b ≡ false → StrayBy b p (numbersOf goal p (stateOf top out)) v u → StateFound x (sheetBy goal x) out
+  pub read-good : (asks goal ≡ true → GivenToList p (goalFacts goal p (stateOf top out)) (askedRow p (stateOf top out)) → ⊥) → KeysHold p (goalFacts goal p (stateOf top out))
+      → (b : Bool) (v : ℕ) (u : List ℕ) → b ≡ false → StrayBy b p (goalFacts goal p (stateOf top out)) v u → StateFound x (sheetBy goal x) out
   read-good lacks keys b v u e s = record {
-    good = closed p x r goal (stateOf top out) (numbersOf goal p (stateOf top out)) (ready-facts p x r goal (stateOf top out)) lacks keys (none-left b v u e s)
+    good = closed p x r goal (stateOf top out) (goalFacts goal p (stateOf top out)) (ready-facts p x r goal (stateOf top out)) lacks keys (none-left b v u e s)
         (subst (λ (t : State). Settled (sheetBy goal x) t) (sym same) (w .settled));
     size = size;
     stood = λ n h. subst (Standing x) (sym (each n h)) (slot-stands x ws (λ k l. let z = w .size in w .stood k (omega arith)) n h);

@@ -22,7 +22,7 @@ use Rattle.case_verdicts.specs.Search.{Below, Met, equations, Refuted}
 use Rattle.tableau_plan.specs.Plan.{rowAt, rowValues, rowCount, viewCount, blockNumbers, tableauFacts, tableauSize}
 use Rattle.tableau_plan.proofs.Whole.{nth-in}
 use Rattle.tableau_parts.specs.Views.{GivenAt, ListedRow, StrayAt}
-use Rattle.search_task.specs.Task.{ReadyPlan, sheetBy, fromBy, numbersOf}
+use Rattle.search_task.specs.Task.{ReadyPlan, sheetBy, fromBy, goalFacts}
 use Rattle.search_task.proofs.Node.{shaped-log, stray-refuted}
 use Rattle.search_task.proofs.Columns.{map-at, met-at, at-met, at-in, pad-at}
 use Rattle.search_task.proofs.Copies as copies
@@ -64,19 +64,19 @@ made-one t u r e low = at-met (valueUnder top t) u r (λ c a b.
 
 module _ (p : List ℕ) (x : Sheet) (r : ReadyPlan p x) (goal : Goal) (v : ℕ) (lt : v < viewCount p) where
   -- an answer of the view, in the terms of the sheet
-  given-view : (t : State) (u : List ℕ) → GivenAt p (view-block v) (numbersOf goal p t) u → (a : List ℕ) × (u ≡ padded a) × Answer (tableauLog (sheetBy goal x) t) (nth (x .views) v .block) a
+  given-view : (t : State) (u : List ℕ) → GivenAt p (view-block v) (goalFacts goal p t) u → (a : List ℕ) × (u ≡ padded a) × Answer (tableauLog (sheetBy goal x) t) (nth (x .views) v .block) a
   given-view t u g =
       let y = sheetBy goal x in
       let bn = r .plan .view v lt in
       let fn = ready-facts p x r goal t in
-      given-answer bn (ready-task p x r goal .shaped v lt) fn (shaped-log p x y (r .plan) (ready-task p x r goal) t (numbersOf goal p t) fn)
-      (subst (λ n. Given (blockNumbers p (view-block v)) n (numbersOf goal p t) u) (min-eq-left (bn .few)) g)
+      given-answer bn (ready-task p x r goal .shaped v lt) fn (shaped-log p x y (r .plan) (ready-task p x r goal) t (goalFacts goal p t) fn)
+      (subst (λ n. Given (blockNumbers p (view-block v)) n (goalFacts goal p t) u) (min-eq-left (bn .few)) g)
 
   view-in : In (nth (x .views) v) (sheetBy goal x .views)
   view-in = let c = r .plan .views in subst (λ ws. In (nth (x .views) v) ws) (sym (ready-task p x r goal .same)) (nth-in (x .views) v (omega arith))
 
   -- a row that the view is given is as wide as its listed rows
-  view-fits : (t : State) (u : List ℕ) → GivenAt p (view-block v) (numbersOf goal p t) u → (i : ℕ) → i < rowCount p → rowAt p i 0 ≡ v → FitsRow x u (rowValues p i)
+  view-fits : (t : State) (u : List ℕ) → GivenAt p (view-block v) (goalFacts goal p t) u → (i : ℕ) → i < rowCount p → rowAt p i 0 ≡ v → FitsRow x u (rowValues p i)
   view-fits t u g i li q =
       let (a, e, ans) = given-view t u g in
       let o = r .plan .rows i li in
@@ -94,7 +94,7 @@ module _ (p : List ℕ) (x : Sheet) (r : ReadyPlan p x) (goal : Goal) (v : ℕ) 
       ap (λ k. k ∷ map (valueUnder top (linkedState top ws)) u) (sym (below-root ws (linkedState top ws) b n (f n (inl refl)))) ∙ ap (λ l. n ∷ l) (kept-map ws u (λ k m. f k (inr m)))
 
   -- a good state makes the row a listed one
-  pub becomes-listed : (t : State) (u : List ℕ) → Good (sheetBy goal x) t → GivenAt p (view-block v) (numbersOf goal p t) (map (valueUnder top t) u)
+  pub becomes-listed : (t : State) (u : List ℕ) → Good (sheetBy goal x) t → GivenAt p (view-block v) (goalFacts goal p t) (map (valueUnder top t) u)
       → (i : ℕ) × (i < rowCount p) × (rowAt p i 0 ≡ v) × Met (valueUnder top t) (equations u (rowValues p i))
   becomes-listed t u good g =
       let (a, e, ans) = given-view t (map (valueUnder top t) u) g in
@@ -113,7 +113,7 @@ module _ (p : List ℕ) (x : Sheet) (r : ReadyPlan p x) (goal : Goal) (v : ℕ) 
       none = λ t good o.
           let given = s .given t (obeys-less t ws set more w o) in
           let (i, li, q, m) = becomes-listed t u good
-          (subst (λ k. GivenAt p k (numbersOf goal p t) (map (valueUnder top t) u)) f
+          (subst (λ k. GivenAt p k (goalFacts goal p t) (map (valueUnder top t) u)) f
           (subst (λ k. GivenAt p b (tableauFacts p t k (tableauSize p - k)) (map (valueUnder top t) u)) e given)) in
           each i li q .none t good o m;
     };
@@ -123,15 +123,15 @@ module _ (p : List ℕ) (x : Sheet) (r : ReadyPlan p x) (goal : Goal) (v : ℕ) 
       own = record { to = λ k. k; keeps = λ c h. refl; at = λ k. refl }
 
       -- also in the state that the words hold
-      here : GivenAt p (view-block v) (numbersOf goal p (linkedState top ws)) u
+      here : GivenAt p (view-block v) (goalFacts goal p (linkedState top ws)) u
       here =
-          subst (GivenAt p (view-block v) (numbersOf goal p (linkedState top ws))) (kept-map ws u (s .roots linked whole))
-          (subst (λ k. GivenAt p k (numbersOf goal p (linkedState top ws)) (map (valueUnder top (linkedState top ws)) u)) f
+          subst (GivenAt p (view-block v) (goalFacts goal p (linkedState top ws))) (kept-map ws u (s .roots linked whole))
+          (subst (λ k. GivenAt p k (goalFacts goal p (linkedState top ws)) (map (valueUnder top (linkedState top ws)) u)) f
           (subst (λ k. GivenAt p b (tableauFacts p (linkedState top ws) k (tableauSize p - k)) (map (valueUnder top (linkedState top ws)) u)) e
           (s .given (linkedState top ws) (λ n i. below-obeys ws (linkedState top ws) linked own n))))
 
   -- a row that the facts of the whole state give
-  pub walk-open : (ws u set : List ℕ) → Linked top ws → length ws ≡ slot-end → ((n : ℕ) → inSet set n ≡ true) → StrayAt p (numbersOf goal p (linkedState top ws)) v u
+  pub walk-open : (ws u set : List ℕ) → Linked top ws → length ws ≡ slot-end → ((n : ℕ) → inSet set n ≡ true) → StrayAt p (goalFacts goal p (linkedState top ws)) v u
       → RowOpen p x (Good (sheetBy goal x)) ws set v u
   walk-open ws u set linked whole full st = record {
     size = sym (ap length (st .given .gives));
@@ -151,7 +151,7 @@ module _ (p : List ℕ) (x : Sheet) (r : ReadyPlan p x) (goal : Goal) (v : ℕ) 
       -- what is below the state obeys its words, and takes the row's values to what they stand for
       refuted : (more : List ℕ) → ((i : ℕ) → i < rowCount p → rowAt p i 0 ≡ v → AlternativeFails (Good (sheetBy goal x)) ws more u (rowValues p i)) → Refuted top (sheetBy goal x) (linkedState top ws)
       refuted more each =
-          stray-refuted p x (sheetBy goal x) (r .plan) (ready-task p x r goal) (linkedState top ws) (numbersOf goal p (linkedState top ws)) (ready-facts p x r goal (linkedState top ws)) v u st
+          stray-refuted p x (sheetBy goal x) (r .plan) (ready-task p x r goal) (linkedState top ws) (goalFacts goal p (linkedState top ws)) (ready-facts p x r goal (linkedState top ws)) v u st
           (λ i li q. record {
             none = λ t b met good. each i li q .none t good (λ n e. below-obeys ws t linked b n) (at-met (valueUnder top t) u (rowValues p i) (λ c h k.
                 sym (below-root ws t b (getD u c 0) (roots (getD u c 0) (at-in u c h))) ∙ met-at (b .to) u (rowValues p i) met c h k

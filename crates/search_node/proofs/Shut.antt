@@ -10,7 +10,7 @@ use Rattle.case_verdicts.specs.Tableau.{State, Good}
 use Rattle.case_verdicts.specs.Search.{Below}
 use Rattle.tableau_plan.specs.Plan.{listCount}
 use Rattle.tableau_parts.specs.Views.{GivenAt, GivenToList}
-use Rattle.search_task.specs.Task.{ReadyPlan, numbersOf, askedRow}
+use Rattle.search_task.specs.Task.{ReadyPlan, goalFacts, askedRow}
 use Rattle.search_task.specs.declared.Goal.the-variants.{Counterexample}
 use Rattle.search_task.proofs.NodeLaws.{shut}
 use Rattle.search_task.proofs.ReadyLaws.{ready-facts}
@@ -32,19 +32,19 @@ module _ (p : List ℕ) (x : Sheet) (r : ReadyPlan p x) where
   shown-shut {ws} {row} {head} {old} {mid} {set} b i e lt same g a = record {
     none = λ t good o.
         let given = g .given t (obeys-less t ws mid set (a .more) o) in
-        shut p x r t (numbersOf Counterexample p t) (ready-facts p x r Counterexample t) (
+        shut p x r t (goalFacts Counterexample p t) (ready-facts p x r Counterexample t) (
           i,
           lt,
-          subst (λ k. GivenAt p k (numbersOf Counterexample p t) (askedRow p t)) e
-              (subst (GivenAt p b (numbersOf Counterexample p t)) (ap (map (valueUnder top t)) same ∙ sym (a .row-is t o)) given),
+          subst (λ k. GivenAt p k (goalFacts Counterexample p t) (askedRow p t)) e
+              (subst (GivenAt p b (goalFacts Counterexample p t)) (ap (map (valueUnder top t)) same ∙ sym (a .row-is t o)) given),
         )
         .none t (itself t) good;
   }
 
   -- by the facts of the whole state
-  pub walk-shut : (ws set : List ℕ) → ((n : ℕ) → inSet set n ≡ true) → GivenToList p (numbersOf Counterexample p (linkedState top ws)) (askedRow p (linkedState top ws)) → RestsOn (Good x) ws set
+  pub walk-shut : (ws set : List ℕ) → ((n : ℕ) → inSet set n ≡ true) → GivenToList p (goalFacts Counterexample p (linkedState top ws)) (askedRow p (linkedState top ws)) → RestsOn (Good x) ws set
   walk-shut ws set full g = record {
     none = λ t good o.
-        shut p x r (linkedState top ws) (numbersOf Counterexample p (linkedState top ws)) (ready-facts p x r Counterexample (linkedState top ws)) g
+        shut p x r (linkedState top ws) (goalFacts Counterexample p (linkedState top ws)) (ready-facts p x r Counterexample (linkedState top ws)) g
         .none t (obeyed-below ws t (λ n. o n (full n))) good;
   }

@@ -33,7 +33,7 @@ ghost use Rattle.tableau_layout.specs.Layout.{slot-end, tableau-atoms};
 ghost use Rattle.case_verdicts.specs.Verdict.{Sheet};
 ghost use Rattle.case_verdicts.specs.Sheets.{top};
 ghost use Rattle.case_verdicts.specs.Tableau.{Good};
-ghost use Rattle.search_task.specs.Task.{ReadyPlan, sheetBy, numbersOf};
+ghost use Rattle.search_task.specs.Task.{ReadyPlan, sheetBy, goalFacts};
 ghost use Rattle.tableau_parts.specs.Views.{StrayAt};
 ghost use Rattle.tableau_parts.specs.Walks.{Limited};
 ghost use Rattle.search_links.specs.Links.{linkedState};
@@ -411,7 +411,7 @@ fn by_row(
     set: &mut [u64; SET_WORDS],
     node: &mut [usize; NODE_NUMBERS],
 )
-    ensures { λ r. ⌜ ((x : Sheet) → ReadyPlan (now (p .entry)) x → Wordly x (sheetBy goal x) (now (ws .entry)) → StrayAt (now (p .entry)) (numbersOf goal (now (p .entry)) (linkedState top (now (ws .entry)))) (stray .view) (stray .values) → OpenState (now (p .entry)) x (Good (sheetBy goal x)) (now (ws .entry)) (now (set .exit)) (now (node .exit))) ⌝ }
+    ensures { λ r. ⌜ ((x : Sheet) → ReadyPlan (now (p .entry)) x → Wordly x (sheetBy goal x) (now (ws .entry)) → StrayAt (now (p .entry)) (goalFacts goal (now (p .entry)) (linkedState top (now (ws .entry)))) (stray .view) (stray .values) → OpenState (now (p .entry)) x (Good (sheetBy goal x)) (now (ws .entry)) (now (set .exit)) (now (node .exit))) ⌝ }
     ensures { λ r. ⌜ length (now (set .exit)) ≡ length (now (set .entry)) ⌝ }
 {
     let at = stray.at;
@@ -460,7 +460,7 @@ fn by_clash(
     set: &mut [u64; SET_WORDS],
     node: &mut [usize; NODE_NUMBERS],
 )
-    ensures { λ r. ⌜ ((x : Sheet) → ReadyPlan (now (p .entry)) x → Wordly x (sheetBy goal x) (now (ws .entry)) → KeyClash (now (p .entry)) (numbersOf goal (now (p .entry)) (linkedState top (now (ws .entry)))) (clash .left) (clash .right) → OpenState (now (p .entry)) x (Good (sheetBy goal x)) (now (ws .entry)) (now (set .exit)) (now (node .exit))) ⌝ }
+    ensures { λ r. ⌜ ((x : Sheet) → ReadyPlan (now (p .entry)) x → Wordly x (sheetBy goal x) (now (ws .entry)) → KeyClash (now (p .entry)) (goalFacts goal (now (p .entry)) (linkedState top (now (ws .entry)))) (clash .left) (clash .right) → OpenState (now (p .entry)) x (Good (sheetBy goal x)) (now (ws .entry)) (now (set .exit)) (now (node .exit))) ⌝ }
     ensures { λ r. ⌜ length (now (set .exit)) ≡ length (now (set .entry)) ⌝ }
 {
     let from = search_task::start(p, goal);

@@ -25,7 +25,7 @@ use Rattle.tableau_plan.proofs.Tableau.{tableau-length}
 use Rattle.tableau_parts.specs.Views.{GivenAt, GivenToList, SafePlan, StrayAt, NoStray, StrayBy}
 use Rattle.tableau_parts.specs.Walks as walks
 use Rattle.search_keys.specs.Keys.{KeysHold}
-use Rattle.search_task.specs.Task.{ReadyPlan, sheetBy, fromBy, numbersOf, Settled, askedRow, asks}
+use Rattle.search_task.specs.Task.{ReadyPlan, sheetBy, fromBy, goalFacts, Settled, askedRow, asks}
 use Rattle.search_task.proofs.Node.{list-refuted, list-lacks, good-state}
 use Rattle.search_task.proofs.ReadyLaws.{ready-task, ready-facts}
 use Rattle.search_task.specs.declared.Goal.{Goal}
@@ -111,14 +111,14 @@ module _ (p : List ℕ) (x : Sheet) (r : ReadyPlan p x) where
   from-few Counterexample = omega arith
   from-few Agreement = r .plan .asked
 
-  pub numbers-by : (goal : Goal) (s : State) (ns : List ℕ) (from n : ℕ) → from ≡ fromBy goal p → n ≡ tableauSize p - from → ns ≡ tableauFacts p s from n → ns ≡ numbersOf goal p s
+  pub numbers-by : (goal : Goal) (s : State) (ns : List ℕ) (from n : ℕ) → from ≡ fromBy goal p → n ≡ tableauSize p - from → ns ≡ tableauFacts p s from n → ns ≡ goalFacts goal p s
   numbers-by goal s ns from n e f g = g ∙ ap (λ k. tableauFacts p s from k) f ∙ ap (λ k. tableauFacts p s k (tableauSize p - k)) e
 
   pub facts-by : (goal : Goal) (s : State) (ns : List ℕ) (from n : ℕ) → from ≡ fromBy goal p → n ≡ tableauSize p - from → ns ≡ tableauFacts p s from n → FactNumbers ns (tableauLog (sheetBy goal x) s)
   facts-by goal s ns from n e f g = subst (λ l. FactNumbers l (tableauLog (sheetBy goal x) s)) (sym (numbers-by goal s ns from n e f g)) (ready-facts p x r goal s)
 
   -- the facts of a state are few
-  pub room-for : (goal : Goal) (s : State) (from : ℕ) (ns : List ℕ) → from ≡ fromBy goal p → ns ≡ numbersOf goal p s → from + length ns / 5 ≤ tableau-atoms
+  pub room-for : (goal : Goal) (s : State) (from : ℕ) (ns : List ℕ) → from ≡ fromBy goal p → ns ≡ goalFacts goal p s → from + length ns / 5 ≤ tableau-atoms
   room-for goal s from ns e f =
       let l = ap length f ∙ tableau-length p s (fromBy goal p) (tableauSize p - fromBy goal p) in
       let few = from-few goal in

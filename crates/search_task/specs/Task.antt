@@ -41,8 +41,8 @@ fromBy Counterexample p = 0
 fromBy Agreement p = askedSize p
 
 -- the facts of a state, in numbers
-abbrev pub numbersOf : Goal → List ℕ → State → List ℕ
-numbersOf goal p s = tableauFacts p s (fromBy goal p) (tableauSize p - fromBy goal p)
+abbrev pub goalFacts : Goal → List ℕ → State → List ℕ
+goalFacts goal p s = tableauFacts p s (fromBy goal p) (tableauSize p - fromBy goal p)
 
 -- the copies' heads are what they must be
 abbrev pub Settled : Sheet → State → Type 0

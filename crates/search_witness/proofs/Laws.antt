@@ -27,20 +27,20 @@ use Rattle.search_links.proofs.Words.{place-root}
 use Rattle.search_reasons.specs.Reasons.{Obeys, Place, WayMarked, AgreesBy}
 use Rattle.search_reasons.proofs.Laws.{obeys-less}
 use Rattle.search_reasons.proofs.Ways.{slot-value, constant-value}
-use Rattle.search_witness.specs.Witness.{readAt, placeOf, Reads, ColumnRead, AtomRead, AtomsRead, HeadRead, RowRead, RowShown, AskedShown}
+use Rattle.search_witness.specs.Witness.{readAt, witnessPlace, Reads, ColumnRead, AtomRead, AtomsRead, HeadRead, RowRead, RowShown, AskedShown}
 
 -- ---- places
 
-pub place-variable : (first : List ℕ) (a : ℕ) → a < names → placeOf first a ≡ getD first a 0
-unfolding placeOf
+pub place-variable : (first : List ℕ) (a : ℕ) → a < names → witnessPlace first a ≡ getD first a 0
+unfolding witnessPlace
 place-variable first a h = rw (lt-ltb a names h)
 
-pub place-constant : (first : List ℕ) (a : ℕ) → names ≤ a → placeOf first a ≡ slot-end + (a - names)
-unfolding placeOf
+pub place-constant : (first : List ℕ) (a : ℕ) → names ≤ a → witnessPlace first a ≡ slot-end + (a - names)
+unfolding witnessPlace
 place-constant first a h = rw (le-ltb a names h)
 
 -- a term has the value of its place
-term-value : (first : List ℕ) (t : State) (a : ℕ) → slotValue t (placeOf first a) ≡ valueOf (readAt first t) a
+term-value : (first : List ℕ) (t : State) (a : ℕ) → slotValue t (witnessPlace first a) ≡ valueOf (readAt first t) a
 unfolding valueOf
 term-value first t a = ⊎-elim
     (λ h. ap (slotValue t) (place-variable first a h) ∙ sym (ap (λ b. cond b (readAt first t a) (a - names)) (lt-ltb a names h)))
@@ -53,7 +53,7 @@ term-value first t a = ⊎-elim
 
 -- z is the place of the term in column c of atom j of block b
 module _ (p ws first : List ℕ) (b j i c z : ℕ) (old set : List ℕ) (hj : j < most-atoms) (hc : c < 4)
-    (place : z ≡ placeOf first (getD p (blocks-at + b * block-width + j * 5 + 1 + c) 0)) where
+    (place : z ≡ witnessPlace first (getD p (blocks-at + b * block-width + j * 5 + 1 + c) 0)) where
   pub column-agreed : (r : Bool) → r ≡ true → AgreesBy r ws (getD p (i * 5 + 1 + c) 0) z old set → ColumnRead p ws first b j i c old set
   column-agreed false e m = absurd (true≢false (sym e))
   column-agreed true e m = record {
@@ -108,16 +108,16 @@ module _ (p ws first : List ℕ) (from b : ℕ) (at : List ℕ) where
 -- ---- the head
 
 module _ (p ws first : List ℕ) (b : ℕ) where
-  pub head-marked : (c : ℕ) {old set : List ℕ} → c < 4 → Place (placeOf first (getD p (blocks-at + b * block-width + block-head + c) 0))
-      → WayMarked ws (placeOf first (getD p (blocks-at + b * block-width + block-head + c) 0)) old set
-      → HeadRead p ws first b c old set (placeRoot top ws (placeOf first (getD p (blocks-at + b * block-width + block-head + c) 0)))
+  pub head-marked : (c : ℕ) {old set : List ℕ} → c < 4 → Place (witnessPlace first (getD p (blocks-at + b * block-width + block-head + c) 0))
+      → WayMarked ws (witnessPlace first (getD p (blocks-at + b * block-width + block-head + c) 0)) old set
+      → HeadRead p ws first b c old set (placeRoot top ws (witnessPlace first (getD p (blocks-at + b * block-width + block-head + c) 0)))
   head-marked c hc here m = record {
     more = m .more;
     value = λ t o.
         ap (valueOf (readAt first t)) (block-at p b (block-head + c) (omega arith)
         ∙ ap (λ k. getD p k 0) (let e : blocks-at + b * block-width + (block-head + c) ≡ blocks-at + b * block-width + block-head + c = omega arith in e))
         ∙ sym (term-value first t (getD p (blocks-at + b * block-width + block-head + c) 0)) ∙ m .way t o;
-    root = λ linked whole. place-root top ws linked whole (placeOf first (getD p (blocks-at + b * block-width + block-head + c) 0)) (λ h. omega arith);
+    root = λ linked whole. place-root top ws linked whole (witnessPlace first (getD p (blocks-at + b * block-width + block-head + c) 0)) (λ h. omega arith);
   }
 
   -- four columns, one after the other

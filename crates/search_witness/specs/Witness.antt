@@ -22,8 +22,8 @@ abbrev pub readAt : List ℕ → State → ℕ → ℕ
 readAt first t x = slotValue t (getD first x 0)
 
 -- what a term of a block stands for: its variable's place, or the place of the constant
-unfoldable pub placeOf : List ℕ → ℕ → ℕ
-placeOf first a = cond (ltb a names) (getD first a 0) (slot-end + (a - names))
+unfoldable pub witnessPlace : List ℕ → ℕ → ℕ
+witnessPlace first a = cond (ltb a names) (getD first a 0) (slot-end + (a - names))
 
 -- in every state that obeys the set, the place w has the value of the term a
 abbrev pub Reads : List ℕ → List ℕ → List ℕ → ℕ → ℕ → Type 0

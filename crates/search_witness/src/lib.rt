@@ -22,7 +22,7 @@ ghost use Rattle.query_layout.specs.Layout.{names};
 ghost use Rattle.sheet_format.specs.Limits.{most-atoms};
 ghost use Rattle.tableau_layout.specs.Layout.{most-blocks, tableau-atoms};
 ghost use Rattle.case_verdicts.specs.Sheets.{top};
-ghost use Rattle.search_witness.specs.Witness.{placeOf, ColumnRead, AtomRead, AtomsRead, HeadRead, RowRead, RowShown, AskedShown};
+ghost use Rattle.search_witness.specs.Witness.{witnessPlace, ColumnRead, AtomRead, AtomsRead, HeadRead, RowRead, RowShown, AskedShown};
 
 // Past every place of the tableau.
 const NOWHERE: usize = SLOTS + MADE_UP;
@@ -68,7 +68,7 @@ fn first_places(
 // What a term stands for.
 fn place_of(first: &[usize; NAMES], t: usize) -> usize
     requires { ⌜ t < names + top ⌝ }
-    ensures { λ r. ⌜ r ≡ placeOf (now (first .entry)) t ⌝ }
+    ensures { λ r. ⌜ r ≡ witnessPlace (now (first .entry)) t ⌝ }
 {
     if t < NAMES {
         return first[t];

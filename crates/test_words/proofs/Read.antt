@@ -11,7 +11,7 @@ use mir.Syntax.{w32}
 use mir.Val.{toZ, ofZ}
 use mir.ValLaws.{toZ-ofZ, toZ-pos}
 use Rattle.list_laws.proofs.Words.{minus-fits}
-use Rattle.test_words.specs.Words.{nextPlace, beforeEither, belowOf, aboveOf, closedBy, firstPut, Room, Stores, wholeOf, wordOf, wordsPut, wordsRead}
+use Rattle.test_words.specs.Words.{nextPlace, beforeEither, belowOf, aboveOf, roundedBy, firstPut, Room, Stores, wholeOf, wordOf, wordsPut, wordsRead}
 use Rattle.test_numbers.specs.Numbers.{numberOf}
 
 -- ---- a word
@@ -73,12 +73,12 @@ pub whole-next : (unit n : ℕ) → 1 ≤ unit → unit ≤ 10000 → n ≤ 1000
 unfolding wholeOf
 whole-next unit n u v h e = rw (le-ltb unit 1 u, le-ltb 10000 unit v, le-ltb 10000 n h, ne-eqb (n % unit) 0 e)
 
-pub closed-by : (unit b n : ℕ) → b ≡ 47 → wholeOf unit n ≡ closedBy unit b n
-unfolding closedBy
+pub closed-by : (unit b n : ℕ) → b ≡ 47 → wholeOf unit n ≡ roundedBy unit b n
+unfolding roundedBy
 closed-by unit b n e = rw (eq-eqb b 47 e)
 
-pub closed-not : (unit b n : ℕ) → (b ≡ 47 → ⊥) → n ≡ closedBy unit b n
-unfolding closedBy
+pub closed-not : (unit b n : ℕ) → (b ≡ 47 → ⊥) → n ≡ roundedBy unit b n
+unfolding roundedBy
 closed-not unit b n e = rw (ne-eqb b 47 e)
 
 pub stores-within : (l : List ℤ) (at : ℕ) (w : ℤ) → at < length l → Stores l (set l at w) at w (at + 1)
@@ -117,14 +117,14 @@ room-same : {a b : List ℤ} {m n : ℕ} → a ≡ b → m ≡ n → _≡_ {A = 
 room-same e f = rw (e, f)
 
 first-put : (unit : ℕ) (text : List ℕ) (i x : ℕ) {b c : List ℤ} {n m p : ℕ} {w : ℤ} → w ≡ wordOf (take x (drop i text)) → Stores b c n w m
-    → p ≡ closedBy unit (getD text (i + x) 0) m → firstPut unit (drop i text) x (record { words = b; next = n }) ≡ record { words = c; next = p }
+    → p ≡ roundedBy unit (getD text (i + x) 0) m → firstPut unit (drop i text) x (record { words = b; next = n }) ≡ record { words = c; next = p }
 unfolding firstPut
 first-put unit text i x {b} {c} {n} {m} {p} we st pe =
     room-same (rw (← we) (sym (st .words))) (rw (getD-drop i text x 0, ← st .next) (sym pe))
 
 going-by : {unit : ℕ} {text : List ℕ} {a b c : List ℤ} {n m i p : ℕ} {w : ℤ} (k : ℕ) → i < length text → length b ≡ length a → length text ≤ k + i
     → wordsPut k unit (drop i text) (record { words = b; next = n }) ≡ wordsRead unit text a
-    → w ≡ wordOf (take (beforeEither 32 47 (drop i text)) (drop i text)) → Stores b c n w m → p ≡ closedBy unit (getD text (i + beforeEither 32 47 (drop i text)) 0) m
+    → w ≡ wordOf (take (beforeEither 32 47 (drop i text)) (drop i text)) → Stores b c n w m → p ≡ roundedBy unit (getD text (i + beforeEither 32 47 (drop i text)) 0) m
     → WordsSoFar unit text a c p (i + beforeEither 32 47 (drop i text) + 1)
 going-by zero h l g s we st pe = absurd (omega arith)
 going-by {unit} {text} {a} {b} {c} {n} {m} {i} {p} {w} (suc k) h l g s we st pe =
@@ -137,7 +137,7 @@ going-by {unit} {text} {a} {b} {c} {n} {m} {i} {p} {w} (suc k) h l g s we st pe 
 
 -- one word more is put
 pub going-more : {unit : ℕ} {text : List ℕ} {a b c : List ℤ} {n m i e p : ℕ} {w : ℤ} → i < length text → WordsSoFar unit text a b n i
-    → e ≡ i + beforeEither 32 47 (drop i text) → w ≡ wordOf (take (e - i) (drop i text)) → Stores b c n w m → p ≡ closedBy unit (getD text e 0) m
+    → e ≡ i + beforeEither 32 47 (drop i text) → w ≡ wordOf (take (e - i) (drop i text)) → Stores b c n w m → p ≡ roundedBy unit (getD text e 0) m
     → WordsSoFar unit text a c p (e + 1)
 going-more {unit} {text} {a} {b} {c} {n} {m} {i} {e} {p} {w} h g q we st pe =
     let f : e - i ≡ beforeEither 32 47 (drop i text) = omega arith in

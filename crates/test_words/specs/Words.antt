@@ -45,12 +45,12 @@ pub record Stores (old new : List ℤ) (at : ℕ) (w : ℤ) (r : ℕ) : Type 0 w
   pub next : r ≡ nextPlace (length old) at
 
 -- where byte b stands after it: "/" moves the place of the next to a multiple of the unit
-unfoldable pub closedBy : ℕ → ℕ → ℕ → ℕ
-closedBy unit b n = cond (eqb b 47) (wholeOf unit n) n
+unfoldable pub roundedBy : ℕ → ℕ → ℕ → ℕ
+roundedBy unit b n = cond (eqb b 47) (wholeOf unit n) n
 
 -- the first word of a text put, up to a place of the text
 unfoldable pub firstPut : ℕ → List ℕ → ℕ → Room → Room
-firstPut unit s e r = record { words = set (r .words) (r .next) (wordOf (take e s)); next = closedBy unit (getD s e 0) (nextPlace (length (r .words)) (r .next)) }
+firstPut unit s e r = record { words = set (r .words) (r .next) (wordOf (take e s)); next = roundedBy unit (getD s e 0) (nextPlace (length (r .words)) (r .next)) }
 
 -- at most k words of a text put, each up to a blank or "/"
 unfoldable pub wordsPut : ℕ → ℕ → List ℕ → Room → Room

@@ -2,7 +2,7 @@
 ghost use mathlib.Core.Path.{_≡_};
 ghost use Prim.Native.Nat.{_≤_, _+_, min};
 ghost use lib.ListN.{length, getD, drop};
-ghost use Rattle.test_words.specs.Words.{beforeEither, Stores, belowOf, closedBy, wholeOf, wordOf, wordsRead};
+ghost use Rattle.test_words.specs.Words.{beforeEither, Stores, belowOf, roundedBy, wholeOf, wordOf, wordsRead};
 use test_numbers::number;
 
 // The place of the first byte b, or the length where there is none.
@@ -88,7 +88,7 @@ fn store(out: &mut [i32], at: usize, w: i32) -> usize
 
 // The place of the next word: at a multiple of the unit where "/" stands at e.
 fn close(text: &[u8], e: usize, unit: usize, n: usize) -> usize
-    ensures { λ r. ⌜ r ≡ closedBy unit (getD (now (text .entry)) e 0) n ⌝ }
+    ensures { λ r. ⌜ r ≡ roundedBy unit (getD (now (text .entry)) e 0) n ⌝ }
 {
     if e < text.len() {
         if text[e] == b'/' {

@@ -18,7 +18,7 @@ use Rattle.sheet_format.specs.declared.FieldTerm.the-variants.{Variable}
 use Rattle.sheet_format.specs.declared.Seen.{Seen}
 use Rattle.sheet_format.proofs.Lists.{no-way, true-false, and-left, and-right, and-both}
 use Rattle.sheet_format.proofs.ScanLaws.{Clean, clean-line, accepted-scan}
-use Rattle.text_laws.specs.Numbered.{placeOf, known, knownAfter, numberedTerms, knownBehind, termsIn, knownIn, numberedLines}
+use Rattle.text_laws.specs.Numbered.{placeAmong, known, knownAfter, numberedTerms, knownBehind, termsIn, knownIn, numberedLines}
 use Rattle.text_laws.proofs.Few.{few}
 use Rattle.text_laws.proofs.Terms.{Below, new-fresh, in-range, term-token, terms-below}
 use Rattle.text_laws.proofs.Lines.{constants-kept}
@@ -32,11 +32,11 @@ unfolding numberedTerms
 terms-length ks [] = refl
 terms-length ks (z ∷ zs) = ap suc (terms-length (knownAfter ks z) zs)
 
-place-below : (v : ℕ) (ks : List ℕ) → v < most-variables → Below ks → placeOf v ks < most-variables
+place-below : (v : ℕ) (ks : List ℕ) → v < most-variables → Below ks → placeAmong v ks < most-variables
 place-below v ks h b =
     ⊎-elim (λ l. let f = few most-variables ks b in omega arith)
     (λ l. let f = few most-variables (v ∷ ks) (h, new-fresh v ks l, b) in let p = place-few v ks in omega arith)
-    (less? (placeOf v ks) (length ks))
+    (less? (placeAmong v ks) (length ks))
 
 terms-range : (zs : List ℤ) (ks : List ℕ) → all term zs ≡ true → Below ks → all term (numberedTerms ks zs) ≡ true
 unfolding numberedTerms termOf
@@ -45,7 +45,7 @@ terms-range (pos n ∷ zs) ks e b = and-both (term (pos n)) (all term (numberedT
 terms-range (negsuc v ∷ zs) ks e b =
     let t = and-left (term (negsuc v)) (all term zs) e in
     let h = ltb-true v most-variables (in-range (ltb v most-variables) (Variable (suc v)) t) in
-    and-both (term (negsuc (placeOf v ks))) (all term (numberedTerms (known v ks) zs)) (rw (lt-ltb (placeOf v ks) most-variables (place-below v ks h b)))
+    and-both (term (negsuc (placeAmong v ks))) (all term (numberedTerms (known v ks) zs)) (rw (lt-ltb (placeAmong v ks) most-variables (place-below v ks h b)))
     (terms-range zs (known v ks) (and-right (term (negsuc v)) (all term zs) e) (term-token (negsuc v) ks t b .below))
 
 -- ---- a line

@@ -16,7 +16,7 @@ use Rattle.sheet_format.specs.Cause.{kindOf, start, next, scan, refusalOf}
 use Rattle.sheet_format.specs.declared.Seen.{Seen}
 use Rattle.sheet_format.proofs.Lists.{no-way, true-false}
 use Rattle.sheet_format.proofs.ScanLaws.{Clean, clean-line, accepted-scan}
-use Rattle.text_laws.specs.Numbered.{placeOf, known, numberedTerms, knownBehind, termsIn, knownIn, numberedLines}
+use Rattle.text_laws.specs.Numbered.{placeAmong, known, numberedTerms, knownBehind, termsIn, knownIn, numberedLines}
 use Rattle.text_laws.proofs.Follows.{scan-on, no-other}
 use Rattle.text_laws.proofs.Bound.{numberedLine, place-stays, place-new, place-few}
 
@@ -30,25 +30,25 @@ firsts-length : (n : ℕ) → length (firsts n) ≡ n
 firsts-length zero = refl
 firsts-length (suc n) = length-append (firsts n) (n ∷ []) ∙ (let e = firsts-length n in omega arith)
 
-place-other : (v k : ℕ) (ks : List ℕ) → length ks ≤ placeOf v ks → (v ≡ k → ⊥) → placeOf v (ks ++ (k ∷ [])) ≡ suc (length ks)
-unfolding placeOf
+place-other : (v k : ℕ) (ks : List ℕ) → length ks ≤ placeAmong v ks → (v ≡ k → ⊥) → placeAmong v (ks ++ (k ∷ [])) ≡ suc (length ks)
+unfolding placeAmong
 place-other v k [] h f = rw (ne-eqb v k f)
 place-other v k (x ∷ ks) h f = by (eqb v x) h (λ l. place-other v k ks l f)
   where
-    by : (t : Bool) → suc (length ks) ≤ cond t 0 (suc (placeOf v ks)) → (length ks ≤ placeOf v ks → placeOf v (ks ++ (k ∷ [])) ≡ suc (length ks)) → cond t 0 (suc (placeOf v (ks ++ (k ∷ [])))) ≡ suc (suc (length ks))
+    by : (t : Bool) → suc (length ks) ≤ cond t 0 (suc (placeAmong v ks)) → (length ks ≤ placeAmong v ks → placeAmong v (ks ++ (k ∷ [])) ≡ suc (length ks)) → cond t 0 (suc (placeAmong v (ks ++ (k ∷ [])))) ≡ suc (suc (length ks))
     by true h r = absurd (omega arith)
     by false h r = ap suc (r (omega arith))
 
 -- none of them is n or more
-place-far : (n p : ℕ) → n ≤ p → placeOf p (firsts n) ≡ n
-unfolding placeOf
+place-far : (n p : ℕ) → n ≤ p → placeAmong p (firsts n) ≡ n
+unfolding placeAmong
 place-far zero p h = refl
 place-far (suc n) p h =
     let e = firsts-length n in
     let f = place-far n p (omega arith) in
     place-other p n (firsts n) (omega arith) (λ i. omega arith) ∙ ap suc e
 
-place-own : (n p : ℕ) → p < n → placeOf p (firsts n) ≡ p
+place-own : (n p : ℕ) → p < n → placeAmong p (firsts n) ≡ p
 place-own zero p h = absurd (omega arith)
 place-own (suc n) p h =
     ⊎-elim
@@ -56,24 +56,24 @@ place-own (suc n) p h =
     (λ l. let q : p ≡ n = omega arith in rw q (place-new n (firsts n) ∙ place-far n n (omega arith)))
     (less? p n)
 
-place-first : (n p : ℕ) → p ≤ n → placeOf p (firsts n) ≡ p
+place-first : (n p : ℕ) → p ≤ n → placeAmong p (firsts n) ≡ p
 place-first n p h = ⊎-elim (place-own n p) (λ l. let e = place-far n p l in omega arith) (less? p n)
 
 -- ---- terms
 
-known-again : (v : ℕ) (ks : List ℕ) → known (placeOf v ks) (firsts (length ks)) ≡ firsts (length (known v ks))
+known-again : (v : ℕ) (ks : List ℕ) → known (placeAmong v ks) (firsts (length ks)) ≡ firsts (length (known v ks))
 unfolding known
 known-again v ks =
-    let p = placeOf v ks in
+    let p = placeAmong v ks in
     let e = place-first (length ks) p (place-few v ks) in
     rw (e, firsts-length (length ks)) (by (ltb p (length ks)) refl)
   where
-    by : (t : Bool) → ltb (placeOf v ks) (length ks) ≡ t → cond t (firsts (length ks)) (firsts (length ks) ++ (placeOf v ks ∷ [])) ≡ firsts (length (cond t ks (ks ++ (v ∷ []))))
+    by : (t : Bool) → ltb (placeAmong v ks) (length ks) ≡ t → cond t (firsts (length ks)) (firsts (length ks) ++ (placeAmong v ks ∷ [])) ≡ firsts (length (cond t ks (ks ++ (v ∷ []))))
     by true e = refl
     by false e =
-        let l = ltb-false (placeOf v ks) (length ks) e in
+        let l = ltb-false (placeAmong v ks) (length ks) e in
         let f = place-few v ks in
-        let q : placeOf v ks ≡ length ks = omega arith in
+        let q : placeAmong v ks ≡ length ks = omega arith in
         let n : length (ks ++ (v ∷ [])) ≡ suc (length ks) = length-append ks (v ∷ []) ∙ omega arith in
         rw (q, n)
 
@@ -83,7 +83,7 @@ terms-again ks [] = (refl, refl)
 terms-again ks (pos n ∷ zs) = let r = terms-again ks zs in (ap (λ x. pos n ∷ x) (r .0), r .1)
 terms-again ks (negsuc v ∷ zs) =
     let r = terms-again (known v ks) zs in (
-      rw (known-again v ks, place-first (length ks) (placeOf v ks) (place-few v ks)) (ap (λ x. negsuc (placeOf v ks) ∷ x) (r .0)),
+      rw (known-again v ks, place-first (length ks) (placeAmong v ks) (place-few v ks)) (ap (λ x. negsuc (placeAmong v ks) ∷ x) (r .0)),
       (ap (λ js. knownBehind js (numberedTerms (known v ks) zs)) (known-again v ks) ∙ r .1),
     )
 

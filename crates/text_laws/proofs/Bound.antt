@@ -13,54 +13,54 @@ use Rattle.sheet_format.specs.Line.{Line, all, null}
 use Rattle.sheet_format.specs.Cause.{Kind, question, saved, view, atom, row, other, kindAt, kindOf, terms, isHead, isAtom, atoms, same, occurs, bound, unsafe, heads}
 use Rattle.sheet_format.proofs.Lists.{no-way, true-false, neither, and-left, and-right, and-both}
 use Rattle.sheet_causes.proofs.Laws.{same-self, same-not}
-use Rattle.text_laws.specs.Numbered.{placeOf, known, knownAfter, numberedTerms, knownBehind, termsIn, beforeTerms, knownIn, numberedLines}
+use Rattle.text_laws.specs.Numbered.{placeAmong, known, knownAfter, numberedTerms, knownBehind, termsIn, beforeTerms, knownIn, numberedLines}
 use Rattle.text_laws.proofs.Follows.{heads-on, four}
 
 -- ---- a known variable keeps its place
 
 record Knows (v p : ℕ) (ks : List ℕ) : Type 0 where
-  place : placeOf v ks ≡ p
+  place : placeAmong v ks ≡ p
   inside : p < length ks
 
-pub place-stays : (v : ℕ) (ks xs : List ℕ) → placeOf v ks < length ks → placeOf v (ks ++ xs) ≡ placeOf v ks
-unfolding placeOf
+pub place-stays : (v : ℕ) (ks xs : List ℕ) → placeAmong v ks < length ks → placeAmong v (ks ++ xs) ≡ placeAmong v ks
+unfolding placeAmong
 place-stays v [] xs h = absurd (omega arith)
 place-stays v (k ∷ ks) xs h = by (eqb v k) h (place-stays v ks xs)
   where
-    by : (t : Bool) → cond t 0 (suc (placeOf v ks)) < suc (length ks) → (placeOf v ks < length ks → placeOf v (ks ++ xs) ≡ placeOf v ks) → cond t 0 (suc (placeOf v (ks ++ xs))) ≡ cond t 0 (suc (placeOf v ks))
+    by : (t : Bool) → cond t 0 (suc (placeAmong v ks)) < suc (length ks) → (placeAmong v ks < length ks → placeAmong v (ks ++ xs) ≡ placeAmong v ks) → cond t 0 (suc (placeAmong v (ks ++ xs))) ≡ cond t 0 (suc (placeAmong v ks))
     by true h r = refl
     by false h r = ap suc (r (omega arith))
 
-pub place-new : (v : ℕ) (ks : List ℕ) → placeOf v (ks ++ (v ∷ [])) ≡ placeOf v ks
-unfolding placeOf
+pub place-new : (v : ℕ) (ks : List ℕ) → placeAmong v (ks ++ (v ∷ [])) ≡ placeAmong v ks
+unfolding placeAmong
 place-new v [] = rw (eq-eqb v v refl)
 place-new v (k ∷ ks) = ap (λ n. cond (eqb v k) 0 (suc n)) (place-new v ks)
 
-pub place-few : (v : ℕ) (ks : List ℕ) → placeOf v ks ≤ length ks
-unfolding placeOf
+pub place-few : (v : ℕ) (ks : List ℕ) → placeAmong v ks ≤ length ks
+unfolding placeAmong
 place-few v [] = omega arith
 place-few v (k ∷ ks) = by (eqb v k) (place-few v ks)
   where
-    by : (t : Bool) → placeOf v ks ≤ length ks → cond t 0 (suc (placeOf v ks)) ≤ suc (length ks)
+    by : (t : Bool) → placeAmong v ks ≤ length ks → cond t 0 (suc (placeAmong v ks)) ≤ suc (length ks)
     by true h = omega arith
     by false h = omega arith
 
 knows-after : (v p : ℕ) (ks : List ℕ) (z : ℤ) → Knows v p ks → Knows v p (knownAfter ks z)
 unfolding known
 knows-after v p ks (pos n) k = k
-knows-after v p ks (negsuc w) k = by (ltb (placeOf w ks) (length ks))
+knows-after v p ks (negsuc w) k = by (ltb (placeAmong w ks) (length ks))
   where
     by : (t : Bool) → Knows v p (cond t ks (ks ++ (w ∷ [])))
     by true = k
     by false = let e = k .place in let i = k .inside in let n = length-append ks (w ∷ []) in record { place = place-stays v ks (w ∷ []) (omega arith) ∙ e; inside = omega arith }
 
 -- a variable that is put is known behind it
-knows-now : (v : ℕ) (ks : List ℕ) → Knows v (placeOf v ks) (known v ks)
+knows-now : (v : ℕ) (ks : List ℕ) → Knows v (placeAmong v ks) (known v ks)
 unfolding known
-knows-now v ks = by (ltb (placeOf v ks) (length ks)) refl
+knows-now v ks = by (ltb (placeAmong v ks) (length ks)) refl
   where
-    by : (t : Bool) → ltb (placeOf v ks) (length ks) ≡ t → Knows v (placeOf v ks) (cond t ks (ks ++ (v ∷ [])))
-    by true e = record { place = refl; inside = ltb-true (placeOf v ks) (length ks) e }
+    by : (t : Bool) → ltb (placeAmong v ks) (length ks) ≡ t → Knows v (placeAmong v ks) (cond t ks (ks ++ (v ∷ [])))
+    by true e = record { place = refl; inside = ltb-true (placeAmong v ks) (length ks) e }
     by false e = let n = length-append ks (v ∷ []) in let f = place-few v ks in record { place = place-new v ks; inside = omega arith }
 
 knows-behind : (v p : ℕ) (ks : List ℕ) (zs : List ℤ) → Knows v p ks → Knows v p (knownBehind ks zs)
@@ -80,11 +80,11 @@ occurs-kept v p ks (negsuc w ∷ ts) k o = by (eqb v w) refl (occurs-kept v p (k
     more true x h = refl
     more false x h = h
 
-    by : (t : Bool) → eqb v w ≡ t → (occurs (negsuc v) ts ≡ true → occurs (negsuc p) (numberedTerms (known w ks) ts) ≡ true) → occurs (negsuc p) (negsuc (placeOf w ks) ∷ numberedTerms (known w ks) ts) ≡ true
-    by true e r = let q : placeOf w ks ≡ p = ap (λ x. placeOf x ks) (sym (eqb-true v w e)) ∙ k .place in rw (q, same-self (negsuc p))
+    by : (t : Bool) → eqb v w ≡ t → (occurs (negsuc v) ts ≡ true → occurs (negsuc p) (numberedTerms (known w ks) ts) ≡ true) → occurs (negsuc p) (negsuc (placeAmong w ks) ∷ numberedTerms (known w ks) ts) ≡ true
+    by true e r = let q : placeAmong w ks ≡ p = ap (λ x. placeAmong x ks) (sym (eqb-true v w e)) ∙ k .place in rw (q, same-self (negsuc p))
     by false e r =
         let n = same-not (negsuc v) (negsuc w) (λ i. eqb-false v w e cc) in
-        more (same (negsuc p) (negsuc (placeOf w ks))) (all (λ t. not (same (negsuc p) t)) (numberedTerms (known w ks) ts)) (r (rw n at o))
+        more (same (negsuc p) (negsuc (placeAmong w ks))) (all (λ t. not (same (negsuc p) t)) (numberedTerms (known w ks) ts)) (r (rw n at o))
 
 -- ---- in the atoms at the front
 
@@ -148,9 +148,9 @@ bound-terms ks (pos n ∷ zs) ls js e h =
     and-both (bound (atoms (numberedLines js ls)) (pos n)) (all (bound (atoms (numberedLines js ls))) (numberedTerms ks zs)) (rw (le-ltb n 0 (omega arith)))
     (bound-terms ks zs ls js e (and-right (bound (atoms ls) (pos n)) (all (bound (atoms ls)) zs) h))
 bound-terms ks (negsuc v ∷ zs) ls js e h =
-    let k : Knows v (placeOf v ks) js = subst (Knows v (placeOf v ks)) e (knows-behind v (placeOf v ks) (known v ks) zs (knows-now v ks)) in
-    and-both (bound (atoms (numberedLines js ls)) (negsuc (placeOf v ks))) (all (bound (atoms (numberedLines js ls))) (numberedTerms (known v ks) zs))
-    (held-kept v (placeOf v ks) js ls k (and-left (bound (atoms ls) (negsuc v)) (all (bound (atoms ls)) zs) h))
+    let k : Knows v (placeAmong v ks) js = subst (Knows v (placeAmong v ks)) e (knows-behind v (placeAmong v ks) (known v ks) zs (knows-now v ks)) in
+    and-both (bound (atoms (numberedLines js ls)) (negsuc (placeAmong v ks))) (all (bound (atoms (numberedLines js ls))) (numberedTerms (known v ks) zs))
+    (held-kept v (placeAmong v ks) js ls k (and-left (bound (atoms ls) (negsuc v)) (all (bound (atoms ls)) zs) h))
     (bound-terms (known v ks) zs ls js e (and-right (bound (atoms ls) (negsuc v)) (all (bound (atoms ls)) zs) h))
 
 atoms-stay : (ks : List ℕ) (ls : List Line) → null (atoms ls) ≡ false → null (atoms (numberedLines ks ls)) ≡ false

@@ -21,10 +21,10 @@ use Rattle.text_buffer.specs.Words.{bytes}
 use Rattle.text_begins.specs.Begins.{isBlank, letterOf}
 use Rattle.text_writer.specs.Texts.{wordBytes, termBytes, separated, termsBytes, relationBytes}
 use Rattle.text_writer.proofs.Parts.{far-relation}
-use Rattle.text_meaning.specs.Tokens.{kindOf, isInWord, joins, goesOn, behind, tokens}
-use Rattle.text_meaning.specs.Names.{markOf, relationOf}
-use Rattle.text_meaning.specs.Places.{columnsIn, nextBlock, startAt, openAt, termAt, firstAt, closedBy, closeAt, colonAt, relationAt, atomEndAt, rowAt, rowsAt, rowEndAt, nextAt, stepFrom, step}
-use Rattle.text_meaning.specs.Reading.{Reading, fieldOf, grown, read, run}
+use Rattle.text_meaning.specs.Tokens.{tokenKind, isInWord, joins, goesOn, behind, tokens}
+use Rattle.text_meaning.specs.Names.{tokenMark, relationNamed}
+use Rattle.text_meaning.specs.Places.{columnsIn, nextBlock, startAt, openAt, termExpected, firstAt, closedBy, closeAt, colonAt, relationAt, atomEndAt, rowExpected, rowsAt, rowEndAt, nextAt, stepFrom, step}
+use Rattle.text_meaning.specs.Reading.{Reading, fieldFor, grown, read, readAll}
 use Rattle.text_meaning.specs.declared.Control.{Control}
 use Rattle.text_laws.specs.Numbered.{numberedTerm, numberedTerms, knownBehind}
 use Rattle.text_laws.proofs.Written.{GoOn, digits-in-word, number-shows, far-back, relation-back}
@@ -50,7 +50,7 @@ blank-on p s = refl
 
 -- a head's letter stands for the block that may follow
 pub record HeadAt (block kind : ℕ) : Type 0 where
-  pub mark : markOf (letterOf kind ∷ []) ≡ record { kind = 97; letter = letterOf kind; value = 0 }
+  pub mark : tokenMark (letterOf kind ∷ []) ≡ record { kind = 97; letter = letterOf kind; value = 0 }
   pub apart : isBlank (letterOf kind) ≡ false
   pub next : nextBlock block (letterOf kind) ≡ kind
   pub same : eqb (letterOf kind) (letterOf kind) ≡ true
@@ -73,22 +73,22 @@ module _ (block kind : ℕ) (h : HeadAt block kind) (c : Control) (line : ℕ) (
   letter-read = rw (h .mark, h .next, h .same, h .low)
 
   open-read : read begun (40 ∷ []) ≡ within 3 kind kind 0 4 false line [] (pos kind ∷ []) ls (line ∷ starts)
-  unfolding read step stepFrom openAt markOf kindOf
+  unfolding read step stepFrom openAt tokenMark tokenKind
   open-read = rw (h .no-atom)
 
   colon-read : (left : ℕ) (ns : List (List ℕ)) (l : Line) → read (within 6 kind kind 0 left false line ns l ls (line ∷ starts)) (58 ∷ []) ≡ within 7 kind kind 0 left false line ns l ls (line ∷ starts)
-  unfolding read step stepFrom colonAt markOf kindOf
+  unfolding read step stepFrom colonAt tokenMark tokenKind
   colon-read left ns l = refl
 
   -- a head, from the start of a line (0) to its atoms (7)
   pub head-line : (zs : List ℤ) (s : List ℕ) → all term zs ≡ true → length zs ≤ 4
       → reads (standing 0 block c line ns ls starts) (letterOf kind ∷ (termsBytes zs ++ (58 ∷ s)))
       ≡ reads (within 7 kind kind 0 (4 - length zs) false line (letters (knownBehind [] zs)) (pos kind ∷ numberedTerms [] zs) ls (line ∷ starts)) s
-  unfolding joins kindOf
+  unfolding joins tokenKind
   head-line zs s a k =
       let inner = separated (44 ∷ []) (map termBytes zs) ++ (41 ∷ 58 ∷ s) in
       ap (λ x. reads (standing 0 block c line ns ls starts) (letterOf kind ∷ x)) (brackets zs (58 ∷ s))
-      ∙ word-on (standing 0 block c line ns ls starts) begun (letterOf kind) [] (40 ∷ inner) (h .apart) tt (ended (kindOf (letterOf kind)) 40 refl) letter-read refl
+      ∙ word-on (standing 0 block c line ns ls starts) begun (letterOf kind) [] (40 ∷ inner) (h .apart) tt (ended (tokenKind (letterOf kind)) 40 refl) letter-read refl
       ∙ sign-on begun (within 3 kind kind 0 4 false line [] (pos kind ∷ []) ls (line ∷ starts)) 40 inner refl (λ n. refl) open-read refl
       ∙ head-run kind kind 0 line ls (line ∷ starts) false zs (58 ∷ s) false [] (pos kind ∷ []) (h .no-atom) (h .no-row) a tt k (omega arith)
       ∙ sign-on (within 6 kind kind 0 (4 - length zs) false line (letters (knownBehind [] zs)) (pos kind ∷ numberedTerms [] zs) ls (line ∷ starts))
@@ -103,16 +103,16 @@ record Name (r : ℕ) : Type 0 where
   more : List ℕ
   named : relationBytes r ≡ first ∷ more
   apart : isBlank first ≡ false
-  on : GoOn (kindOf first) more
-  kind : markOf (first ∷ more) .kind ≡ 65
-  value : markOf (first ∷ more) .value ≡ r
+  on : GoOn (tokenKind first) more
+  kind : tokenMark (first ∷ more) .kind ≡ 65
+  value : tokenMark (first ∷ more) .value ≡ r
 
-name-by : (r a : ℕ) (w : List ℕ) → 0 < r → r ≤ 10 → relationBytes r ≡ a ∷ w → isBlank a ≡ false → kindOf a ≡ 65 → GoOn 65 w → Name r
-unfolding markOf
-name-by r a w l h e b k g = record { first = a; more = w; named = e; apart = b; on = rw k g; kind = k; value = rw k (ap relationOf (sym e) ∙ relation-back r l h) }
+name-by : (r a : ℕ) (w : List ℕ) → 0 < r → r ≤ 10 → relationBytes r ≡ a ∷ w → isBlank a ≡ false → tokenKind a ≡ 65 → GoOn 65 w → Name r
+unfolding tokenMark
+name-by r a w l h e b k g = record { first = a; more = w; named = e; apart = b; on = rw k g; kind = k; value = rw k (ap relationNamed (sym e) ∙ relation-back r l h) }
 
 ten-token : (r : ℕ) → 0 < r → r ≤ 10 → Name r
-unfolding relationBytes kindOf joins
+unfolding relationBytes tokenKind joins
 ten-token zero l h = absurd (omega arith)
 ten-token (suc zero) l h = name-by 1 82 (bytes "ower") l h refl refl refl (refl, (refl, (refl, (refl, tt))))
 ten-token (suc (suc zero)) l h = name-by 2 83 (bytes "trap") l h refl refl refl (refl, (refl, (refl, (refl, tt))))
@@ -128,7 +128,7 @@ ten-token (suc (suc (suc (suc (suc (suc (suc (suc (suc (suc (suc n))))))))))) l 
 
 -- one beyond the ten is a letter and its number
 far-token : (r : ℕ) → 10 < r → r < field-end → Name r
-unfolding markOf kindOf
+unfolding tokenMark tokenKind
 far-token r l h = record {
   first = 82;
   more = wordBytes (pos r);
@@ -152,12 +152,12 @@ module _ (block relation : ℕ) (some : 0 < relation) (short : relation < field-
     starts = line ∷ starts;
   }
 
-  name-read : (ns : List (List ℕ)) (w : List ℕ) → markOf w .kind ≡ 65 → markOf w .value ≡ relation → read (standing 7 block c line ns ls starts) w ≡ atomBegun ns
+  name-read : (ns : List (List ℕ)) (w : List ℕ) → tokenMark w .kind ≡ 65 → tokenMark w .value ≡ relation → read (standing 7 block c line ns ls starts) w ≡ atomBegun ns
   unfolding read step stepFrom relationAt grown
   name-read ns w k v = rw (k, v, ne-eqb relation 0 (λ e. omega arith))
 
   atom-open-read : (ns : List (List ℕ)) → read (atomBegun ns) (40 ∷ []) ≡ within 4 block 4 relation (columnsIn relation) false line ns (pos 4 ∷ pos relation ∷ []) ls (line ∷ starts)
-  unfolding read step stepFrom openAt markOf kindOf
+  unfolding read step stepFrom openAt tokenMark tokenKind
   atom-open-read ns = refl
 
   -- as many columns may come as the atom has, or more where they are not known
@@ -173,7 +173,7 @@ module _ (block relation : ℕ) (some : 0 < relation) (short : relation < field-
   pub atom-line : (zs : List ℤ) (s : List ℕ) (ks : List ℕ) → all term zs ≡ true → Below ks → (relation ≤ 10 → columnsOf ten (pos relation) ≡ length zs) → 0 < length zs → length zs ≤ 4
       → reads (standing 7 block c line (letters ks) ls starts) (relationBytes relation ++ (termsBytes zs ++ s))
       ≡ reads (within 8 block 4 relation (columnsIn relation - length zs) false line (letters (knownBehind ks zs)) (pos 4 ∷ pos relation ∷ numberedTerms ks zs) ls (line ∷ starts)) s
-  unfolding joins kindOf
+  unfolding joins tokenKind
   atom-line zs s ks a b e i k =
       let n = name-token relation some short in
       let inner = separated (44 ∷ []) (map termBytes zs) ++ (41 ∷ s) in
@@ -181,7 +181,7 @@ module _ (block relation : ℕ) (some : 0 < relation) (short : relation < field-
       let m = known-columns (length zs) e k in
       ap (λ x. reads p (relationBytes relation ++ x)) (brackets zs s)
       ∙ ap (λ x. reads p (x ++ (40 ∷ inner))) (n .named)
-      ∙ word-on p (atomBegun (letters ks)) (n .first) (n .more) (40 ∷ inner) (n .apart) (n .on) (ended (kindOf (n .first)) 40 refl) (name-read (letters ks) (n .first ∷ n .more) (n .kind) (n .value)) refl
+      ∙ word-on p (atomBegun (letters ks)) (n .first) (n .more) (40 ∷ inner) (n .apart) (n .on) (ended (tokenKind (n .first)) 40 refl) (name-read (letters ks) (n .first ∷ n .more) (n .kind) (n .value)) refl
       ∙ sign-on (atomBegun (letters ks)) (within 4 block 4 relation (columnsIn relation) false line (letters ks) (pos 4 ∷ pos relation ∷ []) ls (line ∷ starts)) 40 inner refl (λ n. refl) (atom-open-read (letters ks)) refl
       ∙ atom-run block 4 relation line ls (line ∷ starts) (columnsIn relation) zs s false ks (pos 4 ∷ pos relation ∷ []) refl (m .0) a b i (m .1) k (omega arith)
 
@@ -193,22 +193,22 @@ module _ (block relation left line : ℕ) (ns : List (List ℕ)) (l : Line) (ls 
 
   -- another atom
   pub atom-next : (s : List ℕ) → reads (behindAtom 8 line) (44 ∷ s) ≡ reads (behindAtom 7 line) s
-  unfolding joins kindOf read step stepFrom atomEndAt markOf
+  unfolding joins tokenKind read step stepFrom atomEndAt tokenMark
   atom-next s = sign-on (behindAtom 8 line) (behindAtom 7 line) 44 s refl (λ n. refl) refl refl
 
   -- a view's rows
   pub rows-next : (s : List ℕ) → block ≡ 3 → reads (behindAtom 8 line) (61 ∷ s) ≡ reads (behindAtom 9 line) s
-  unfolding joins kindOf read step stepFrom atomEndAt markOf
+  unfolding joins tokenKind read step stepFrom atomEndAt tokenMark
   rows-next s e = sign-on (behindAtom 8 line) (behindAtom 9 line) 61 s refl (λ n. refl) (rw (eq-eqb block 3 e)) refl
 
   -- the end of the line, of a view without rows
   pub no-rows : (s : List ℕ) → reads (behindAtom 9 line) (10 ∷ s) ≡ reads (behindAtom 0 (suc line)) s
-  unfolding joins kindOf read step stepFrom rowsAt markOf
+  unfolding joins tokenKind read step stepFrom rowsAt tokenMark
   no-rows s = sign-on (behindAtom 9 line) (behindAtom 0 (suc line)) 10 s refl (λ n. refl) refl refl
 
   -- or of any other block
   pub block-end : (s : List ℕ) → (block ≡ 3 → ⊥) → reads (behindAtom 8 line) (10 ∷ s) ≡ reads (behindAtom 0 (suc line)) s
-  unfolding joins kindOf read step stepFrom atomEndAt markOf
+  unfolding joins tokenKind read step stepFrom atomEndAt tokenMark
   block-end s h = sign-on (behindAtom 8 line) (behindAtom 0 (suc line)) 10 s refl (λ n. refl) (rw (ne-eqb block 3 h)) refl
 
 -- ---- rows
@@ -225,10 +225,10 @@ endLine more line = cond more line (suc line)
 
 -- readings that read every token alike
 alike : (p q : Reading) → ((w : List ℕ) → read p w ≡ read q w) → (s : List ℕ) → reads p s ≡ reads q s
-unfolding run
+unfolding readAll
 alike p q h s = by (tokens s)
   where
-    by : (ws : List (List ℕ)) → run p (ws ++ ([] ∷ [])) ≡ run q (ws ++ ([] ∷ []))
+    by : (ws : List (List ℕ)) → readAll p (ws ++ ([] ∷ [])) ≡ readAll q (ws ++ ([] ∷ []))
     by [] = rw (h [])
     by (w ∷ ws) = rw (h w)
 
@@ -286,28 +286,28 @@ module _ (block place : ℕ) (due : (place ≡ 9) ⊎ (place ≡ 10)) (c : Contr
   }
 
   row-open-read : (ns : List (List ℕ)) → read (dueHere ns) (40 ∷ []) ≡ rowBegun ns
-  unfolding read step stepFrom rowsAt rowAt markOf kindOf
+  unfolding read step stepFrom rowsAt rowExpected tokenMark tokenKind
   row-open-read ns = ⊎-elim (λ e. rw e) (λ e. rw e) due
 
   row-alike : (ns : List (List ℕ)) (w : List ℕ) → read (rowBegun ns) w ≡ read (within 3 block 5 0 4 false line ns (pos 5 ∷ []) ls (line ∷ starts)) w
-  unfolding read step stepFrom firstAt termAt closeAt closedBy
+  unfolding read step stepFrom firstAt termExpected closeAt closedBy
   row-alike ns w = refl
 
   row-end-read : (more : Bool) (left : ℕ) (ns : List (List ℕ)) (l : Line)
       → read (within 11 block 5 0 left false line ns l ls (line ∷ starts)) (endSign more ∷ []) ≡ within (endPlace more) block 5 0 left false (endLine more line) ns l ls (line ∷ starts)
-  unfolding read step stepFrom rowEndAt markOf kindOf
+  unfolding read step stepFrom rowEndAt tokenMark tokenKind
   row-end-read true left ns l = refl
   row-end-read false left ns l = refl
 
-  sign-ends : (more : Bool) → (isBlank (endSign more) ≡ false) × ((n : ℕ) → joins (kindOf (endSign more)) n ≡ false)
-  unfolding joins kindOf
+  sign-ends : (more : Bool) → (isBlank (endSign more) ≡ false) × ((n : ℕ) → joins (tokenKind (endSign more)) n ≡ false)
+  unfolding joins tokenKind
   sign-ends true = (refl, λ n. refl)
   sign-ends false = (refl, λ n. refl)
 
   bracketed-row : (zs : List ℤ) (s : List ℕ) (ks : List ℕ) (more : Bool) → all constant zs ≡ true → Below ks → length zs ≤ 4
       → reads (dueHere (letters ks)) (termsBytes zs ++ (endSign more ∷ s))
       ≡ reads (within (endPlace more) block 5 0 (4 - length zs) false (endLine more line) (letters ks) (pos 5 ∷ zs) ls (line ∷ starts)) s
-  unfolding joins kindOf
+  unfolding joins tokenKind
   bracketed-row zs s ks more a b k =
       let inner = separated (44 ∷ []) (map termBytes zs) ++ (41 ∷ endSign more ∷ s) in
       let r = constants-kept zs ks a in
@@ -336,26 +336,26 @@ module _ (block place : ℕ) (due : (place ≡ 9) ⊎ (place ≡ 10)) (c : Contr
   abbrev bareControl : Control
   bareControl = record { place = 5; block = block; kind = 5; relation = 0; left = 3; bare = true; expected = 0; begins = false; puts = false }
 
-  value-read : (ns : List (List ℕ)) (w : List ℕ) → markOf w .kind ≡ 48 → read (dueHere ns) w ≡ bare ns (fieldOf (markOf w) w ns)
-  unfolding read step stepFrom rowsAt rowAt grown
+  value-read : (ns : List (List ℕ)) (w : List ℕ) → tokenMark w .kind ≡ 48 → read (dueHere ns) w ≡ bare ns (fieldFor (tokenMark w) w ns)
+  unfolding read step stepFrom rowsAt rowExpected grown
   value-read ns w k = ⊎-elim (λ e. ap at e ∙ first) (λ e. ap at e ∙ next) due
     where
       at : ℕ → Reading
       at x = read (standing x block c line ns ls starts) w
 
-      first : read (standing 9 block c line ns ls starts) w ≡ bare ns (fieldOf (markOf w) w ns)
+      first : read (standing 9 block c line ns ls starts) w ≡ bare ns (fieldFor (tokenMark w) w ns)
       first = rw k
 
-      next : read (standing 10 block c line ns ls starts) w ≡ bare ns (fieldOf (markOf w) w ns)
+      next : read (standing 10 block c line ns ls starts) w ≡ bare ns (fieldFor (tokenMark w) w ns)
       next = rw k
 
   bare-end-read : (more : Bool) (ns : List (List ℕ)) (z : ℤ) → read (bare ns z) (endSign more ∷ []) ≡ standing (endPlace more) block bareControl (endLine more line) ns ((pos 5 ∷ z ∷ []) ∷ ls) (line ∷ starts)
-  unfolding read step stepFrom nextAt rowEndAt markOf kindOf
+  unfolding read step stepFrom nextAt rowEndAt tokenMark tokenKind
   bare-end-read true ns z = refl
   bare-end-read false ns z = refl
 
-  in-no-word : (more : Bool) → isInWord (kindOf (endSign more)) ≡ false
-  unfolding kindOf
+  in-no-word : (more : Bool) → isInWord (tokenKind (endSign more)) ≡ false
+  unfolding tokenKind
   in-no-word true = refl
   in-no-word false = refl
 
@@ -366,9 +366,9 @@ module _ (block place : ℕ) (due : (place ≡ 9) ⊎ (place ≡ 10)) (c : Contr
       let t = term-token z ks (constant-term z a) b in
       let e = sign-ends more in
       let w = t .first ∷ t .more in
-      let f : fieldOf (markOf w) w (letters ks) ≡ z = t .field ∙ constant-kept z ks a in
+      let f : fieldFor (tokenMark w) w (letters ks) ≡ z = t .field ∙ constant-kept z ks a in
       ap (λ x. reads (dueHere (letters ks)) (x ++ (endSign more ∷ s))) (t .bytes)
-      ∙ word-on (dueHere (letters ks)) (bare (letters ks) (fieldOf (markOf w) w (letters ks))) (t .first) (t .more) (endSign more ∷ s) (t .apart) (t .on) (ended (kindOf (t .first)) (kindOf (endSign more)) (in-no-word more))
+      ∙ word-on (dueHere (letters ks)) (bare (letters ks) (fieldFor (tokenMark w) w (letters ks))) (t .first) (t .more) (endSign more ∷ s) (t .apart) (t .on) (ended (tokenKind (t .first)) (tokenKind (endSign more)) (in-no-word more))
       (value-read (letters ks) w (t .kind ∙ constant-kind z a)) refl
       ∙ ap (λ x. reads (bare (letters ks) x) (endSign more ∷ s)) f
       ∙ sign-on (bare (letters ks) z) (standing (endPlace more) block bareControl (endLine more line) (letters ks) ((pos 5 ∷ z ∷ []) ∷ ls) (line ∷ starts)) (endSign more) s (e .0) (e .1) (bare-end-read more (letters ks) z) refl

@@ -16,7 +16,7 @@ use Rattle.sheet_format.specs.Cause.{Kind, kind, rest, second, terms, isHead, i
 use Rattle.query_meaning.specs.Meaning.{Fact, Log, Term, con, var, Atom, Block, In, value, row, factOf, Holds, Answer}
 use Rattle.query_meaning.specs.Blocks.{View, asTerm, atomOf, blockOf, isRow, rows, viewOf, blocks}
 use Rattle.query_encoding.proofs.Lists.{in-map, map-in}
-use Rattle.text_laws.specs.Numbered.{placeOf, known, numberedTerm, knownAfter, numberedTerms, knownBehind, termsIn, beforeTerms, knownIn, numberedLines}
+use Rattle.text_laws.specs.Numbered.{placeAmong, known, numberedTerm, knownAfter, numberedTerms, knownBehind, termsIn, beforeTerms, knownIn, numberedLines}
 
 -- ---- names
 
@@ -38,79 +38,79 @@ begins-self ks = record { more = []; is = sym (append-nil ks) }
 begins-on : (a b c : List ℕ) → Begins a b → Begins b c → Begins a c
 begins-on a b c f g = record { more = f .more ++ g .more; is = g .is ∙ ap (λ l. l ++ g .more) (f .is) ∙ append-assoc a (f .more) (g .more) }
 
-place-most : (v : ℕ) (ks : List ℕ) → placeOf v ks ≤ length ks
-unfolding placeOf
+place-most : (v : ℕ) (ks : List ℕ) → placeAmong v ks ≤ length ks
+unfolding placeAmong
 place-most v [] = omega arith
 place-most v (k ∷ ks) = go (eqb v k) (place-most v ks)
   where
-    go : (b : Bool) → placeOf v ks ≤ length ks → cond b 0 (suc (placeOf v ks)) ≤ suc (length ks)
+    go : (b : Bool) → placeAmong v ks ≤ length ks → cond b 0 (suc (placeAmong v ks)) ≤ suc (length ks)
     go true h = omega arith
     go false h = omega arith
 
 -- names that follow change no place
-place-in : (v : ℕ) (ks m : List ℕ) → placeOf v ks < length ks → placeOf v (ks ++ m) ≡ placeOf v ks
-unfolding placeOf
+place-in : (v : ℕ) (ks m : List ℕ) → placeAmong v ks < length ks → placeAmong v (ks ++ m) ≡ placeAmong v ks
+unfolding placeAmong
 place-in v [] m lt = absurd (omega arith)
 place-in v (k ∷ ks) m lt = go (eqb v k) (place-in v ks m) lt
   where
-    go : (b : Bool) → (placeOf v ks < length ks → placeOf v (ks ++ m) ≡ placeOf v ks) → cond b 0 (suc (placeOf v ks)) < suc (length ks) → cond b 0 (suc (placeOf v (ks ++ m))) ≡ cond b 0 (suc (placeOf v ks))
+    go : (b : Bool) → (placeAmong v ks < length ks → placeAmong v (ks ++ m) ≡ placeAmong v ks) → cond b 0 (suc (placeAmong v ks)) < suc (length ks) → cond b 0 (suc (placeAmong v (ks ++ m))) ≡ cond b 0 (suc (placeAmong v ks))
     go true r h = refl
     go false r h = ap suc (r (omega arith))
 
 eqb-self : (n : ℕ) → eqb n n ≡ true
 eqb-self n = eq-eqb n n refl
 
-place-new : (v : ℕ) (ks m : List ℕ) → length ks ≤ placeOf v ks → placeOf v (ks ++ (v ∷ m)) ≡ placeOf v ks
-unfolding placeOf
-place-new v [] m le = ap (λ b. cond b 0 (suc (placeOf v m))) (eqb-self v)
+place-new : (v : ℕ) (ks m : List ℕ) → length ks ≤ placeAmong v ks → placeAmong v (ks ++ (v ∷ m)) ≡ placeAmong v ks
+unfolding placeAmong
+place-new v [] m le = ap (λ b. cond b 0 (suc (placeAmong v m))) (eqb-self v)
 place-new v (k ∷ ks) m le = go (eqb v k) (place-new v ks m) le
   where
-    go : (b : Bool) → (length ks ≤ placeOf v ks → placeOf v (ks ++ (v ∷ m)) ≡ placeOf v ks) → suc (length ks) ≤ cond b 0 (suc (placeOf v ks)) → cond b 0 (suc (placeOf v (ks ++ (v ∷ m)))) ≡ cond b 0 (suc (placeOf v ks))
+    go : (b : Bool) → (length ks ≤ placeAmong v ks → placeAmong v (ks ++ (v ∷ m)) ≡ placeAmong v ks) → suc (length ks) ≤ cond b 0 (suc (placeAmong v ks)) → cond b 0 (suc (placeAmong v (ks ++ (v ∷ m)))) ≡ cond b 0 (suc (placeAmong v ks))
     go true r h = absurd (omega arith)
     go false r h = ap suc (r (omega arith))
 
-place-at : (v : ℕ) (ks : List ℕ) → placeOf v ks < length ks → getD ks (placeOf v ks) 0 ≡ v
-unfolding placeOf
+place-at : (v : ℕ) (ks : List ℕ) → placeAmong v ks < length ks → getD ks (placeAmong v ks) 0 ≡ v
+unfolding placeAmong
 place-at v [] lt = absurd (omega arith)
 place-at v (k ∷ ks) lt = go (eqb v k) refl (place-at v ks) lt
   where
-    go : (b : Bool) → eqb v k ≡ b → (placeOf v ks < length ks → getD ks (placeOf v ks) 0 ≡ v) → cond b 0 (suc (placeOf v ks)) < suc (length ks) → getD (k ∷ ks) (cond b 0 (suc (placeOf v ks))) 0 ≡ v
+    go : (b : Bool) → eqb v k ≡ b → (placeAmong v ks < length ks → getD ks (placeAmong v ks) 0 ≡ v) → cond b 0 (suc (placeAmong v ks)) < suc (length ks) → getD (k ∷ ks) (cond b 0 (suc (placeAmong v ks))) 0 ≡ v
     go true e r h = sym (eqb-true v k e)
     go false e r h = r (omega arith)
 
-known-old : (v : ℕ) (ks : List ℕ) → placeOf v ks < length ks → known v ks ≡ ks
+known-old : (v : ℕ) (ks : List ℕ) → placeAmong v ks < length ks → known v ks ≡ ks
 unfolding known
-known-old v ks lt = ap (λ b. cond b ks (ks ++ (v ∷ []))) (lt-ltb (placeOf v ks) (length ks) lt)
+known-old v ks lt = ap (λ b. cond b ks (ks ++ (v ∷ []))) (lt-ltb (placeAmong v ks) (length ks) lt)
 
-known-new : (v : ℕ) (ks : List ℕ) → length ks ≤ placeOf v ks → known v ks ≡ ks ++ (v ∷ [])
+known-new : (v : ℕ) (ks : List ℕ) → length ks ≤ placeAmong v ks → known v ks ≡ ks ++ (v ∷ [])
 unfolding known
-known-new v ks le = ap (λ b. cond b ks (ks ++ (v ∷ []))) (le-ltb (placeOf v ks) (length ks) le)
+known-new v ks le = ap (λ b. cond b ks (ks ++ (v ∷ []))) (le-ltb (placeAmong v ks) (length ks) le)
 
 known-begins : (v : ℕ) (ks : List ℕ) → Begins ks (known v ks)
 known-begins v ks = ⊎-elim
     (λ lt. subst (Begins ks) (sym (known-old v ks lt)) (begins-self ks))
     (λ le. subst (Begins ks) (sym (known-new v ks le)) record { more = v ∷ []; is = refl })
-    (less? (placeOf v ks) (length ks))
+    (less? (placeAmong v ks) (length ks))
 
 -- a variable's place among all names is its place when it came, and has its name
 record Placed (v : ℕ) (ks all : List ℕ) : Type 0 where
-  same : placeOf v all ≡ placeOf v ks
-  back : getD all (placeOf v all) 0 ≡ v
+  same : placeAmong v all ≡ placeAmong v ks
+  back : getD all (placeAmong v all) 0 ≡ v
 
 placed : (v : ℕ) (ks all : List ℕ) → Begins (known v ks) all → Placed v ks all
-placed v ks all f = ⊎-elim old new (less? (placeOf v ks) (length ks))
+placed v ks all f = ⊎-elim old new (less? (placeAmong v ks) (length ks))
   where
-    old : placeOf v ks < length ks → Placed v ks all
+    old : placeAmong v ks < length ks → Placed v ks all
     old lt =
         let is : all ≡ ks ++ f .more = f .is ∙ ap (λ l. l ++ f .more) (known-old v ks lt) in
-        let e : placeOf v all ≡ placeOf v ks = ap (placeOf v) is ∙ place-in v ks (f .more) lt in
+        let e : placeAmong v all ≡ placeAmong v ks = ap (placeAmong v) is ∙ place-in v ks (f .more) lt in
         let long : length all ≡ length ks + length (f .more) = ap length is ∙ length-append ks (f .more) in
         record { same = e; back = place-at v all (omega arith) }
 
-    new : length ks ≤ placeOf v ks → Placed v ks all
+    new : length ks ≤ placeAmong v ks → Placed v ks all
     new le =
         let is : all ≡ ks ++ (v ∷ f .more) = f .is ∙ ap (λ l. l ++ f .more) (known-new v ks le) ∙ append-assoc ks (v ∷ []) (f .more) in
-        let e : placeOf v all ≡ placeOf v ks = ap (placeOf v) is ∙ place-new v ks (f .more) le in
+        let e : placeAmong v all ≡ placeAmong v ks = ap (placeAmong v) is ∙ place-new v ks (f .more) le in
         let long : length all ≡ length ks + suc (length (f .more)) = ap length is ∙ length-append ks (v ∷ f .more) in
         let most = place-most v ks in
         record { same = e; back = place-at v all (omega arith) }
@@ -127,7 +127,7 @@ behind-begins ks (z ∷ zs) = begins-on ks (knownAfter ks z) (knownBehind (known
 -- ---- two valuations, of the old terms and of the new ones
 
 record Same (f g : ℕ → ℕ) (all : List ℕ) : Type 0 where
-  at : (v : ℕ) (ks : List ℕ) → Begins (known v ks) all → g (suc (placeOf v ks)) ≡ f (suc v)
+  at : (v : ℕ) (ks : List ℕ) → Begins (known v ks) all → g (suc (placeAmong v ks)) ≡ f (suc v)
 
 module _ (f g : ℕ → ℕ) (all : List ℕ) (s : Same f g all) where
   term-same : (ks : List ℕ) (z : ℤ) → Begins (knownAfter ks z) all → value g (asTerm (numberedTerm ks z)) ≡ value f (asTerm z)
@@ -343,14 +343,14 @@ forth : List ℕ → (ℕ → ℕ) → ℕ → ℕ
 forth all f n = f (suc (getD all (n - 1) 0))
 
 back : List ℕ → (ℕ → ℕ) → ℕ → ℕ
-back all g n = g (suc (placeOf (n - 1) all))
+back all g n = g (suc (placeAmong (n - 1) all))
 
 forth-same : (all : List ℕ) (f : ℕ → ℕ) → Same f (forth all f) all
 unfolding forth
 forth-same all f = record {
   at = λ v ks b.
       let p = placed v ks all b in
-      let e : suc (placeOf v ks) - 1 ≡ placeOf v ks = omega arith in
+      let e : suc (placeAmong v ks) - 1 ≡ placeAmong v ks = omega arith in
       ap (λ n. f (suc (getD all n 0))) (e ∙ sym (p .same)) ∙ ap (λ n. f (suc n)) (p .back);
 }
 
@@ -360,7 +360,7 @@ back-same all g = record {
   at = λ v ks b.
       let p = placed v ks all b in
       let e : suc v - 1 ≡ v = omega arith in
-      ap (λ n. g (suc n)) (sym (p .same)) ∙ ap (λ n. g (suc (placeOf n all))) (sym e);
+      ap (λ n. g (suc n)) (sym (p .same)) ∙ ap (λ n. g (suc (placeAmong n all))) (sym e);
 }
 
 held : (log : Log) (v w : ℕ → ℕ) (us bs : List Atom) → map (factOf v) us ≡ map (factOf w) bs → ((a : Atom) → In a us → In (factOf v a) log) → (b : Atom) → In b bs → In (factOf w b) log

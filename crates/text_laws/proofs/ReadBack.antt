@@ -19,10 +19,10 @@ use Rattle.sheet_format.proofs.Lists.{no-way, true-false, both, neither}
 use Rattle.sheet_format.proofs.ScanLaws.{Clean, clean-line, accepted-scan}
 use Rattle.text_begins.specs.Begins.{letterOf}
 use Rattle.text_writer.specs.Texts.{termsBytes, relationBytes, lineKind, blockKind, firstKind, lineText, linesFrom}
-use Rattle.text_meaning.specs.Tokens.{kindOf as byteKind, behind}
-use Rattle.text_meaning.specs.Names.{markOf}
+use Rattle.text_meaning.specs.Tokens.{tokenKind, behind}
+use Rattle.text_meaning.specs.Names.{tokenMark}
 use Rattle.text_meaning.specs.Places.{columnsIn, nextBlock, startAt, stepFrom, step}
-use Rattle.text_meaning.specs.Reading.{Reading, read, run, unread}
+use Rattle.text_meaning.specs.Reading.{Reading, read, readAll, unread}
 use Rattle.text_meaning.specs.declared.Control.{Control}
 use Rattle.text_laws.specs.Named.{Named}
 use Rattle.text_laws.specs.Numbered.{numberedTerms, knownBehind, termsIn, knownIn, numberedLines}
@@ -199,11 +199,11 @@ module _ (table : Table) (block place : ℕ) (due : (place ≡ 9) ⊎ (place ≡
 -- ---- a line by its kind
 
 question-at : (block : ℕ) → block ≡ 0 → HeadAt block 1
-unfolding markOf byteKind nextBlock
+unfolding tokenMark tokenKind nextBlock
 question-at block e = record { mark = refl; apart = refl; next = rw e; same = refl; low = refl; no-atom = refl; no-row = refl }
 
 list-at : (block : ℕ) → 1 ≤ block → block ≤ 2 → HeadAt block 2
-unfolding markOf byteKind nextBlock
+unfolding tokenMark tokenKind nextBlock
 list-at block l h = record { mark = refl; apart = refl; next = by (eqb block 1) refl; same = refl; low = refl; no-atom = refl; no-row = refl }
   where
     by : (t : Bool) → eqb block 1 ≡ t → nextBlock block (letterOf 2) ≡ 2
@@ -211,7 +211,7 @@ list-at block l h = record { mark = refl; apart = refl; next = by (eqb block 1) 
     by false e = let q = eqb-false block 1 e in let two : block ≡ 2 = omega arith in rw two
 
 view-at : (block : ℕ) → 2 ≤ block → HeadAt block 3
-unfolding markOf byteKind nextBlock
+unfolding tokenMark tokenKind nextBlock
 view-at block l = record { mark = refl; apart = refl; next = by (eqb block 2) refl; same = refl; low = refl; no-atom = refl; no-row = refl }
   where
     by : (t : Bool) → eqb block 2 ≡ t → nextBlock block (letterOf 3) ≡ 3
@@ -265,7 +265,7 @@ line-step table named (pos (suc (suc (suc (suc (suc (suc n)))))) ∷ zs) ls g ks
 -- the end of the text at the start of a line
 end-read : (block : ℕ) (c : Control) (line : ℕ) (ns : List (List ℕ)) (done : List Line) (starts : List ℕ)
     → reads (standing 0 block c line ns done starts) [] ≡ standing 0 block (record { place = 0; block = block; kind = c .kind; relation = c .relation; left = c .left; bare = c .bare; expected = 0; begins = false; puts = false }) (suc line) ns done starts
-unfolding behind run read step stepFrom startAt markOf
+unfolding behind readAll read step stepFrom startAt tokenMark
 end-read block c line ns done starts = refl
 
 no-line : (table : Table) (block : ℕ) (ks : List ℕ) → ReadBack table block [] ks

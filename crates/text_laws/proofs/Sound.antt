@@ -15,9 +15,9 @@ use Rattle.sheet_format.proofs.Lists.{and-left, and-right, and-both}
 use Rattle.sheet_format.proofs.Good.{FittingLine, Goods}
 use Rattle.sheet_format.proofs.LineLaws.{words-back}
 use Rattle.text_meaning.specs.Tokens.{tokens}
-use Rattle.text_meaning.specs.Names.{sameBytes, placeIn, noted, markOf}
+use Rattle.text_meaning.specs.Names.{sameBytes, placeIn, noted, tokenMark}
 use Rattle.text_meaning.specs.Places.{step}
-use Rattle.text_meaning.specs.Reading.{Reading, fieldOf, grown, linesIn, namesIn, after, read, run, unread, readingOf, formOf}
+use Rattle.text_meaning.specs.Reading.{Reading, fieldFor, grown, linesIn, namesIn, readingAfter, read, readAll, unread, readingOf, formOf}
 use Rattle.text_meaning.specs.declared.Control.{Control}
 use Rattle.text_meaning.specs.declared.Mark.{Mark}
 use Rattle.text_meaning.proofs.Bounds.{either, value-few, kind-small}
@@ -57,10 +57,10 @@ pub record Sound (p : Reading) : Type 0 where
   pub names : length (p .names) ≤ most-variables
   pub kind : p .control .kind ≤ 5
 
-field-fits : (w : List ℕ) (ns : List (List ℕ)) → length ns ≤ most-variables → fits (fieldOf (markOf w) w ns) ≡ true
+field-fits : (w : List ℕ) (ns : List (List ℕ)) → length ns ≤ most-variables → fits (fieldFor (tokenMark w) w ns) ≡ true
 field-fits w ns h =
     let a = place-few w ns in
-    either (λ z. fits z ≡ true) (eqb (markOf w .kind) 97) (lt-ltb (suc (placeIn w ns)) field-minus-end (omega arith)) (lt-ltb (markOf w .value) field-end (value-few w))
+    either (λ z. fits z ≡ true) (eqb (tokenMark w .kind) 97) (lt-ltb (suc (placeIn w ns)) field-minus-end (omega arith)) (lt-ltb (tokenMark w .value) field-end (value-few w))
 
 grown-good : (z : ℤ) (ls : List Line) → fits z ≡ true → Goods ls → Goods (grown z ls)
 unfolding grown
@@ -73,19 +73,19 @@ module _ (p : Reading) (s : Sound p) (w : List ℕ) where
   read-sound : Sound (read p w)
   unfolding read
   read-sound =
-      let k = kind-small (p .control) (markOf w) (s .kind) in
-      let d = step (p .control) (markOf w) in
-      let m = markOf w in
+      let k = kind-small (p .control) (tokenMark w) (s .kind) in
+      let d = step (p .control) (tokenMark w) in
+      let m = tokenMark w in
       let n = either FewNames (d .begins && ltb (d .kind) 4) {x = []} {y = p .names} (omega arith) (s .names) in
       let l = either Goods (d .begins) {x = (pos (d .kind) ∷ []) ∷ p .lines} {y = p .lines} (record { few = omega arith; fitting = and-both (ltb (d .kind) field-end) true (lt-ltb (d .kind) field-end (omega arith)) refl }, s .lines) (s .lines) in
       record {
-        lines = either Goods (d .puts) (grown-good (fieldOf m w (namesIn d (p .names))) (linesIn d (p .lines)) (field-fits w (namesIn d (p .names)) n) l) l;
+        lines = either Goods (d .puts) (grown-good (fieldFor m w (namesIn d (p .names))) (linesIn d (p .lines)) (field-fits w (namesIn d (p .names)) n) l) l;
         names = either FewNames (d .puts && eqb (m .kind) 97) {x = noted w (namesIn d (p .names))} {y = namesIn d (p .names)} (noted-few w (namesIn d (p .names)) n) n;
         kind = k;
       }
 
-pub run-sound : (p : Reading) (ws : List (List ℕ)) → Sound p → Sound (run p ws)
-unfolding run
+pub run-sound : (p : Reading) (ws : List (List ℕ)) → Sound p → Sound (readAll p ws)
+unfolding readAll
 run-sound p [] s = s
 run-sound p (w ∷ ws) s = let r = read-sound p s w in either Sound (eqb (read p w .control .expected) 0) (run-sound (read p w) ws r) r
 

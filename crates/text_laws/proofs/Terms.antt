@@ -19,10 +19,10 @@ use Rattle.sheet_format.proofs.Lists.{no-way, true-false, and-left, and-right}
 use Rattle.text_begins.specs.Begins.{isBlank}
 use Rattle.text_writer.specs.Texts.{variableLetter, wordBytes, termBytes}
 use Rattle.text_writer.proofs.Parts.{letter-at}
-use Rattle.text_meaning.specs.Tokens.{kindOf, isInWord, joins, tokens}
-use Rattle.text_meaning.specs.Names.{sameBytes, noted, placeIn, numberOf, markOf}
-use Rattle.text_meaning.specs.Reading.{Reading, fieldOf, read, run}
-use Rattle.text_laws.specs.Numbered.{placeOf, known, numberedTerm, knownAfter, knownBehind}
+use Rattle.text_meaning.specs.Tokens.{tokenKind, isInWord, joins, tokens}
+use Rattle.text_meaning.specs.Names.{sameBytes, noted, placeIn, numberNamed, tokenMark}
+use Rattle.text_meaning.specs.Reading.{Reading, fieldFor, read, readAll}
+use Rattle.text_laws.specs.Numbered.{placeAmong, known, numberedTerm, knownAfter, knownBehind}
 use Rattle.text_laws.proofs.Few.{Fresh, Different, different-more, few}
 use Rattle.text_laws.proofs.Written.{Stops, GoOn, Shows, token-back, digit-kind, digits-go-on, number-shows, number-back}
 
@@ -30,23 +30,23 @@ use Rattle.text_laws.proofs.Written.{Stops, GoOn, Shows, token-back, di
 
 -- the rest of a text
 abbrev pub reads : Reading → List ℕ → Reading
-reads p s = run p (tokens s ++ ([] ∷ []))
+reads p s = readAll p (tokens s ++ ([] ∷ []))
 
 -- a token that fits leads on
-run-on : (p q : Reading) (w : List ℕ) (ws : List (List ℕ)) → read p w ≡ q → q .control .expected ≡ 0 → run p (w ∷ ws) ≡ run q ws
-unfolding run
+run-on : (p q : Reading) (w : List ℕ) (ws : List (List ℕ)) → read p w ≡ q → q .control .expected ≡ 0 → readAll p (w ∷ ws) ≡ readAll q ws
+unfolding readAll
 run-on p q w ws e f = rw (e, eq-eqb (q .control .expected) 0 f)
 
-pub word-on : (p q : Reading) (a : ℕ) (w s : List ℕ) → isBlank a ≡ false → GoOn (kindOf a) w → Stops (kindOf a) s → read p (a ∷ w) ≡ q → q .control .expected ≡ 0 → reads p ((a ∷ w) ++ s) ≡ reads q s
-word-on p q a w s b g k e f = ap (λ ts. run p (ts ++ ([] ∷ []))) (token-back a w s b g k) ∙ run-on p q (a ∷ w) (tokens s ++ ([] ∷ [])) e f
+pub word-on : (p q : Reading) (a : ℕ) (w s : List ℕ) → isBlank a ≡ false → GoOn (tokenKind a) w → Stops (tokenKind a) s → read p (a ∷ w) ≡ q → q .control .expected ≡ 0 → reads p ((a ∷ w) ++ s) ≡ reads q s
+word-on p q a w s b g k e f = ap (λ ts. readAll p (ts ++ ([] ∷ []))) (token-back a w s b g k) ∙ run-on p q (a ∷ w) (tokens s ++ ([] ∷ [])) e f
 
 no-join : (k : ℕ) (s : List ℕ) → ((n : ℕ) → joins k n ≡ false) → Stops k s
 no-join k [] h = tt
-no-join k (b ∷ s) h = h (kindOf b)
+no-join k (b ∷ s) h = h (tokenKind b)
 
 -- a sign is a token by itself
-pub sign-on : (p q : Reading) (b : ℕ) (s : List ℕ) → isBlank b ≡ false → ((n : ℕ) → joins (kindOf b) n ≡ false) → read p (b ∷ []) ≡ q → q .control .expected ≡ 0 → reads p (b ∷ s) ≡ reads q s
-sign-on p q b s k h e f = word-on p q b [] s k tt (no-join (kindOf b) s h) e f
+pub sign-on : (p q : Reading) (b : ℕ) (s : List ℕ) → isBlank b ≡ false → ((n : ℕ) → joins (tokenKind b) n ≡ false) → read p (b ∷ []) ≡ q → q .control .expected ≡ 0 → reads p (b ∷ s) ≡ reads q s
+sign-on p q b s k h e f = word-on p q b [] s k tt (no-join (tokenKind b) s h) e f
 
 -- and ends what comes before it
 pub ended : (k n : ℕ) → isInWord n ≡ false → joins k n ≡ false
@@ -82,38 +82,38 @@ same-letter v k h l = rw (letter-is v h, letter-is k l) (by (eqb v k) refl)
     by true e = let q = eqb-true v k e in rw (e, eq-eqb (97 + v) (97 + k) (omega arith))
     by false e = let q = eqb-false v k e in rw (e, ne-eqb (97 + v) (97 + k) (λ i. q (omega arith)))
 
-place-letter : (v : ℕ) (ks : List ℕ) → v < most-variables → Below ks → placeIn (letterFor v) (letters ks) ≡ placeOf v ks
-unfolding placeIn placeOf
+place-letter : (v : ℕ) (ks : List ℕ) → v < most-variables → Below ks → placeIn (letterFor v) (letters ks) ≡ placeAmong v ks
+unfolding placeIn placeAmong
 place-letter v [] h b = refl
 place-letter v (k ∷ ks) h b = rw (same-letter v k h (b .0), place-letter v ks h (b .2))
 
 -- a new one is none of them
-pub new-fresh : (v : ℕ) (ks : List ℕ) → length ks ≤ placeOf v ks → Fresh v ks
-unfolding placeOf
+pub new-fresh : (v : ℕ) (ks : List ℕ) → length ks ≤ placeAmong v ks → Fresh v ks
+unfolding placeAmong
 new-fresh v [] h = tt
 new-fresh v (k ∷ ks) h = by (eqb v k) refl h (new-fresh v ks)
   where
-    by : (t : Bool) → eqb v k ≡ t → suc (length ks) ≤ cond t 0 (suc (placeOf v ks)) → (length ks ≤ placeOf v ks → Fresh v ks) → Fresh v (k ∷ ks)
+    by : (t : Bool) → eqb v k ≡ t → suc (length ks) ≤ cond t 0 (suc (placeAmong v ks)) → (length ks ≤ placeAmong v ks → Fresh v ks) → Fresh v (k ∷ ks)
     by true e h r = absurd (omega arith)
     by false e h r = (eqb-false v k e, r (omega arith))
 
 noted-letter : (v : ℕ) (ks : List ℕ) → v < most-variables → Below ks → noted (letterFor v) (letters ks) ≡ letters (known v ks)
 unfolding noted known
-noted-letter v ks h b = rw (place-letter v ks h b, length-map ks letterFor) (by (ltb (placeOf v ks) (length ks)) refl)
+noted-letter v ks h b = rw (place-letter v ks h b, length-map ks letterFor) (by (ltb (placeAmong v ks) (length ks)) refl)
   where
-    by : (t : Bool) → ltb (placeOf v ks) (length ks) ≡ t → cond t (letters ks) (cond (leb most-variables (length ks)) (letters ks) (letters ks ++ (letterFor v ∷ []))) ≡ letters (cond t ks (ks ++ (v ∷ [])))
+    by : (t : Bool) → ltb (placeAmong v ks) (length ks) ≡ t → cond t (letters ks) (cond (leb most-variables (length ks)) (letters ks) (letters ks ++ (letterFor v ∷ []))) ≡ letters (cond t ks (ks ++ (v ∷ [])))
     by true e = refl
     by false e =
-        let l = few most-variables (v ∷ ks) (h, new-fresh v ks (ltb-false (placeOf v ks) (length ks) e), b) in
+        let l = few most-variables (v ∷ ks) (h, new-fresh v ks (ltb-false (placeAmong v ks) (length ks) e), b) in
         rw (lt-leb most-variables (length ks) (omega arith)) (sym (map-append letterFor ks (v ∷ [])))
 
 known-below : (v : ℕ) (ks : List ℕ) → v < most-variables → Below ks → Below (known v ks)
 unfolding known
-known-below v ks h b = by (ltb (placeOf v ks) (length ks)) refl
+known-below v ks h b = by (ltb (placeAmong v ks) (length ks)) refl
   where
-    by : (t : Bool) → ltb (placeOf v ks) (length ks) ≡ t → Below (cond t ks (ks ++ (v ∷ [])))
+    by : (t : Bool) → ltb (placeAmong v ks) (length ks) ≡ t → Below (cond t ks (ks ++ (v ∷ [])))
     by true e = b
-    by false e = different-more most-variables v ks b (new-fresh v ks (ltb-false (placeOf v ks) (length ks) e)) h
+    by false e = different-more most-variables v ks b (new-fresh v ks (ltb-false (placeAmong v ks) (length ks) e)) h
 
 -- ---- a term
 
@@ -128,24 +128,24 @@ pub record Token (z : ℤ) (ks : List ℕ) : Type 0 where
   pub more : List ℕ
   pub bytes : termBytes z ≡ first ∷ more
   pub apart : isBlank first ≡ false
-  pub on : GoOn (kindOf first) more
-  pub kind : markOf (first ∷ more) .kind ≡ termKind z
-  pub is : (markOf (first ∷ more) .kind ≡ 48) ⊎ (markOf (first ∷ more) .kind ≡ 97)
-  pub field : fieldOf (markOf (first ∷ more)) (first ∷ more) (letters ks) ≡ numberedTerm ks z
-  pub names : cond (eqb (markOf (first ∷ more) .kind) 97) (noted (first ∷ more) (letters ks)) (letters ks) ≡ letters (knownAfter ks z)
+  pub on : GoOn (tokenKind first) more
+  pub kind : tokenMark (first ∷ more) .kind ≡ termKind z
+  pub is : (tokenMark (first ∷ more) .kind ≡ 48) ⊎ (tokenMark (first ∷ more) .kind ≡ 97)
+  pub field : fieldFor (tokenMark (first ∷ more)) (first ∷ more) (letters ks) ≡ numberedTerm ks z
+  pub names : cond (eqb (tokenMark (first ∷ more) .kind) 97) (noted (first ∷ more) (letters ks)) (letters ks) ≡ letters (knownAfter ks z)
   pub below : Below (knownAfter ks z)
 
 not-blank : (a : ℕ) → 32 < a → isBlank a ≡ false
 not-blank a h = rw (ne-eqb a 32 (λ e. omega arith), ne-eqb a 9 (λ e. omega arith), ne-eqb a 13 (λ e. omega arith))
 
 number-token : (n : ℕ) (ks : List ℕ) → n < constant-end → Below ks → Token (pos n) ks
-unfolding markOf termBytes termOf
+unfolding tokenMark termBytes termOf
 number-token n ks h b = by (wordBytes (pos n)) refl (number-shows n (omega arith)) (number-back n (omega arith))
   where
     written : termBytes (pos n) ≡ wordBytes (pos n)
     written = rw (lt-ltb n constant-end h)
 
-    by : (w : List ℕ) → wordBytes (pos n) ≡ w → Shows n w → numberOf w ≡ n → Token (pos n) ks
+    by : (w : List ℕ) → wordBytes (pos n) ≡ w → Shows n w → numberNamed w ≡ n → Token (pos n) ks
     by [] e s v = absurd (let k = s .some in omega arith)
     by (a ∷ w) e s v =
         let k = digit-kind a (s .digits .0) (s .digits .1) in
@@ -162,12 +162,12 @@ number-token n ks h b = by (wordBytes (pos n)) refl (number-shows n (omega arith
           below = b;
         }
 
-letter-kind : (v : ℕ) → v < most-variables → kindOf (variableLetter (suc v)) ≡ 97
-unfolding kindOf
+letter-kind : (v : ℕ) → v < most-variables → tokenKind (variableLetter (suc v)) ≡ 97
+unfolding tokenKind
 letter-kind v h = rw (letter-is v h, le-leb 97 (97 + v) (omega arith), le-leb (97 + v) (96 + 26) (omega arith))
 
 letter-token : (v : ℕ) (ks : List ℕ) → v < most-variables → Below ks → Token (negsuc v) ks
-unfolding markOf termBytes termOf
+unfolding tokenMark termBytes termOf
 letter-token v ks h b =
     let k = letter-kind v h in
     record {

@@ -13,10 +13,10 @@ use Rattle.sheet_format.specs.Limits.{most-fields}
 use Rattle.sheet_format.specs.Line.{Line}
 use Rattle.sheet_format.specs.Table.{columnsOf, relation, ten}
 use Rattle.text_begins.specs.Begins.{letterOf}
-use Rattle.text_meaning.specs.Names.{markOf}
-use Rattle.text_meaning.specs.Places.{goes, fails, columnsIn, nextBlock, startAt, commentAt, openAt, termAt, isCounted, moreAt, closedBy, closeAt, firstAt, rowEndAt, nextAt, colonAt, relationAt, atomEndAt, rowAt, rowsAt, stepFrom, step}
+use Rattle.text_meaning.specs.Names.{tokenMark}
+use Rattle.text_meaning.specs.Places.{goes, fails, columnsIn, nextBlock, startAt, commentAt, openAt, termExpected, isCounted, moreAt, closedBy, closeAt, firstAt, rowEndAt, nextAt, colonAt, relationAt, atomEndAt, rowExpected, rowsAt, stepFrom, step}
 use Rattle.text_meaning.specs.Tokens.{tokens}
-use Rattle.text_meaning.specs.Reading.{Reading, fieldOf, namesIn, linesIn, grown, read, run, unread, readingOf}
+use Rattle.text_meaning.specs.Reading.{Reading, fieldFor, namesIn, linesIn, grown, read, readAll, unread, readingOf}
 use Rattle.text_meaning.specs.declared.Control.{Control}
 use Rattle.text_meaning.specs.declared.Mark.{Mark}
 use Rattle.text_meaning.proofs.Bounds.{either}
@@ -78,8 +78,8 @@ module _ (c : Control) (m : Mark) (n : ℕ) (r : Room c n) where
       (either Leaves (eqb (m .kind) 35) (goes-room 1 (omega arith))
       (either Leaves (eqb (m .letter) (letterOf (nextBlock (c .block) (m .letter)))) (record { some = omega arith; all = omega arith }) (fails-room (nextBlock (c .block) (m .letter)))))
 
-  term-room : 2 ≤ c .place → c .place ≤ 4 → (what : ℕ) → Leaves (termAt c m what)
-  unfolding termAt
+  term-room : 2 ≤ c .place → c .place ≤ 4 → (what : ℕ) → Leaves (termExpected c m what)
+  unfolding termExpected
   term-room a b what =
       let s = r .some a b in
       let l = r .all in
@@ -102,8 +102,8 @@ module _ (c : Control) (m : Mark) (n : ℕ) (r : Room c n) where
   unfolding rowEndAt
   row-end-room what = either Leaves (eqb (m .kind) 59) (goes-room 10 (omega arith)) (either Leaves (eqb (m .kind) 10) (goes-room 0 (omega arith)) (fails-room what))
 
-  row-room : (what : ℕ) → Leaves (rowAt c m what)
-  unfolding rowAt
+  row-room : (what : ℕ) → Leaves (rowExpected c m what)
+  unfolding rowExpected
   row-room what = either Leaves (eqb (m .kind) 40) (record { some = omega arith; all = omega arith }) (either Leaves (eqb (m .kind) 48) (record { some = omega arith; all = omega arith }) (fails-room what))
 
   relation-room : Leaves (relationAt c m)
@@ -164,33 +164,33 @@ grown-room c z (l ∷ ls) r =
 module _ (p : Reading) (h : Whole p) (w : List ℕ) where
   read-whole : Whole (read p w)
   unfolding read
-  read-whole = record { room = by (d .puts) (d .begins) (step-room (p .control) (markOf w) (lastFields (p .lines)) (h .room)) }
+  read-whole = record { room = by (d .puts) (d .begins) (step-room (p .control) (tokenMark w) (lastFields (p .lines)) (h .room)) }
     where
       d : Control
-      d = step (p .control) (markOf w)
+      d = step (p .control) (tokenMark w)
 
       z : ℤ
-      z = fieldOf (markOf w) w (namesIn (step (p .control) (markOf w)) (p .names))
+      z = fieldFor (tokenMark w) w (namesIn (step (p .control) (tokenMark w)) (p .names))
 
       by : (a b : Bool)
-          → Room (step (p .control) (markOf w)) (cond a (suc (cond b 1 (lastFields (p .lines)))) (cond b 1 (lastFields (p .lines))))
-          → Room (step (p .control) (markOf w)) (lastFields (cond a (grown z (cond b ((pos (step (p .control) (markOf w) .kind) ∷ []) ∷ p .lines) (p .lines))) (cond b ((pos (step (p .control) (markOf w) .kind) ∷ []) ∷ p .lines) (p .lines))))
-      by true true r = grown-room (step (p .control) (markOf w)) z ((pos (step (p .control) (markOf w) .kind) ∷ []) ∷ p .lines) r
-      by true false r = grown-room (step (p .control) (markOf w)) z (p .lines) r
+          → Room (step (p .control) (tokenMark w)) (cond a (suc (cond b 1 (lastFields (p .lines)))) (cond b 1 (lastFields (p .lines))))
+          → Room (step (p .control) (tokenMark w)) (lastFields (cond a (grown z (cond b ((pos (step (p .control) (tokenMark w) .kind) ∷ []) ∷ p .lines) (p .lines))) (cond b ((pos (step (p .control) (tokenMark w) .kind) ∷ []) ∷ p .lines) (p .lines))))
+      by true true r = grown-room (step (p .control) (tokenMark w)) z ((pos (step (p .control) (tokenMark w) .kind) ∷ []) ∷ p .lines) r
+      by true false r = grown-room (step (p .control) (tokenMark w)) z (p .lines) r
       by false true r = r
       by false false r = r
 
   -- the field that a token puts is never cut off
-  pub put-whole : (z : ℤ) → step (p .control) (markOf w) .puts ≡ true → grown z (linesIn (step (p .control) (markOf w)) (p .lines)) ≡ longer z (linesIn (step (p .control) (markOf w)) (p .lines))
-  put-whole z e = by (step (p .control) (markOf w) .begins) (rw e at (step-room (p .control) (markOf w) (lastFields (p .lines)) (h .room) .all))
+  pub put-whole : (z : ℤ) → step (p .control) (tokenMark w) .puts ≡ true → grown z (linesIn (step (p .control) (tokenMark w)) (p .lines)) ≡ longer z (linesIn (step (p .control) (tokenMark w)) (p .lines))
+  put-whole z e = by (step (p .control) (tokenMark w) .begins) (rw e at (step-room (p .control) (tokenMark w) (lastFields (p .lines)) (h .room) .all))
     where
-      by : (b : Bool) → suc (cond b 1 (lastFields (p .lines))) + step (p .control) (markOf w) .left ≤ most-fields
-          → grown z (cond b ((pos (step (p .control) (markOf w) .kind) ∷ []) ∷ p .lines) (p .lines)) ≡ longer z (cond b ((pos (step (p .control) (markOf w) .kind) ∷ []) ∷ p .lines) (p .lines))
-      by true r = uncut z ((pos (step (p .control) (markOf w) .kind) ∷ []) ∷ p .lines) (omega arith)
+      by : (b : Bool) → suc (cond b 1 (lastFields (p .lines))) + step (p .control) (tokenMark w) .left ≤ most-fields
+          → grown z (cond b ((pos (step (p .control) (tokenMark w) .kind) ∷ []) ∷ p .lines) (p .lines)) ≡ longer z (cond b ((pos (step (p .control) (tokenMark w) .kind) ∷ []) ∷ p .lines) (p .lines))
+      by true r = uncut z ((pos (step (p .control) (tokenMark w) .kind) ∷ []) ∷ p .lines) (omega arith)
       by false r = uncut z (p .lines) (omega arith)
 
-pub run-whole : (p : Reading) (ws : List (List ℕ)) → Whole p → Whole (run p ws)
-unfolding run
+pub run-whole : (p : Reading) (ws : List (List ℕ)) → Whole p → Whole (readAll p ws)
+unfolding readAll
 run-whole p [] h = h
 run-whole p (w ∷ ws) h = let r = read-whole p h w in either Whole (eqb (read p w .control .expected) 0) (run-whole (read p w) ws r) r
 

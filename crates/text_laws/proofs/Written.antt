@@ -15,29 +15,29 @@ use Rattle.sheet_format.specs.Field.{lead, decimal, fieldBytes}
 use Rattle.sheet_format.proofs.Lists.{append-nil}
 use Rattle.text_begins.specs.Begins.{isBlank}
 use Rattle.text_writer.specs.Texts.{withoutBlanks, wordBytes, relationNames, relationBytes}
-use Rattle.text_meaning.specs.Tokens.{kindOf, joins, goesOn, behind, tokens}
-use Rattle.text_meaning.specs.Names.{sameBytes, longer, numberFrom, numberOf, among, relationOf}
+use Rattle.text_meaning.specs.Tokens.{tokenKind, joins, goesOn, behind, tokens}
+use Rattle.text_meaning.specs.Names.{sameBytes, numberLonger, numberFrom, numberNamed, among, relationNamed}
 
 -- ---- tokens
 
 -- the first of some bytes does not go on with a token of kind k
 abbrev pub Stops : ℕ → List ℕ → Type 0
 Stops k [] = Unit
-Stops k (b ∷ s) = joins k (kindOf b) ≡ false
+Stops k (b ∷ s) = joins k (tokenKind b) ≡ false
 
 -- every byte goes on with a token of kind k
 abbrev pub GoOn : ℕ → List ℕ → Type 0
 GoOn k [] = Unit
-GoOn k (b ∷ s) = (joins k (kindOf b) ≡ true) × GoOn k s
+GoOn k (b ∷ s) = (joins k (tokenKind b) ≡ true) × GoOn k s
 
-behind-word : (a : ℕ) (u w s : List ℕ) → GoOn (kindOf a) w → Stops (kindOf a) s → behind (a ∷ u) (w ++ s) ≡ (a ∷ (u ++ w)) ∷ tokens s
+behind-word : (a : ℕ) (u w s : List ℕ) → GoOn (tokenKind a) w → Stops (tokenKind a) s → behind (a ∷ u) (w ++ s) ≡ (a ∷ (u ++ w)) ∷ tokens s
 unfolding behind goesOn
 behind-word a u [] [] h k = ap (λ x. (a ∷ x) ∷ []) (sym (append-nil u))
 behind-word a u [] (b ∷ s) h k = rw k (ap (λ x. (a ∷ x) ∷ tokens (b ∷ s)) (sym (append-nil u)))
 behind-word a u (b ∷ w) s h k = rw (h .0) (behind-word a (u ++ (b ∷ [])) w s (h .1) k ∙ ap (λ x. (a ∷ x) ∷ tokens s) (append-assoc u (b ∷ []) w))
 
 -- bytes that go on with the first, before one that does not, are a token
-pub token-back : (a : ℕ) (w s : List ℕ) → isBlank a ≡ false → GoOn (kindOf a) w → Stops (kindOf a) s → tokens ((a ∷ w) ++ s) ≡ (a ∷ w) ∷ tokens s
+pub token-back : (a : ℕ) (w s : List ℕ) → isBlank a ≡ false → GoOn (tokenKind a) w → Stops (tokenKind a) s → tokens ((a ∷ w) ++ s) ≡ (a ∷ w) ∷ tokens s
 unfolding behind goesOn
 token-back a w s b h k = rw b (behind-word a [] w s h k)
 
@@ -47,8 +47,8 @@ abbrev pub Digits : List ℕ → Type 0
 Digits [] = Unit
 Digits (b ∷ s) = (48 ≤ b) × (b < 58) × Digits s
 
-pub digit-kind : (b : ℕ) → 48 ≤ b → b < 58 → kindOf b ≡ 48
-unfolding kindOf
+pub digit-kind : (b : ℕ) → 48 ≤ b → b < 58 → tokenKind b ≡ 48
+unfolding tokenKind
 digit-kind b l h = rw (lt-leb 97 b (omega arith), lt-leb 65 b (omega arith), le-leb 48 b l, le-leb b 57 (omega arith))
 
 -- digits go on with a number
@@ -67,13 +67,13 @@ digits-more : (s : List ℕ) (b : ℕ) → Digits s → 48 ≤ b → b < 58 → 
 digits-more [] b d l h = (l, h, tt)
 digits-more (x ∷ s) b d l h = (d .0, d .1, digits-more s b (d .2) l h)
 
-number-more : (n : ℕ) (s : List ℕ) (b : ℕ) → numberFrom n (s ++ (b ∷ [])) ≡ longer (numberFrom n s) b
+number-more : (n : ℕ) (s : List ℕ) (b : ℕ) → numberFrom n (s ++ (b ∷ [])) ≡ numberLonger (numberFrom n s) b
 unfolding numberFrom
 number-more n [] b = refl
-number-more n (x ∷ s) b = number-more (longer n x) s b
+number-more n (x ∷ s) b = number-more (numberLonger n x) s b
 
-last-digit : (n b : ℕ) → n < field-end / 10 → b < 10 → longer n (48 + b) ≡ n * 10 + b
-unfolding longer
+last-digit : (n b : ℕ) → n < field-end / 10 → b < 10 → numberLonger n (48 + b) ≡ n * 10 + b
+unfolding numberLonger
 last-digit n b h l =
     let e : 48 + b - 48 ≡ b = omega arith in
     rw (le-leb 48 (48 + b) (omega arith), le-leb (48 + b) 57 (omega arith), lt-ltb n (field-end / 10) h, e)
@@ -126,7 +126,7 @@ more-shows k v l h r =
     let n : v / 10 * 10 + v % 10 ≡ v = omega arith in
     rw w (record {
       digits = digits-more D (48 + v % 10) (r .digits) (omega arith) (omega arith);
-      value = number-more 0 D (48 + v % 10) ∙ ap (λ n. longer n (48 + v % 10)) (r .value) ∙ q ∙ n;
+      value = number-more 0 D (48 + v % 10) ∙ ap (λ n. numberLonger n (48 + v % 10)) (r .value) ∙ q ∙ n;
       some = rw (length-append D ((48 + v % 10) ∷ [])) (omega arith);
     })
 
@@ -143,7 +143,7 @@ unfolding wordBytes
 number-shows n h = decimal-shows 8 n
     (short 7 n (λ _. short 6 (n / 10) (λ _. short 5 (n / 10 / 10) (λ _. short 4 (n / 10 / 10 / 10) (λ _. short 3 (n / 10 / 10 / 10 / 10) (λ _. short 2 (n / 10 / 10 / 10 / 10 / 10) (λ _. short 1 (n / 10 / 10 / 10 / 10 / 10 / 10) (λ _. inl (omega arith))))))))) h
 
-pub number-back : (n : ℕ) → n < field-end → numberOf (wordBytes (pos n)) ≡ n
+pub number-back : (n : ℕ) → n < field-end → numberNamed (wordBytes (pos n)) ≡ n
 number-back n h = let e = number-shows n h .value in rw e (omega arith)
 
 -- ---- relations
@@ -155,15 +155,15 @@ no-name [] d h = absurd (omega arith)
 no-name (b ∷ s) d h = rw (ne-eqb b 111 (λ e. let l = d .1 in omega arith))
 
 -- one beyond the ten is read by its number
-pub far-back : (r : ℕ) → 10 < r → r < field-end → relationOf (82 ∷ wordBytes (pos r)) ≡ r
-unfolding relationOf
+pub far-back : (r : ℕ) → 10 < r → r < field-end → relationNamed (82 ∷ wordBytes (pos r)) ≡ r
+unfolding relationNamed
 far-back r l h =
     let n = number-shows r h in
     rw (no-name (wordBytes (pos r)) (n .digits) (n .some), n .value, lt-ltb 10 r l, lt-ltb r field-end h)
 
 -- each of the ten is read by the name that it is written with
-pub relation-back : (r : ℕ) → 0 < r → r ≤ 10 → relationOf (relationBytes r) ≡ r
-unfolding relationOf relationBytes among sameBytes
+pub relation-back : (r : ℕ) → 0 < r → r ≤ 10 → relationNamed (relationBytes r) ≡ r
+unfolding relationNamed relationBytes among sameBytes
 relation-back zero l h = absurd (omega arith)
 relation-back (suc zero) l h = refl
 relation-back (suc (suc zero)) l h = refl

@@ -10,18 +10,18 @@ use Rattle.sheet_format.specs.Line.{Line, byteLines}
 use Rattle.sheet_format.specs.Cause.{kind, rest, terms, isHead, isAtom}
 
 -- the place of a variable among those that came before it, from 0; their count where it is new
-unfoldable pub placeOf : ℕ → List ℕ → ℕ
-placeOf v [] = 0
-placeOf v (k ∷ ks) = cond (eqb v k) 0 (suc (placeOf v ks))
+unfoldable pub placeAmong : ℕ → List ℕ → ℕ
+placeAmong v [] = 0
+placeAmong v (k ∷ ks) = cond (eqb v k) 0 (suc (placeAmong v ks))
 
 -- those that came before, and one more where it is new
 unfoldable pub known : ℕ → List ℕ → List ℕ
-known v ks = cond (ltb (placeOf v ks) (length ks)) ks (ks ++ (v ∷ []))
+known v ks = cond (ltb (placeAmong v ks) (length ks)) ks (ks ++ (v ∷ []))
 
 -- a term, and what is known after it
 abbrev pub numberedTerm : List ℕ → ℤ → ℤ
 numberedTerm ks (pos n) = pos n
-numberedTerm ks (negsuc v) = negsuc (placeOf v ks)
+numberedTerm ks (negsuc v) = negsuc (placeAmong v ks)
 
 abbrev pub knownAfter : List ℕ → ℤ → List ℕ
 knownAfter ks (pos n) = ks

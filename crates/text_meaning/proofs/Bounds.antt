@@ -10,9 +10,9 @@ use borrow.Author.Tests.{ltb-true}
 use Rattle.sheet_format.specs.Limits.{field-end}
 use Rattle.text_writer.specs.Texts.{relationNames}
 use Rattle.text_begins.specs.Begins.{letterOf}
-use Rattle.text_meaning.specs.Names.{sameBytes, numberFrom, among, beyond, relationOf, markOf}
-use Rattle.text_meaning.specs.Tokens.{kindOf}
-use Rattle.text_meaning.specs.Places.{nextBlock, startAt, commentAt, openAt, termAt, isCounted, moreAt, closedBy, closeAt, firstAt, rowEndAt, nextAt, colonAt, relationAt, atomEndAt, rowAt, rowsAt, stepFrom, step}
+use Rattle.text_meaning.specs.Names.{sameBytes, numberFrom, among, beyond, relationNamed, tokenMark}
+use Rattle.text_meaning.specs.Tokens.{tokenKind}
+use Rattle.text_meaning.specs.Places.{nextBlock, startAt, commentAt, openAt, termExpected, isCounted, moreAt, closedBy, closeAt, firstAt, rowEndAt, nextAt, colonAt, relationAt, atomEndAt, rowExpected, rowsAt, stepFrom, step}
 use Rattle.text_meaning.specs.declared.Control.{Control}
 use Rattle.text_meaning.specs.declared.Mark.{Mark}
 
@@ -44,19 +44,19 @@ beyond-few (a ∷ s) = by (eqb a 82) (ltb 10 n) (ltb n field-end) refl
     by true false v e = omega arith
     by false u v e = omega arith
 
-relation-few : (w : List ℕ) → Few (relationOf w)
-unfolding relationOf
+relation-few : (w : List ℕ) → Few (relationNamed w)
+unfolding relationNamed
 relation-few w = let a = among-few w 1 relationNames in either Few (eqb (among w 1 relationNames) 0) (beyond-few w) (omega arith)
 
 -- the number of a mark fits a field
-pub value-few : (w : List ℕ) → Few (markOf w .value)
-unfolding markOf
+pub value-few : (w : List ℕ) → Few (tokenMark w .value)
+unfolding tokenMark
 value-few [] = omega arith
-value-few (b ∷ w) = either Few (eqb (kindOf b) 48) (omega arith) (either Few (eqb (kindOf b) 65) (relation-few (b ∷ w)) (omega arith))
+value-few (b ∷ w) = either Few (eqb (tokenKind b) 48) (omega arith) (either Few (eqb (tokenKind b) 65) (relation-few (b ∷ w)) (omega arith))
 
 -- a variable has bytes
-pub variable-some : (w : List ℕ) → markOf w .kind ≡ 97 → 0 < length w
-unfolding markOf
+pub variable-some : (w : List ℕ) → tokenMark w .kind ≡ 97 → 0 < length w
+unfolding tokenMark
 variable-some [] e = absurd (omega arith)
 variable-some (b ∷ w) e = omega arith
 
@@ -75,8 +75,8 @@ module _ (c : Control) (h : Small c) (m : Mark) where
   unfolding startAt
   start-small = either Small (eqb (m .kind) 10) h (either Small (eqb (m .kind) 35) h (either Small (eqb (m .letter) (letterOf (nextBlock (c .block) (m .letter)))) (next-few (c .block) (m .letter)) h))
 
-  term-small : (what : ℕ) → Small (termAt c m what)
-  unfolding termAt
+  term-small : (what : ℕ) → Small (termExpected c m what)
+  unfolding termExpected
   term-small what = either Small (eqb (m .kind) 48 || eqb (m .kind) 97) h h
 
   more-small : Small (moreAt c)
@@ -93,8 +93,8 @@ module _ (c : Control) (h : Small c) (m : Mark) where
   unfolding rowEndAt
   row-end-small what = either Small (eqb (m .kind) 59) h (either Small (eqb (m .kind) 10) h h)
 
-  row-small : (what : ℕ) → Small (rowAt c m what)
-  unfolding rowAt
+  row-small : (what : ℕ) → Small (rowExpected c m what)
+  unfolding rowExpected
   row-small what = either Small (eqb (m .kind) 40) (omega arith) (either Small (eqb (m .kind) 48) (omega arith) h)
 
   from-small : (p : ℕ) → Small (stepFrom p c m)

@@ -6,7 +6,7 @@ use lib.Dec.{eqb, ltb, leb}
 use lib.ListN.{length}
 use Rattle.sheet_format.specs.Limits.{field-end, most-variables}
 use Rattle.text_writer.specs.Texts.{relationNames}
-use Rattle.text_meaning.specs.Tokens.{between, kindOf}
+use Rattle.text_meaning.specs.Tokens.{between, tokenKind}
 use Rattle.text_meaning.specs.declared.Mark.{Mark}
 
 unfoldable pub sameBytes : List ℕ → List ℕ → Bool
@@ -18,16 +18,16 @@ sameBytes (a ∷ w) (b ∷ s) = eqb a b && sameBytes w s
 -- ---- numbers
 
 -- a number with one digit more; what is no digit, or is one too many for a field, leads out of every field
-unfoldable pub longer : ℕ → ℕ → ℕ
-longer n b = cond (between 48 57 b && ltb n (field-end / 10)) (n * 10 + (b - 48)) field-end
+unfoldable pub numberLonger : ℕ → ℕ → ℕ
+numberLonger n b = cond (between 48 57 b && ltb n (field-end / 10)) (n * 10 + (b - 48)) field-end
 
 unfoldable pub numberFrom : ℕ → List ℕ → ℕ
 numberFrom n [] = n
-numberFrom n (b ∷ s) = numberFrom (longer n b) s
+numberFrom n (b ∷ s) = numberFrom (numberLonger n b) s
 
 -- the number of digits; the largest that fits a field where it is larger, which no sheet takes for a constant
-abbrev pub numberOf : List ℕ → ℕ
-numberOf s = min (numberFrom 0 s) (field-end - 1)
+abbrev pub numberNamed : List ℕ → ℕ
+numberNamed s = min (numberFrom 0 s) (field-end - 1)
 
 -- ---- relations
 
@@ -41,12 +41,12 @@ abbrev pub beyond : List ℕ → ℕ
 beyond [] = 0
 beyond (a ∷ s) = cond (eqb a 82 && (ltb 10 (numberFrom 0 s) && ltb (numberFrom 0 s) field-end)) (numberFrom 0 s) 0
 
-abbrev pub orElse : ℕ → ℕ → ℕ
-orElse n m = cond (eqb n 0) m n
+abbrev pub firstNamed : ℕ → ℕ → ℕ
+firstNamed n m = cond (eqb n 0) m n
 
 -- the relation that a word names; 0 where there is none
-unfoldable pub relationOf : List ℕ → ℕ
-relationOf w = orElse (among w 1 relationNames) (beyond w)
+unfoldable pub relationNamed : List ℕ → ℕ
+relationNamed w = firstNamed (among w 1 relationNames) (beyond w)
 
 -- ---- variables
 
@@ -63,8 +63,8 @@ noted w ns = cond (ltb (placeIn w ns) (length ns)) ns (cond (leb most-variables 
 -- ---- marks
 
 -- a number's value, or the relation of a word that begins with a capital letter
-abbrev pub valueOf : ℕ → List ℕ → ℕ
-valueOf kind w = cond (eqb kind 48) (numberOf w) (cond (eqb kind 65) (relationOf w) 0)
+abbrev pub tokenValue : ℕ → List ℕ → ℕ
+tokenValue kind w = cond (eqb kind 48) (numberNamed w) (cond (eqb kind 65) (relationNamed w) 0)
 
 -- the byte of a token that has no other; else 0
 abbrev pub letterIn : List ℕ → ℕ
@@ -73,6 +73,6 @@ letterIn (b ∷ []) = b
 letterIn (b ∷ c ∷ w) = 0
 
 -- a token's mark; the end of the text, a token without bytes, is marked as the end of a line (10)
-unfoldable pub markOf : List ℕ → Mark
-markOf [] = record { kind = 10; letter = 0; value = 0 }
-markOf (b ∷ w) = record { kind = kindOf b; letter = letterIn (b ∷ w); value = valueOf (kindOf b) (b ∷ w) }
+unfoldable pub tokenMark : List ℕ → Mark
+tokenMark [] = record { kind = 10; letter = 0; value = 0 }
+tokenMark (b ∷ w) = record { kind = tokenKind b; letter = letterIn (b ∷ w); value = tokenValue (tokenKind b) (b ∷ w) }

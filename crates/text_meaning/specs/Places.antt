@@ -71,8 +71,8 @@ unfoldable pub openAt : Control → Mark → Control
 openAt c m = cond (eqb (m .kind) 40) (cond (eqb (c .kind) 4) (goes c 4) (goes c 3)) (fails c 4)
 
 -- a term is a number (48) or a variable (97)
-unfoldable pub termAt : Control → Mark → ℕ → Control
-termAt c m what = cond (eqb (m .kind) 48 || eqb (m .kind) 97) (termed c) (fails c what)
+unfoldable pub termExpected : Control → Mark → ℕ → Control
+termExpected c m what = cond (eqb (m .kind) 48 || eqb (m .kind) 97) (termed c) (fails c what)
 
 -- a comma: there may be one column more. What is expected else goes by the relation, where it has a name: an atom has its columns.
 abbrev pub isCounted : Control → Bool
@@ -91,7 +91,7 @@ closeAt c = cond (isCounted c) (cond (eqb (c .left) 0) (closedBy c) (fails c 10)
 
 -- behind "(" (3): ")" (41) at once, or a term
 unfoldable pub firstAt : Control → Mark → Control
-firstAt c m = cond (eqb (m .kind) 41) (closeAt c) (termAt c m 5)
+firstAt c m = cond (eqb (m .kind) 41) (closeAt c) (termExpected c m 5)
 
 -- behind a row: ";" (59) and the next (10), or the end of the line
 unfoldable pub rowEndAt : Control → Mark → ℕ → Control
@@ -116,12 +116,12 @@ unfoldable pub atomEndAt : Control → Mark → Control
 atomEndAt c m = cond (eqb (m .kind) 44) (goes c 7) (cond (eqb (c .block) 3) (cond (eqb (m .kind) 61) (goes c 9) (fails c 13)) (cond (eqb (m .kind) 10) (goes c 0) (fails c 12)))
 
 -- a row, in brackets or without
-unfoldable pub rowAt : Control → Mark → ℕ → Control
-rowAt c m what = cond (eqb (m .kind) 40) (rowed c) (cond (eqb (m .kind) 48) (bared c) (fails c what))
+unfoldable pub rowExpected : Control → Mark → ℕ → Control
+rowExpected c m what = cond (eqb (m .kind) 40) (rowed c) (cond (eqb (m .kind) 48) (bared c) (fails c what))
 
 -- behind "=" (9): a row, or none
 unfoldable pub rowsAt : Control → Mark → Control
-rowsAt c m = cond (eqb (m .kind) 10) (goes c 0) (rowAt c m 14)
+rowsAt c m = cond (eqb (m .kind) 10) (goes c 0) (rowExpected c m 14)
 
 -- ---- by the place
 
@@ -131,13 +131,13 @@ stepFrom place c m =
     (cond (eqb place 1) (commentAt c m)
     (cond (eqb place 2) (openAt c m)
     (cond (eqb place 3) (firstAt c m)
-    (cond (eqb place 4) (termAt c m 6)
+    (cond (eqb place 4) (termExpected c m 6)
     (cond (eqb place 5) (nextAt c m)
     (cond (eqb place 6) (colonAt c m)
     (cond (eqb place 7) (relationAt c m)
     (cond (eqb place 8) (atomEndAt c m)
     (cond (eqb place 9) (rowsAt c m)
-    (cond (eqb place 10) (rowAt c m 15)
+    (cond (eqb place 10) (rowExpected c m 15)
     (rowEndAt c m 17)))))))))))
 
 unfoldable pub step : Control → Mark → Control

@@ -8,7 +8,7 @@ use lib.ListN.{getD, take}
 use Rattle.sheet_format.specs.Limits.{most-fields}
 use Rattle.sheet_format.specs.Line.{Line, wordsOf}
 use Rattle.text_meaning.specs.Tokens.{tokens}
-use Rattle.text_meaning.specs.Names.{placeIn, noted, markOf}
+use Rattle.text_meaning.specs.Names.{placeIn, noted, tokenMark}
 use Rattle.text_meaning.specs.Places.{step}
 use Rattle.text_meaning.specs.declared.Control.{Control}
 use Rattle.text_meaning.specs.declared.Mark.{Mark}
@@ -41,8 +41,8 @@ abbrev pub linesIn : Control → List Line → List Line
 linesIn c ls = cond (c .begins) ((pos (c .kind) ∷ []) ∷ ls) ls
 
 -- the field that is put: a variable (97) by its number, from -1 down, or the mark's number
-abbrev pub fieldOf : Mark → List ℕ → List (List ℕ) → ℤ
-fieldOf m w ns = cond (eqb (m .kind) 97) (negsuc (placeIn w ns)) (pos (m .value))
+abbrev pub fieldFor : Mark → List ℕ → List (List ℕ) → ℤ
+fieldFor m w ns = cond (eqb (m .kind) 97) (negsuc (placeIn w ns)) (pos (m .value))
 
 -- a field more in the last line; a line has no room for a seventh, which no text has
 unfoldable pub grown : ℤ → List Line → List Line
@@ -55,25 +55,25 @@ linesAfter c z ls = cond (c .puts) (grown z ls) ls
 abbrev pub startsAfter : Control → ℕ → List ℕ → List ℕ
 startsAfter c n ns = cond (c .begins) (n ∷ ns) ns
 
-abbrev pub after : Control → Mark → List ℕ → Reading → Reading
-after c m w s = record {
+abbrev pub readingAfter : Control → Mark → List ℕ → Reading → Reading
+readingAfter c m w s = record {
   control = c;
   line = lineAfter c m (s .line);
   names = namesAfter c m w (namesIn c (s .names));
-  lines = linesAfter c (fieldOf m w (namesIn c (s .names))) (linesIn c (s .lines));
+  lines = linesAfter c (fieldFor m w (namesIn c (s .names))) (linesIn c (s .lines));
   starts = startsAfter c (s .line) (s .starts);
 }
 
 -- one token more
 unfoldable pub read : Reading → List ℕ → Reading
-read s w = after (step (s .control) (markOf w)) (markOf w) w s
+read s w = readingAfter (step (s .control) (tokenMark w)) (tokenMark w) w s
 
 -- ---- all tokens
 
 -- up to the first that does not fit
-unfoldable pub run : Reading → List (List ℕ) → Reading
-run s [] = s
-run s (w ∷ ws) = cond (eqb (read s w .control .expected) 0) (run (read s w) ws) (read s w)
+unfoldable pub readAll : Reading → List (List ℕ) → Reading
+readAll s [] = s
+readAll s (w ∷ ws) = cond (eqb (read s w .control .expected) 0) (readAll (read s w) ws) (read s w)
 
 -- before the first token
 abbrev pub unread : Reading
@@ -87,7 +87,7 @@ unread = record {
 
 -- a text is read to its end, which is a token without bytes
 unfoldable pub readingOf : List ℕ → Reading
-readingOf t = run unread (tokens t ++ ([] ∷ []))
+readingOf t = readAll unread (tokens t ++ ([] ∷ []))
 
 -- the number form of what was read
 unfoldable pub formOf : Reading → List ℤ

@@ -9,8 +9,8 @@ abbrev pub between : ℕ → ℕ → ℕ → Bool
 between a e b = leb a b && leb b e
 
 -- the kind of a byte: "a" (97) of a small letter, "A" (65) of a capital one, "0" (48) of a digit; any other byte is its own
-unfoldable pub kindOf : ℕ → ℕ
-kindOf b = cond (isSmall b) 97 (cond (isCapital b) 65 (cond (between 48 57 b) 48 b))
+unfoldable pub tokenKind : ℕ → ℕ
+tokenKind b = cond (isSmall b) 97 (cond (isCapital b) 65 (cond (between 48 57 b) 48 b))
 
 abbrev pub isLetter : ℕ → Bool
 isLetter k = eqb k 97 || eqb k 65
@@ -24,7 +24,7 @@ joins k n = cond (isLetter k) (isInWord n) (eqb k 48 && eqb n 48)
 
 unfoldable pub goesOn : List ℕ → ℕ → Bool
 goesOn [] b = false
-goesOn (a ∷ w) b = joins (kindOf a) (kindOf b)
+goesOn (a ∷ w) b = joins (tokenKind a) (tokenKind b)
 
 -- a token before others, where there is one
 abbrev pub token : List ℕ → List (List ℕ) → List (List ℕ)

@@ -37,7 +37,7 @@ use text_meaning::START;
 use text_meaning::TERM;
 ghost use mathlib.Core.Path.{_≡_};
 ghost use Prim.Native.Nat.{_-_};
-ghost use Rattle.text_meaning.specs.Places.{goes, fails, headed, atomed, rowed, bared, termed, afterList, nextBlock, headAt, startAt, commentAt, openAt, termAt, isCounted, columnsIn, moreAt, closedBy, closeAt, firstAt, rowEndAt, nextAt, colonAt, relationAt, atomEndAt, rowAt, rowsAt, step};
+ghost use Rattle.text_meaning.specs.Places.{goes, fails, headed, atomed, rowed, bared, termed, afterList, nextBlock, headAt, startAt, commentAt, openAt, termExpected, isCounted, columnsIn, moreAt, closedBy, closeAt, firstAt, rowEndAt, nextAt, colonAt, relationAt, atomEndAt, rowExpected, rowsAt, step};
 
 fn go(c: Control, place: usize) -> Control
     ensures { λ r. ⌜ r ≡ goes c place ⌝ }
@@ -239,7 +239,7 @@ fn open(c: Control, m: Mark) -> Control
 
 // A term: a number or a variable.
 fn term(c: Control, m: Mark, what: usize) -> Control
-    ensures { λ r. ⌜ r ≡ termAt c m what ⌝ }
+    ensures { λ r. ⌜ r ≡ termExpected c m what ⌝ }
 {
     if m.kind == b'0' {
         return put_term(c);
@@ -381,7 +381,7 @@ fn atom_end(c: Control, m: Mark) -> Control
 
 // A row, in brackets or bare.
 fn row(c: Control, m: Mark, what: usize) -> Control
-    ensures { λ r. ⌜ r ≡ rowAt c m what ⌝ }
+    ensures { λ r. ⌜ r ≡ rowExpected c m what ⌝ }
 {
     if m.kind == b'(' {
         return row_in_brackets(c);

@@ -15,7 +15,7 @@ use Rattle.list_laws.proofs.Order.{less?}
 use Rattle.sheet_format.specs.Line.{Line, gather, lineWords, wordsOf}
 use Rattle.sheet_format.proofs.Lists.{append-nil, gather-append}
 use Rattle.text_meaning.specs.Reading.{grown}
-use Rattle.text_reader.specs.Held.{Room, BegunLine, PutField, Fit, lastFields, Stored, Kept}
+use Rattle.text_reader.specs.Held.{ReaderRoom, BegunLine, PutField, Fit, lastFields, Stored, LinesKept}
 
 -- ---- lists
 
@@ -90,10 +90,10 @@ module _ (ws : List ℤ) (bs : List ℕ) (ls : List Line) (ss : List ℕ) (fit :
   begin-stored s = record { form = begin-form s; places = begin-places s }
 
 pub begin-kept : {ws new : List ℤ} {bs to : List ℕ} {n f r : ℕ} {ls : List Line} {ss : List ℕ} {k line : ℕ}
-    → Kept ws bs n f ls ss → BegunLine ws new bs to n k line r → Kept new to r 1 ((pos k ∷ []) ∷ ls) (line ∷ ss)
+    → LinesKept ws bs n f ls ss → BegunLine ws new bs to n k line r → LinesKept new to r 1 ((pos k ∷ []) ∷ ls) (line ∷ ss)
 begin-kept {ws} {new} {bs} {to} {n} {f} {r} {ls} {ss} {k} {line} h b = ⊎-elim fits full (less? n most-lines)
   where
-    fits : n < most-lines → Kept new to r 1 ((pos k ∷ []) ∷ ls) (line ∷ ss)
+    fits : n < most-lines → LinesKept new to r 1 ((pos k ∷ []) ∷ ls) (line ∷ ss)
     fits l =
         let t = lt-leb most-lines n l in
         let w : new ≡ set (set ws (n * 7) (pos 1)) (n * 7 + 1) (pos k) = rw t at (b .words) in
@@ -112,7 +112,7 @@ begin-kept {ws} {new} {bs} {to} {n} {f} {r} {ls} {ss} {k} {line} h b = ⊎-elim 
           stored = λ m. rw (w, g) (begin-stored ws bs ls ss (h .fit) n i l (h .same) k line (h .stored (omega arith)));
         }
 
-    full : most-lines ≤ n → Kept new to r 1 ((pos k ∷ []) ∷ ls) (line ∷ ss)
+    full : most-lines ≤ n → LinesKept new to r 1 ((pos k ∷ []) ∷ ls) (line ∷ ss)
     full l =
         let t = le-leb most-lines n l in
         let w : new ≡ ws = rw t at (b .words) in
@@ -152,7 +152,7 @@ module _ (ws : List ℤ) (bs : List ℕ) (l : Line) (ls : List Line) (ss : List 
   put-stored s = record { form = put-form s; places = s .places }
 
 module _ {ws new : List ℤ} {bs : List ℕ} {n f r : ℕ} {ss : List ℕ} {z : ℤ} (p : PutField ws new n f z r) where
-  put-into : (l : Line) (ls : List Line) → Kept ws bs n f (l ∷ ls) ss → Kept new bs n r (take 6 (l ++ (z ∷ [])) ∷ ls) ss
+  put-into : (l : Line) (ls : List Line) → LinesKept ws bs n f (l ∷ ls) ss → LinesKept new bs n r (take 6 (l ++ (z ∷ [])) ∷ ls) ss
   put-into l ls h = ⊎-elim more full (less? f 6)
     where
       c : n ≡ min (most-lines + 1) (suc (length ls))
@@ -161,7 +161,7 @@ module _ {ws new : List ℤ} {bs : List ℕ} {n f r : ℕ} {ss : List ℕ} {z : 
       some : eqb n 0 ≡ false
       some = ne-eqb n 0 (λ e. let d = c in absurd (omega arith))
 
-      full : 6 ≤ f → Kept new bs n r (take 6 (l ++ (z ∷ [])) ∷ ls) ss
+      full : 6 ≤ f → LinesKept new bs n r (take 6 (l ++ (z ∷ [])) ∷ ls) ss
       full g =
           let a = h .fit .1 in
           let i : f ≡ length l = h .last in
@@ -170,7 +170,7 @@ module _ {ws new : List ℤ} {bs : List ℕ} {n f r : ℕ} {ss : List ℕ} {z : 
           let e : r ≡ f = rw (some, le-leb 6 f g) at (p .count) in
           rw (t, w, e) h
 
-      more : f < 6 → Kept new bs n r (take 6 (l ++ (z ∷ [])) ∷ ls) ss
+      more : f < 6 → LinesKept new bs n r (take 6 (l ++ (z ∷ [])) ∷ ls) ss
       more g = ⊎-elim far near (less? most-lines n)
         where
           i : f ≡ length l
@@ -185,7 +185,7 @@ module _ {ws new : List ℤ} {bs : List ℕ} {n f r : ℕ} {ss : List ℕ} {z : 
           k : length (l ++ (z ∷ [])) ≡ f + 1
           k = let i′ = i in length-append l (z ∷ []) ∙ omega arith
 
-          kept : length new ≡ most-words → (length (l ∷ ls) ≤ most-lines → Stored new bs ((l ++ (z ∷ [])) ∷ ls) ss) → Kept new bs n r (take 6 (l ++ (z ∷ [])) ∷ ls) ss
+          kept : length new ≡ most-words → (length (l ∷ ls) ≤ most-lines → Stored new bs ((l ++ (z ∷ [])) ∷ ls) ss) → LinesKept new bs n r (take 6 (l ++ (z ∷ [])) ∷ ls) ss
           kept w s = rw t (record {
             room = record { words-size = w; begun-size = h .room .begun-size };
             count = c;
@@ -195,19 +195,19 @@ module _ {ws new : List ℤ} {bs : List ℕ} {n f r : ℕ} {ss : List ℕ} {z : 
             stored = s;
           })
 
-          far : most-lines < n → Kept new bs n r (take 6 (l ++ (z ∷ [])) ∷ ls) ss
+          far : most-lines < n → LinesKept new bs n r (take 6 (l ++ (z ∷ [])) ∷ ls) ss
           far x =
               let w : new ≡ ws = rw (some, lt-leb 6 f g, lt-ltb most-lines n x) at (p .words) in
               kept (ap length w ∙ h .room .words-size) (λ m. let d = c in absurd (omega arith))
 
-          near : n ≤ most-lines → Kept new bs n r (take 6 (l ++ (z ∷ [])) ∷ ls) ss
+          near : n ≤ most-lines → LinesKept new bs n r (take 6 (l ++ (z ∷ [])) ∷ ls) ss
           near x =
               let d = c in
               let q : n - 1 ≡ length ls = omega arith in
               let w : new ≡ set (set ws (length ls * 7) (pos (f + 1))) (length ls * 7 + 1 + f) z = rw (some, lt-leb 6 f g, le-ltb most-lines n x, q) at (p .words) in
               kept (ap length w ∙ simp length-set (h .room .words-size)) (λ m. rw w (put-stored ws bs l ls ss (h .fit) f i g z (h .stored m)))
 
-  pub put-kept : {ls : List Line} → Kept ws bs n f ls ss → Kept new bs n r (grown z ls) ss
+  pub put-kept : {ls : List Line} → LinesKept ws bs n f ls ss → LinesKept new bs n r (grown z ls) ss
   unfolding grown
   put-kept {ls = []} h =
       let c = h .count in

@@ -14,7 +14,7 @@ use borrow.Author.Tests.{lt-ltb, le-ltb, le-leb, lt-leb}
 use Rattle.list_laws.proofs.Lists.{drop-next, map-append}
 use Rattle.list_laws.proofs.Order.{less?}
 use Rattle.text_meaning.specs.Names.{sameBytes, placeIn, noted}
-use Rattle.text_tokens.specs.Ends.{Begins}
+use Rattle.text_tokens.specs.Ends.{TokenBegins}
 use Rattle.text_reader.specs.Held.{nameAt, namesAt, NamesBegin, Noted, NotedBy}
 
 -- ---- the place of a word
@@ -76,17 +76,17 @@ module _ (text names : List ℕ) (count at : ℕ) (size : length names ≡ 12) (
   names-more : namesAt text (set names count at) (count + 1) ≡ namesAt text names count ++ (nameAt text at ∷ [])
   names-more = ap (λ k. map (nameAt text) (take k (set names count at))) (add-one count) ∙ ap (map (nameAt text)) (take-suc-set names count at (omega arith)) ∙ map-append (nameAt text) (take count names) (at ∷ [])
 
-  begin-more : NamesBegin text names count → Begins text at → NamesBegin text (set names count at) (count + 1)
+  begin-more : NamesBegin text names count → TokenBegins text at → NamesBegin text (set names count at) (count + 1)
   begin-more b a = record { each = λ i h. let q : i ≤ count = omega arith in ⊎-elim (λ e. here i e) (λ l. before i l) (eq-or-lt-of-le q) }
     where
-      here : (i : ℕ) → i ≡ count → Begins text (getD (set names count at) i 0)
+      here : (i : ℕ) → i ≡ count → TokenBegins text (getD (set names count at) i 0)
       here i e = let s = size in let r = room in rw (e, getD-set-same names count at 0 (omega arith)) a
 
-      before : (i : ℕ) → i < count → Begins text (getD (set names count at) i 0)
+      before : (i : ℕ) → i < count → TokenBegins text (getD (set names count at) i 0)
       before i l = rw (getD-set-other names count i at 0 (λ e. omega arith)) (b .each i l)
 
 pub note-held : {text from to : List ℕ} {count at r : ℕ} {w : List ℕ} {ns : List (List ℕ)}
-    → Noted text from count ns → NotedBy from to count (placeIn w ns) at r → Begins text at → nameAt text at ≡ w → Noted text to r (noted w ns)
+    → Noted text from count ns → NotedBy from to count (placeIn w ns) at r → TokenBegins text at → nameAt text at ≡ w → Noted text to r (noted w ns)
 unfolding noted
 note-held {text} {from} {to} {count} {at} {r} {w} {ns} h b a is = ⊎-elim old new (less? (placeIn w ns) count)
   where

@@ -9,25 +9,25 @@ use lib.IntN.{ℤ, pos}
 use lib.ListN.{take, drop, length-take}
 use borrow.Author.Tests.{eq-eqb, ne-eqb, lt-ltb, le-ltb}
 use Rattle.sheet_format.specs.Limits.{field-end}
-use Rattle.text_meaning.specs.Names.{noted, markOf}
+use Rattle.text_meaning.specs.Names.{noted, tokenMark}
 use Rattle.text_meaning.specs.Places.{step}
-use Rattle.text_meaning.specs.Reading.{Reading, after, read}
+use Rattle.text_meaning.specs.Reading.{Reading, readingAfter, read}
 use Rattle.text_meaning.specs.declared.Control.{Control}
 use Rattle.text_meaning.specs.declared.Mark.{Mark}
 use Rattle.text_meaning.proofs.Bounds.{value-few, variable-some, kind-small}
 use Rattle.text_reader.specs.declared.Counts.{Counts}
-use Rattle.text_reader.specs.Held.{BegunLine, PutField, Noted, Held, WordAt, BegunBy, PutBy, VariablePut, Marked, EndedBy, TakenBy}
+use Rattle.text_reader.specs.Held.{BegunLine, PutField, Noted, Held, WordAt, BlockBegun, PutBy, VariablePut, Marked, EndedBy, TakenBy}
 use Rattle.text_reader.proofs.Lines.{begin-kept, put-kept}
 use Rattle.text_reader.proofs.Names.{note-held}
 
 -- ---- a line begins
 
 module _ (c : Control) (n : Counts) where
-  pub begun-none : {old : List ℤ} {from : List ℕ} → c .begins ≡ false → BegunBy c old old from from n n
+  pub begun-none : {old : List ℤ} {from : List ℕ} → c .begins ≡ false → BlockBegun c old old from from n n
   begun-none e = record { held = λ h. record { line = h .line; noted = rw e (h .noted); kept = rw e (h .kept) }; line = refl }
 
   module _ {old new : List ℤ} {from to : List ℕ} {r : ℕ} (e : c .begins ≡ true) (b : BegunLine old new from to (n .lines) (c .kind) (n .line) r) where
-    pub begun-head : c .kind < 4 → BegunBy c old new from to n (record { line = n .line; names = 0; lines = r; fields = 1 })
+    pub begun-head : c .kind < 4 → BlockBegun c old new from to n (record { line = n .line; names = 0; lines = r; fields = 1 })
     begun-head k = record {
       held = λ h. record {
         line = h .line;
@@ -37,7 +37,7 @@ module _ (c : Control) (n : Counts) where
       line = refl;
     }
 
-    pub begun-other : 4 ≤ c .kind → BegunBy c old new from to n (record { line = n .line; names = n .names; lines = r; fields = 1 })
+    pub begun-other : 4 ≤ c .kind → BlockBegun c old new from to n (record { line = n .line; names = n .names; lines = r; fields = 1 })
     begun-other k = record {
       held = λ h. record {
         line = h .line;
@@ -99,12 +99,12 @@ pub value-fits : {text : List ℕ} {at e : ℕ} {m : Mark} → Marked text at e 
 value-fits {text} {at} {e} w = rw (ap (λ m. m .value) (w .is)) (value-few (take (e - at) (drop at text)))
 
 pub taken : {text : List ℕ} {at e : ℕ} {c control : Control} {m : Mark} {old mid new : List ℤ} {begun begun-after names names-after : List ℕ} {n a b r : Counts}
-    → m ≡ markOf (take (e - at) (drop at text)) → control ≡ step c m
-    → BegunBy control old mid begun begun-after n a → PutBy text at e control m mid new names names-after a b → EndedBy control m b r
+    → m ≡ tokenMark (take (e - at) (drop at text)) → control ≡ step c m
+    → BlockBegun control old mid begun begun-after n a → PutBy text at e control m mid new names names-after a b → EndedBy control m b r
     → TakenBy text at e c old new begun begun-after names names-after n (record { control = control; counts = r })
 unfolding read
 taken {text} {at} {e} {c} {control} {m} {old} {mid} {new} {begun} {begun-after} {names} {names-after} {n} {a} {b} {r} mk ct begins puts ends = record {
-  held = λ {p} i h. subst (λ x. Held text new begun-after names-after r (after x (markOf w) w p)) (sym (moved p i)) (subst (λ y. Held text new begun-after names-after r (after control y w p)) mk (ends .held (puts .held (begins .held h))));
+  held = λ {p} i h. subst (λ x. Held text new begun-after names-after r (readingAfter x (tokenMark w) w p)) (sym (moved p i)) (subst (λ y. Held text new begun-after names-after r (readingAfter control y w p)) mk (ends .held (puts .held (begins .held h))));
   control = λ p i. moved p i;
   small = λ h. rw ct (kind-small c m h);
   line = let l = ends .line in let k = puts .line in let j = begins .line in omega arith;
@@ -113,5 +113,5 @@ taken {text} {at} {e} {c} {control} {m} {old} {mid} {new} {begun} {begun-after} 
     w : List ℕ
     w = take (e - at) (drop at text)
 
-    moved : (p : Reading) → p .control ≡ c → step (p .control) (markOf (take (e - at) (drop at text))) ≡ control
-    moved p i = ap (λ x. step x (markOf (take (e - at) (drop at text)))) i ∙ ap (step c) (sym mk) ∙ sym ct
+    moved : (p : Reading) → p .control ≡ c → step (p .control) (tokenMark (take (e - at) (drop at text))) ≡ control
+    moved p i = ap (λ x. step x (tokenMark (take (e - at) (drop at text)))) i ∙ ap (step c) (sym mk) ∙ sym ct

@@ -9,31 +9,31 @@ use lib.ListN.{length, getD, take, drop, set, replicate}
 use Rattle.sheet_format.specs.Limits.{most-words, most-lines, line-words, most-fields, most-variables}
 use Rattle.sheet_format.specs.Line.{Line, wordsOf}
 use Rattle.text_meaning.specs.Tokens.{tokens}
-use Rattle.text_meaning.specs.Names.{placeIn, markOf}
-use Rattle.text_meaning.specs.Reading.{Reading, lineAfter, namesIn, namesAfter, linesIn, linesAfter, startsAfter, fieldOf, read, readingOf}
+use Rattle.text_meaning.specs.Names.{placeIn, tokenMark}
+use Rattle.text_meaning.specs.Reading.{Reading, lineAfter, namesIn, namesAfter, linesIn, linesAfter, startsAfter, fieldFor, read, readingOf}
 use Rattle.text_meaning.specs.declared.Control.{Control}
 use Rattle.text_meaning.specs.declared.Mark.{Mark}
-use Rattle.text_tokens.specs.Ends.{Begins}
+use Rattle.text_tokens.specs.Ends.{TokenBegins}
 use Rattle.text_reader.specs.declared.Counts.{Counts}
 use Rattle.text_reader.specs.declared.ReadTo.{ReadTo}
 
 -- ---- names
 
 -- the first of some tokens
-abbrev pub first : List (List ℕ) → List ℕ
-first [] = []
-first (w ∷ ws) = w
+abbrev pub firstToken : List (List ℕ) → List ℕ
+firstToken [] = []
+firstToken (w ∷ ws) = w
 
 -- the token at a place of the text
 abbrev pub nameAt : List ℕ → ℕ → List ℕ
-nameAt text at = first (tokens (drop at text))
+nameAt text at = firstToken (tokens (drop at text))
 
 -- those at the first places of a table
 abbrev pub namesAt : List ℕ → List ℕ → ℕ → List (List ℕ)
 namesAt text names count = map (nameAt text) (take count names)
 
 pub record NamesBegin (text names : List ℕ) (count : ℕ) : Type 0 where
-  pub each : (i : ℕ) → i < count → Begins text (getD names i 0)
+  pub each : (i : ℕ) → i < count → TokenBegins text (getD names i 0)
 
 pub record Noted (text names : List ℕ) (count : ℕ) (ns : List (List ℕ)) : Type 0 where
   pub size : length names ≡ most-variables
@@ -43,7 +43,7 @@ pub record Noted (text names : List ℕ) (count : ℕ) (ns : List (List ℕ)) : 
 
 -- ---- lines
 
-pub record Room (words : List ℤ) (begun : List ℕ) : Type 0 where
+pub record ReaderRoom (words : List ℤ) (begun : List ℕ) : Type 0 where
   pub words-size : length words ≡ most-words
   pub begun-size : length begun ≡ most-lines
 
@@ -73,8 +73,8 @@ pub record Stored (words : List ℤ) (begun : List ℕ) (ls : List Line) (starts
   pub form : words ≡ wordsOf (reverse ls) ++ replicate (most-words - length ls * line-words) (pos 0)
   pub places : begun ≡ reverse starts ++ replicate (most-lines - length ls) 0
 
-pub record Kept (words : List ℤ) (begun : List ℕ) (n fields : ℕ) (ls : List Line) (starts : List ℕ) : Type 0 where
-  pub room : Room words begun
+pub record LinesKept (words : List ℤ) (begun : List ℕ) (n fields : ℕ) (ls : List Line) (starts : List ℕ) : Type 0 where
+  pub room : ReaderRoom words begun
   pub count : n ≡ min (most-lines + 1) (length ls)
   pub same : length starts ≡ length ls
   pub fit : Fit ls
@@ -86,7 +86,7 @@ pub record Kept (words : List ℤ) (begun : List ℕ) (n fields : ℕ) (ls : Lis
 pub record Held (text : List ℕ) (words : List ℤ) (begun names : List ℕ) (n : Counts) (p : Reading) : Type 0 where
   pub line : n .line ≡ p .line
   pub noted : Noted text names (n .names) (p .names)
-  pub kept : Kept words begun (n .lines) (n .fields) (p .lines) (p .starts)
+  pub kept : LinesKept words begun (n .lines) (n .fields) (p .lines) (p .starts)
 
 pub record HeldSome (text : List ℕ) (words : List ℤ) (begun names : List ℕ) (n : Counts) : Type 0 where
   pub reading : Reading
@@ -97,7 +97,7 @@ abbrev pub begunBy : Control → Reading → Reading
 begunBy c p = record { control = c; line = p .line; names = namesIn c (p .names); lines = linesIn c (p .lines); starts = startsAfter c (p .line) (p .starts) }
 
 abbrev pub putBy : Control → Mark → List ℕ → Reading → Reading
-putBy c m w p = record { control = p .control; line = p .line; names = namesAfter c m w (p .names); lines = linesAfter c (fieldOf m w (p .names)) (p .lines); starts = p .starts }
+putBy c m w p = record { control = p .control; line = p .line; names = namesAfter c m w (p .names); lines = linesAfter c (fieldFor m w (p .names)) (p .lines); starts = p .starts }
 
 abbrev pub endedBy : Control → Mark → Reading → Reading
 endedBy c m p = record { control = p .control; line = lineAfter c m (p .line); names = p .names; lines = p .lines; starts = p .starts }
@@ -106,11 +106,11 @@ endedBy c m p = record { control = p .control; line = lineAfter c m (p .line); n
 pub record WordAt (text : List ℕ) (at e : ℕ) : Type 0 where
   pub order : at ≤ e
   pub inside : e ≤ length text
-  pub begins : at < e → Begins text at
+  pub begins : at < e → TokenBegins text at
   pub is : at < e → nameAt text at ≡ take (e - at) (drop at text)
 
 -- what each step does to any reading that is held
-pub record BegunBy (c : Control) (old new : List ℤ) (from to : List ℕ) (n r : Counts) : Type 0 where
+pub record BlockBegun (c : Control) (old new : List ℤ) (from to : List ℕ) (n r : Counts) : Type 0 where
   pub held : {text names : List ℕ} {p : Reading} → Held text old from names n p → Held text new to names r (begunBy c p)
   pub line : r .line ≡ n .line
 
@@ -131,7 +131,7 @@ pub record VariablePut (text : List ℕ) (at e : ℕ) (old new : List ℤ) (from
 
 -- the mark of such bytes
 pub record Marked (text : List ℕ) (at e : ℕ) (m : Mark) : Type 0 where
-  pub is : m ≡ markOf (take (e - at) (drop at text))
+  pub is : m ≡ tokenMark (take (e - at) (drop at text))
 
 pub record EndedBy (c : Control) (m : Mark) (n r : Counts) : Type 0 where
   pub held : {text : List ℕ} {words : List ℤ} {begun names : List ℕ} {p : Reading} → Held text words begun names n p → Held text words begun names r (endedBy c m p)
@@ -147,4 +147,4 @@ pub record TakenBy (text : List ℕ) (at e : ℕ) (c : Control) (old new : List 
 pub record ReadAs (text : List ℕ) (words : List ℤ) (begun : List ℕ) (r : ReadTo) : Type 0 where
   pub control : readingOf text .control ≡ r .control
   pub line : r .counts .line ≡ readingOf text .line
-  pub kept : Kept words begun (r .counts .lines) (r .counts .fields) (readingOf text .lines) (readingOf text .starts)
+  pub kept : LinesKept words begun (r .counts .lines) (r .counts .fields) (readingOf text .lines) (readingOf text .starts)

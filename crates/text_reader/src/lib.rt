@@ -19,8 +19,8 @@ ghost use Rattle.text_begins.specs.Begins.{most-text};
 ghost use Rattle.text_meaning.specs.Names.{sameBytes, placeIn};
 ghost use lib.IntN.{pos, negsuc};
 ghost use Rattle.sheet_format.specs.Limits.{most-words, most-lines, most-variables};
-ghost use Rattle.text_tokens.specs.Ends.{Begins};
-ghost use Rattle.text_reader.specs.Held.{nameAt, namesAt, NamesBegin, Room, BegunLine, PutField, WordAt, BegunBy, PutBy, NotedBy, VariablePut, Marked, HeldSome, EndedBy, TakenBy, ReadAs};
+ghost use Rattle.text_tokens.specs.Ends.{TokenBegins};
+ghost use Rattle.text_reader.specs.Held.{nameAt, namesAt, NamesBegin, ReaderRoom, BegunLine, PutField, WordAt, BlockBegun, PutBy, NotedBy, VariablePut, Marked, HeldSome, EndedBy, TakenBy, ReadAs};
 
 // The variables of a block that have names: one more is a variable too many, whatever its name.
 const NAMED: usize = VARIABLES as usize;
@@ -48,7 +48,7 @@ fn begin_line(
     kind: usize,
     line: usize,
 ) -> usize
-    requires { ⌜ Room (now words) (now begun) × (kind ≤ 5) ⌝ }
+    requires { ⌜ ReaderRoom (now words) (now begun) × (kind ≤ 5) ⌝ }
     ensures { λ r. ⌜ BegunLine (now (words .entry)) (now (words .exit)) (now (begun .entry)) (now (begun .exit)) lines kind line r ⌝ }
 {
     if MOST_LINES <= lines {
@@ -83,7 +83,7 @@ fn put_field(words: &mut [i32], lines: usize, fields: usize, w: i32) -> usize
 
 // Whether a word is the token at a place of the text.
 fn is_same(text: &[u8], at: usize, word: &[u8]) -> bool
-    requires { ⌜ Begins (now text) at ⌝ }
+    requires { ⌜ TokenBegins (now text) at ⌝ }
     ensures { λ r. ⌜ r ≡ sameBytes (now (word .entry)) (nameAt (now (text .entry)) at) ⌝ }
 {
     let e = token_end(text, at);
@@ -107,8 +107,8 @@ fn place(text: &[u8], word: &[u8], names: &[usize], count: usize) -> usize
 
 // A line of the number form begins where the token began one; a block's variables are its own.
 fn begin(c: Control, n: Counts, words: &mut [i32], begun: &mut [usize]) -> Counts
-    requires { ⌜ Room (now words) (now begun) × (c .kind ≤ 5) ⌝ }
-    ensures { λ r. ⌜ BegunBy c (now (words .entry)) (now (words .exit)) (now (begun .entry)) (now (begun .exit)) n r ⌝ }
+    requires { ⌜ ReaderRoom (now words) (now begun) × (c .kind ≤ 5) ⌝ }
+    ensures { λ r. ⌜ BlockBegun c (now (words .entry)) (now (words .exit)) (now (begun .entry)) (now (begun .exit)) n r ⌝ }
 {
     if !c.begins {
         return n;

@@ -15,8 +15,8 @@ use Rattle.text_buffer.specs.Puts.{Put}
 use Rattle.text_buffer.specs.Words.{bytes}
 use Rattle.text_buffer.proofs.Laws.{reached-all, placed-all}
 use Rattle.text_writer.specs.Texts.{relationNames, relationBytes, numberBytes}
-use Rattle.text_meaning.specs.Tokens.{kindOf}
-use Rattle.text_meaning.specs.Names.{sameBytes, longer, numberFrom, among, beyond, letterIn, valueOf, markOf}
+use Rattle.text_meaning.specs.Tokens.{tokenKind}
+use Rattle.text_meaning.specs.Names.{sameBytes, numberLonger, numberFrom, among, beyond, letterIn, tokenValue, tokenMark}
 
 -- ---- the same bytes
 
@@ -46,7 +46,7 @@ module _ (a b : List ℕ) (i : ℕ) where
 
 -- ---- numbers
 
-pub number-next : (s : List ℕ) (i n : ℕ) → i < length s → numberFrom n (drop i s) ≡ numberFrom (longer n (getD s i 0)) (drop (i + 1) s)
+pub number-next : (s : List ℕ) (i n : ℕ) → i < length s → numberFrom n (drop i s) ≡ numberFrom (numberLonger n (getD s i 0)) (drop (i + 1) s)
 unfolding numberFrom
 number-next s i n h = rw (drop-next s i 0 h)
 
@@ -118,12 +118,12 @@ no-letter (b ∷ c ∷ w) h = refl
 
 -- ---- a mark
 
-pub mark-none : (w : List ℕ) → length w ≡ 0 → record { kind = 10; letter = 0; value = 0 } ≡ markOf w
-unfolding markOf
+pub mark-none : (w : List ℕ) → length w ≡ 0 → record { kind = 10; letter = 0; value = 0 } ≡ tokenMark w
+unfolding tokenMark
 mark-none [] e = refl
 mark-none (b ∷ w) e = absurd (omega arith)
 
-pub mark-some : (w : List ℕ) {k l v : ℕ} → (length w ≡ 0 → ⊥) → k ≡ kindOf (getD w 0 0) → l ≡ letterIn w → v ≡ valueOf k w → record { kind = k; letter = l; value = v } ≡ markOf w
-unfolding markOf
+pub mark-some : (w : List ℕ) {k l v : ℕ} → (length w ≡ 0 → ⊥) → k ≡ tokenKind (getD w 0 0) → l ≡ letterIn w → v ≡ tokenValue k w → record { kind = k; letter = l; value = v } ≡ tokenMark w
+unfolding tokenMark
 mark-some [] h e f g = absurd (h refl)
 mark-some (b ∷ w) h e f g = rw (g, f, e)

@@ -9,8 +9,8 @@ use lib.ListN.{length, getD, take, drop, length-drop, drop-of-length-le}
 use lib.Seq.{take-all, take-suc, getD-drop, drop-drop}
 use Rattle.list_laws.proofs.Lists.{drop-next}
 use Rattle.text_begins.specs.Begins.{isBlank, leadingBlanks}
-use Rattle.text_meaning.specs.Tokens.{kindOf, joins, goesOn, behind, tokens}
-use Rattle.text_tokens.specs.Ends.{Begins, TokenEnds, Skipped}
+use Rattle.text_meaning.specs.Tokens.{tokenKind, joins, goesOn, behind, tokens}
+use Rattle.text_tokens.specs.Ends.{TokenBegins, TokenEnds, Skipped}
 
 -- ---- a token
 
@@ -35,7 +35,7 @@ part-first at e s h l =
     ap (λ m. take m (drop at s)) n ∙ ap (take (suc (e - (at + 1)))) (drop-next s at 0 l)
 
 module _ (s : List ℕ) (at : ℕ) where
-  pub token-first : Begins s at → tokens (drop at s) ≡ behind (part at (at + 1) s) (drop (at + 1) s)
+  pub token-first : TokenBegins s at → tokens (drop at s) ≡ behind (part at (at + 1) s) (drop (at + 1) s)
   unfolding behind goesOn
   token-first b =
       let l = b .inside in
@@ -45,17 +45,17 @@ module _ (s : List ℕ) (at : ℕ) where
 
   module _ (e : ℕ) (h : at < e) where
     -- what is behind it goes by its first byte
-    goes-by : (l : e ≤ length s) (b : ℕ) → goesOn (part at e s) b ≡ joins (kindOf (getD s at 0)) (kindOf b)
+    goes-by : (l : e ≤ length s) (b : ℕ) → goesOn (part at e s) b ≡ joins (tokenKind (getD s at 0)) (tokenKind b)
     unfolding goesOn
     goes-by l b = rw (part-first at e s h (omega arith))
 
-    pub token-grows : e < length s → joins (kindOf (getD s at 0)) (kindOf (getD s e 0)) ≡ true → behind (part at e s) (drop e s) ≡ behind (part at (e + 1) s) (drop (e + 1) s)
+    pub token-grows : e < length s → joins (tokenKind (getD s at 0)) (tokenKind (getD s e 0)) ≡ true → behind (part at e s) (drop e s) ≡ behind (part at (e + 1) s) (drop (e + 1) s)
     unfolding behind
     token-grows l j =
         let g = goes-by (omega arith) (getD s e 0) ∙ j in
         rw (part-more at e s (omega arith) l, drop-next s e 0 l, g)
 
-    pub token-ends : e < length s → joins (kindOf (getD s at 0)) (kindOf (getD s e 0)) ≡ false → behind (part at e s) (drop e s) ≡ part at e s ∷ tokens (drop e s)
+    pub token-ends : e < length s → joins (tokenKind (getD s at 0)) (tokenKind (getD s e 0)) ≡ false → behind (part at e s) (drop e s) ≡ part at e s ∷ tokens (drop e s)
     unfolding behind goesOn
     token-ends l j = rw (part-first at e s h (omega arith), drop-next s e 0 l, j)
 

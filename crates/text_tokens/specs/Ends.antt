@@ -8,7 +8,7 @@ use Rattle.text_begins.specs.Begins.{isBlank}
 use Rattle.text_meaning.specs.Tokens.{tokens}
 
 -- a token begins at a place: it has a byte that is no blank
-pub record Begins (text : List ℕ) (at : ℕ) : Type 0 where
+pub record TokenBegins (text : List ℕ) (at : ℕ) : Type 0 where
   pub inside : at < length text
   pub byte : isBlank (getD text at 0) ≡ false
 

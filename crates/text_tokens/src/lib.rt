@@ -10,9 +10,9 @@ ghost use Prim.Native.Nat.{_≤_};
 ghost use lib.ListN.{length, drop};
 ghost use Rattle.text_writer.specs.Texts.{relationBytes, relationNames};
 ghost use Rattle.sheet_format.specs.Limits.{field-end};
-ghost use Rattle.text_tokens.specs.Ends.{Begins, TokenEnds, Skipped};
-ghost use Rattle.text_meaning.specs.Tokens.{between, kindOf, isLetter, isInWord, joins};
-ghost use Rattle.text_meaning.specs.Names.{sameBytes, longer, numberFrom, numberOf, among, beyond, relationOf, valueOf, letterIn, markOf};
+ghost use Rattle.text_tokens.specs.Ends.{TokenBegins, TokenEnds, Skipped};
+ghost use Rattle.text_meaning.specs.Tokens.{between, tokenKind, isLetter, isInWord, joins};
+ghost use Rattle.text_meaning.specs.Names.{sameBytes, numberLonger, numberFrom, numberNamed, among, beyond, relationNamed, tokenValue, letterIn, tokenMark};
 
 // What may have one digit more lies below this.
 const SHORTER: usize = FIELD_END as usize / 10;
@@ -29,7 +29,7 @@ fn is_between(from: u8, to: u8, b: u8) -> bool
 
 // The kind of the token that begins with a byte: "a" for a word, "A" for a relation, "0" for a number, any other byte for itself.
 fn kind_of(b: u8) -> u8
-    ensures { λ r. ⌜ r ≡ kindOf b ⌝ }
+    ensures { λ r. ⌜ r ≡ tokenKind b ⌝ }
 {
     if is_between(b'a', b'z', b) {
         return b'a';
@@ -78,7 +78,7 @@ fn is_letter(kind: u8) -> bool
 
 // Where the token at a place ends.
 pub fn token_end(text: &[u8], at: usize) -> usize
-    requires { ⌜ Begins (now text) at ⌝ }
+    requires { ⌜ TokenBegins (now text) at ⌝ }
     ensures { λ r. ⌜ TokenEnds (now (text .entry)) at r ⌝ }
 {
     let kind = kind_of(text[at]);
@@ -119,7 +119,7 @@ pub fn are_equal(a: &[u8], b: &[u8]) -> bool
 
 // A number and one digit more.
 fn longer(n: usize, b: u8) -> usize
-    ensures { λ r. ⌜ (r ≡ longer n b) × (r ≤ field-end) ⌝ }
+    ensures { λ r. ⌜ (r ≡ numberLonger n b) × (r ≤ field-end) ⌝ }
 {
     if !is_between(b'0', b'9', b) {
         return FIELD_END as usize;
@@ -146,7 +146,7 @@ fn number_from(digits: &[u8], from: usize) -> usize
 
 // The number of digits, or the largest of a field.
 fn number(digits: &[u8]) -> usize
-    ensures { λ r. ⌜ r ≡ numberOf (now (digits .entry)) ⌝ }
+    ensures { λ r. ⌜ r ≡ numberNamed (now (digits .entry)) ⌝ }
 {
     let n = number_from(digits, 0);
     if n < FIELD_END as usize {
@@ -201,7 +201,7 @@ fn beyond(word: &[u8]) -> usize
 
 // The relation that a word names; 0 where there is none.
 fn relation(word: &[u8]) -> usize
-    ensures { λ r. ⌜ r ≡ relationOf (now (word .entry)) ⌝ }
+    ensures { λ r. ⌜ r ≡ relationNamed (now (word .entry)) ⌝ }
 {
     let r = named(word);
     if r == 0 {
@@ -212,7 +212,7 @@ fn relation(word: &[u8]) -> usize
 
 // The number of a token of a kind.
 fn value(kind: u8, token: &[u8]) -> usize
-    ensures { λ r. ⌜ r ≡ valueOf kind (now (token .entry)) ⌝ }
+    ensures { λ r. ⌜ r ≡ tokenValue kind (now (token .entry)) ⌝ }
 {
     if kind == b'0' {
         return number(token);
@@ -235,7 +235,7 @@ fn letter(token: &[u8]) -> u8
 
 // A token's mark; one without bytes is the end of a line.
 pub fn mark(token: &[u8]) -> Mark
-    ensures { λ r. ⌜ r ≡ markOf (now (token .entry)) ⌝ }
+    ensures { λ r. ⌜ r ≡ tokenMark (now (token .entry)) ⌝ }
 {
     if token.len() == 0 {
         return Mark {

@@ -1,15 +1,15 @@
 -- `back` is safe and ends.
 use borrow.Author.Needs.{needs}
 use Prim.Native.Nat.{_*_, _≤_, _-_}
-use Rattle.search_board.specs.Sizes.{fact-words}
+use Rattle.search_board.specs.Sizes.{fact-set-words}
 use Rattle.search_advice.proofs.back.Statement.{statement}
 use Rattle.search_advice.proofs.back.Tie as tie
 
 abbrev Inv-loop : tie.InvT-loop
-Inv-loop p ws from stand bd bits₀ w₀ bits w = w ≤ fact-words * 2
+Inv-loop p ws from stand bd bits₀ w₀ bits w = w ≤ fact-set-words * 2
 
 abbrev μ-loop : tie.MeasureT-loop
-μ-loop p ws from stand bd bits₀ w₀ bits w = fact-words * 2 - w
+μ-loop p ws from stand bd bits₀ w₀ bits w = fact-set-words * 2 - w
 
 refresh-requires : tie.Need-refresh-requires Inv-loop μ-loop
 refresh-requires c κs = search needs

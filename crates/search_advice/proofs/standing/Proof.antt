@@ -3,15 +3,15 @@ use borrow.Author.Needs.{needs}
 use mathlib.Core.Path.{_≡_}
 use Prim.Native.Nat.{_+_, _*_, _≤_, _-_}
 use lib.ListN.{length}
-use Rattle.search_board.specs.Sizes.{fact-words}
+use Rattle.search_board.specs.Sizes.{fact-set-words}
 use Rattle.search_advice.proofs.standing.Statement.{statement}
 use Rattle.search_advice.proofs.standing.Tie as tie
 
 abbrev Inv-loop : tie.InvT-loop
-Inv-loop bd bits stand₀ w₀ stand w = (w ≤ fact-words * 2) × (length stand ≡ fact-words * 2 + 1)
+Inv-loop bd bits stand₀ w₀ stand w = (w ≤ fact-set-words * 2) × (length stand ≡ fact-set-words * 2 + 1)
 
 abbrev μ-loop : tie.MeasureT-loop
-μ-loop bd bits stand₀ w₀ stand w = fact-words * 2 - w
+μ-loop bd bits stand₀ w₀ stand w = fact-set-words * 2 - w
 
 loop-holds : tie.Need-loop-holds Inv-loop μ-loop
 loop-holds c = search needs

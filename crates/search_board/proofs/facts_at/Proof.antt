@@ -3,15 +3,15 @@ use borrow.Author.Needs.{needs}
 use mathlib.Core.Path.{_≡_}
 use Prim.Native.Nat.{_≤_, _-_}
 use lib.ListN.{length}
-use Rattle.search_board.specs.Sizes.{fact-words}
+use Rattle.search_board.specs.Sizes.{fact-set-words}
 use Rattle.search_board.proofs.facts_at.Statement.{statement}
 use Rattle.search_board.proofs.facts_at.Tie as tie
 
 abbrev Inv-loop : tie.InvT-loop
-Inv-loop bits at set₀ w₀ set w = (w ≤ fact-words) × (length set ≡ fact-words)
+Inv-loop bits at set₀ w₀ set w = (w ≤ fact-set-words) × (length set ≡ fact-set-words)
 
 abbrev μ-loop : tie.MeasureT-loop
-μ-loop bits at set₀ w₀ set w = fact-words - w
+μ-loop bits at set₀ w₀ set w = fact-set-words - w
 
 returns : tie.Need-returns Inv-loop μ-loop
 returns c = search needs

@@ -1,15 +1,15 @@
 -- `first_fact` is safe and ends.
 use borrow.Author.Needs.{needs}
 use Prim.Native.Nat.{_≤_, _-_}
-use Rattle.search_board.specs.Sizes.{fact-words}
+use Rattle.search_board.specs.Sizes.{fact-set-words}
 use Rattle.search_board.proofs.first_fact.Statement.{statement}
 use Rattle.search_board.proofs.first_fact.Tie as tie
 
 abbrev Inv-loop : tie.InvT-loop
-Inv-loop set w k₀ k = (w ≤ k) × (k ≤ fact-words)
+Inv-loop set w k₀ k = (w ≤ k) × (k ≤ fact-set-words)
 
 abbrev μ-loop : tie.MeasureT-loop
-μ-loop set w k₀ k = fact-words - k
+μ-loop set w k₀ k = fact-set-words - k
 
 loop-holds : tie.Need-loop-holds Inv-loop μ-loop
 loop-holds c = search needs

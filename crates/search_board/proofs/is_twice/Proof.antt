@@ -1,15 +1,15 @@
 -- `is_twice` is safe and ends.
 use borrow.Author.Needs.{needs}
 use Prim.Native.Nat.{_≤_, _-_}
-use Rattle.search_board.specs.Sizes.{fact-words}
+use Rattle.search_board.specs.Sizes.{fact-set-words}
 use Rattle.search_board.proofs.is_twice.Statement.{statement}
 use Rattle.search_board.proofs.is_twice.Tie as tie
 
 abbrev Inv-loop : tie.InvT-loop
-Inv-loop bd set i w₀ w = w ≤ fact-words
+Inv-loop bd set i w₀ w = w ≤ fact-set-words
 
 abbrev μ-loop : tie.MeasureT-loop
-μ-loop bd set i w₀ w = fact-words - w
+μ-loop bd set i w₀ w = fact-set-words - w
 
 loop-holds : tie.Need-loop-holds Inv-loop μ-loop
 loop-holds c = search needs

@@ -1,15 +1,15 @@
 -- `put_facts` is safe and ends.
 use borrow.Author.Needs.{needs}
 use Prim.Native.Nat.{_≤_, _-_}
-use Rattle.search_board.specs.Sizes.{fact-words}
+use Rattle.search_board.specs.Sizes.{fact-set-words}
 use Rattle.search_board.proofs.put_facts.Statement.{statement}
 use Rattle.search_board.proofs.put_facts.Tie as tie
 
 abbrev Inv-loop : tie.InvT-loop
-Inv-loop bits₀ at set w₀ bits w = w ≤ fact-words
+Inv-loop bits₀ at set w₀ bits w = w ≤ fact-set-words
 
 abbrev μ-loop : tie.MeasureT-loop
-μ-loop bits₀ at set w₀ bits w = fact-words - w
+μ-loop bits₀ at set w₀ bits w = fact-set-words - w
 
 returns : tie.Need-returns Inv-loop μ-loop
 returns c = search needs

@@ -6,7 +6,7 @@ use Rattle.case_verdicts.specs.Tableau.{Good}
 use Rattle.case_verdicts.specs.Sheets.{top}
 use Rattle.case_verdicts.specs.Words.{stateOf}
 use Rattle.search_keys.proofs.Laws.{none-clash}
-use Rattle.search_task.specs.Task.{sheetBy, numbersOf}
+use Rattle.search_task.specs.Task.{sheetBy, goalFacts}
 use Rattle.search_node.specs.Choices.{oneValue}
 use Rattle.search_node.specs.Node.{OpenState}
 use Rattle.search_node.proofs.Choices.{shut-open}
@@ -89,7 +89,7 @@ returns-4 c =
     let a = at-is-given .before .before .before .before .args in (
       λ x r w whole. read-good (a .p .now) x r (l .last .1 .0) (a .goal) w (l .ensures .1 ∙ whole) (l .ensures .0 whole)
           (g .ensures .0 x r (l .ensures .1 ∙ whole) (c .before .before .before .before .before .before .if1 .left))
-          (none-clash (a .p .now) (numbersOf (a .goal) (a .p .now) (stateOf top (l .last .1 .0))) (f .result .some) (f .result .left) (f .result .right) (c .before .before .before .if2 .left) (f .ensures x r (l .ensures .1 ∙ whole)))
+          (none-clash (a .p .now) (goalFacts (a .goal) (a .p .now) (stateOf top (l .last .1 .0))) (f .result .some) (f .result .left) (f .result .right) (c .before .before .before .if2 .left) (f .ensures x r (l .ensures .1 ∙ whole)))
           (s .result .some) (s .result .view) (s .result .values) (c .if3 .left) (s .ensures .0 x r (l .ensures .1 ∙ whole)),
       (refl, l .ensures .1),
     )

@@ -1,7 +1,7 @@
 use borrow.Author.Needs.{needs}
 use mathlib.Core.Path.{sym, ap, _∙_}
 use Rattle.text_meaning.specs.Names.{sameBytes}
-use Rattle.text_reader.specs.Held.{first}
+use Rattle.text_reader.specs.Held.{firstToken}
 use Rattle.text_reader.proofs.is_same.Statement.{statement}
 use Rattle.text_reader.proofs.is_same.Tie as tie
 
@@ -23,7 +23,7 @@ are-equal-requires c κs = search needs
 returns : tie.Need-returns
 returns c =
     let a = c .before .before .before .before .before .args in
-    c .are-equal .ensures ∙ ap (λ ts. sameBytes (a .word .now) (first ts)) (sym (c .before .before .token-end .ensures .token))
+    c .are-equal .ensures ∙ ap (λ ts. sameBytes (a .word .now) (firstToken ts)) (sym (c .before .before .token-end .ensures .token))
 
 pub is-same-spec : {M : Type 1} → statement M
 is-same-spec =

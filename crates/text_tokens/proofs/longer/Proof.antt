@@ -6,7 +6,7 @@ use lib.Dec.{leb}
 use borrow.Author.Tests.{lt-ltb, le-ltb, leb-true, not-true, not-false}
 use Rattle.sheet_format.proofs.Lists.{and-left, and-right}
 use Rattle.text_meaning.specs.Tokens.{between}
-use Rattle.text_meaning.specs.Names.{longer}
+use Rattle.text_meaning.specs.Names.{numberLonger}
 use Rattle.text_tokens.proofs.longer.Statement.{statement}
 use Rattle.text_tokens.proofs.longer.Tie as tie
 
@@ -17,7 +17,7 @@ cast-result : tie.Need-cast-result
 cast-result c = search needs
 
 returns : tie.Need-returns
-unfolding longer
+unfolding numberLonger
 returns c = (rw (sym (c .before .is-between .ensures) ∙ not-true _ (c .if1 .taken)), omega arith)
 
 mul-result : tie.Need-mul-result
@@ -36,7 +36,7 @@ add-result : tie.Need-add-result
 add-result c = search needs
 
 returns-2 : tie.Need-returns-2
-unfolding longer
+unfolding numberLonger
 returns-2 c =
     let b = c .before .before .before .args .b in
     let e : between 48 57 b ≡ true = sym (c .before .before .is-between .ensures) ∙ not-false _ (c .before .if1 .left) in
@@ -47,7 +47,7 @@ cast-result-3 : tie.Need-cast-result-3
 cast-result-3 c = search needs
 
 returns-3 : tie.Need-returns-3
-unfolding longer
+unfolding numberLonger
 returns-3 c = (rw (sym (c .before .before .is-between .ensures) ∙ not-false _ (c .before .if1 .left), le-ltb _ _ (c .if2 .left)), omega arith)
 
 pub longer-spec : {M : Type 1} → statement M

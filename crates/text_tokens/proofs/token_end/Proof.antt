@@ -5,13 +5,13 @@ use borrow.Author.Needs.{needs}
 use lib.ListN.{length, drop, getD}
 use mathlib.Core.Bool.{true, false}
 use borrow.Author.Tests.{not-true, not-false}
-use Rattle.text_meaning.specs.Tokens.{kindOf, joins, behind, tokens}
+use Rattle.text_meaning.specs.Tokens.{tokenKind, joins, behind, tokens}
 use Rattle.text_tokens.proofs.Tokens.{part, token-first, token-grows, token-ends, token-last}
 use Rattle.text_tokens.proofs.token_end.Statement.{statement}
 use Rattle.text_tokens.proofs.token_end.Tie as tie
 
 abbrev Inv-loop : tie.InvT-loop
-Inv-loop text at kind e₀ e = (at < e) × (e ≤ length text) × (tokens (drop at text) ≡ behind (part at e text) (drop e text)) × (kind ≡ kindOf (getD text at 0))
+Inv-loop text at kind e₀ e = (at < e) × (e ≤ length text) × (tokens (drop at text) ≡ behind (part at e text) (drop e text)) × (kind ≡ tokenKind (getD text at 0))
 
 abbrev μ-loop : tie.MeasureT-loop
 μ-loop text at kind e₀ e = length text - e
@@ -42,7 +42,7 @@ returns c =
     let l = c .before .before .before .before .before in
     let a = l .before .before .before .before .args in
     let i = l .loop .inv in
-    let j : joins (kindOf (getD (a .text .now) (a .at) 0)) (kindOf (getD (a .text .now) (l .loop .e) 0)) ≡ false = rw (i .3, c .before .before .kind-of2 .ensures) at (sym (c .before .joins .ensures) ∙ not-true _ (c .if1 .taken)) in
+    let j : joins (tokenKind (getD (a .text .now) (a .at) 0)) (tokenKind (getD (a .text .now) (l .loop .e) 0)) ≡ false = rw (i .3, c .before .before .kind-of2 .ensures) at (sym (c .before .joins .ensures) ∙ not-true _ (c .if1 .taken)) in
     record { after = i .0; inside = i .1; token = i .2 ∙ token-ends (a .text .now) (a .at) (l .loop .e) (i .0) (omega arith) j }
 
 add-e-2 : tie.Need-add-e-2 Inv-loop μ-loop
@@ -56,7 +56,7 @@ loop-again c =
     let l = c .before .before .before .before .before in
     let a = l .before .before .before .before .args in
     let i = l .loop .inv in
-    let j : joins (kindOf (getD (a .text .now) (a .at) 0)) (kindOf (getD (a .text .now) (l .loop .e) 0)) ≡ true = rw (i .3, c .before .before .kind-of2 .ensures) at (sym (c .before .joins .ensures) ∙ not-false _ (c .if1 .left)) in
+    let j : joins (tokenKind (getD (a .text .now) (a .at) 0)) (tokenKind (getD (a .text .now) (l .loop .e) 0)) ≡ true = rw (i .3, c .before .before .kind-of2 .ensures) at (sym (c .before .joins .ensures) ∙ not-false _ (c .if1 .left)) in
     (omega arith, omega arith, i .2 ∙ token-grows (a .text .now) (a .at) (l .loop .e) (i .0) (omega arith) j, i .3)
 
 returns-2 : tie.Need-returns-2 Inv-loop μ-loop
