@@ -27,7 +27,7 @@ bare-safe e = record { lists = λ l m. absurd m; views = e .views }
 
 -- its cases are the agreeing logs
 module _ (x : Sheet) where
-  bare-case : {log : Log} → Agreeing x log → Case (bare x) log []
+  pub bare-case : {log : Log} → Agreeing x log → Case (bare x) log []
   bare-case a = record {
     agreeing = record { lawful = a .lawful; agrees = a .agrees };
     asked = record { val = λ n. 0; holds = λ b m. absurd m; differ = λ d m. absurd m; gives = refl };

@@ -9,9 +9,9 @@ fact-set-words = tableau-atoms / 64 + 1
 abbrev pub fact-end : ℕ
 fact-end = fact-set-words * 64
 
--- the places where a value of a view's columns may stand
+-- the places where a value of a view's columns may stand: as many as there are numbers for facts
 abbrev pub keys : ℕ
-keys = 256
+keys = fact-end
 
 -- the first of the values that slots cannot have, for slots that share a place
 abbrev pub firsts : ℕ

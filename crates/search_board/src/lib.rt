@@ -146,8 +146,8 @@ pub const BITS: usize = TAKEN + SET_WORDS;
 // The pairs of two columns.
 pub const COLUMN_PAIRS: usize = 6;
 
-// A view, a list or a fact is a number below this: an entry has eight digits for each.
-pub const BYTE: usize = 256;
+// A view, a list or a fact is a number below this: an entry has eight digits for each, as many as a fact's number takes.
+pub const BYTE: usize = FACT_END;
 
 // A head's constant x is told as this and x; else its number has the atom and the column.
 const HEAD_CONSTANT: usize = BYTE;

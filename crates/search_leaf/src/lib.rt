@@ -31,7 +31,7 @@ ghost use Rattle.tableau_plan.specs.Plan.{blockNumbers, blockSize, rowCount, ro
 ghost use Rattle.tableau_parts.specs.Views.{GivenToList, StrayBy};
 ghost use Rattle.tableau_parts.specs.Walks.{FormedPlan};
 ghost use Rattle.search_keys.specs.Keys.{KeysBy};
-ghost use Rattle.search_task.specs.Task.{ReadyPlan, asks, sheetBy, goalFacts, Settled, askedRow};
+ghost use Rattle.search_task.specs.Task.{ReadyPlan, asks, sheetBy, goalFacts, HeadsSettled, askedRow};
 ghost use Rattle.search_leaf.specs.Leaf.{rowHead, RowHeads};
 
 // Column c of the head of block b, under the valuation of copy k.
@@ -122,7 +122,7 @@ fn is_answered(p: &[usize; PLAN_NUMBERS], goal: Goal, ws: &[usize; SLOTS], facts
 // Whether a state's facts show nothing against it: no list is given the question's head, where that is asked, no two of them clash in a key, and no
 // view is given a stray row.
 fn is_clean(p: &[usize; PLAN_NUMBERS], goal: Goal, ws: &[usize; SLOTS], facts: &[usize]) -> bool
-    ensures { λ r. ⌜ ((x : Sheet) → ReadyPlan (now (p .entry)) x → r ≡ true → length (now (ws .entry)) ≡ slot-end → now (facts .entry) ≡ goalFacts goal (now (p .entry)) (stateOf top (now (ws .entry))) → Settled (sheetBy goal x) (stateOf top (now (ws .entry))) → Good (sheetBy goal x) (stateOf top (now (ws .entry)))) ⌝ }
+    ensures { λ r. ⌜ ((x : Sheet) → ReadyPlan (now (p .entry)) x → r ≡ true → length (now (ws .entry)) ≡ slot-end → now (facts .entry) ≡ goalFacts goal (now (p .entry)) (stateOf top (now (ws .entry))) → HeadsSettled (sheetBy goal x) (stateOf top (now (ws .entry))) → Good (sheetBy goal x) (stateOf top (now (ws .entry)))) ⌝ }
 {
     if is_answered(p, goal, ws, facts) {
         return false;

@@ -11,7 +11,7 @@ use Rattle.case_verdicts.specs.Sheets.{top}
 use Rattle.case_verdicts.specs.Tableau.{State, Good}
 use Rattle.case_verdicts.specs.Words.{stateOf}
 use Rattle.tableau_parts.specs.Views.{GivenToList, StrayAt, NoStray, StrayBy}
-use Rattle.search_task.specs.Task.{ReadyPlan, asks, sheetBy, goalFacts, askedRow, Settled}
+use Rattle.search_task.specs.Task.{ReadyPlan, asks, sheetBy, goalFacts, askedRow, HeadsSettled}
 use Rattle.search_task.specs.declared.Goal.{Goal}
 use Rattle.search_task.specs.declared.Goal.the-variants.{Counterexample, Agreement}
 use Rattle.search_task.proofs.NodeLaws.{closed, stray-is}
@@ -60,7 +60,7 @@ module _ (p : List ℕ) (x : Sheet) (r : ReadyPlan p x) {ws : List ℕ} (out : L
       → (b : Bool) (v : ℕ) (u : List ℕ) → b ≡ false → StrayBy b p (goalFacts goal p (stateOf top out)) v u → StateFound x (sheetBy goal x) out
   read-good lacks keys b v u e s = record {
     good = closed p x r goal (stateOf top out) (goalFacts goal p (stateOf top out)) (ready-facts p x r goal (stateOf top out)) lacks keys (none-left b v u e s)
-        (subst (λ (t : State). Settled (sheetBy goal x) t) (sym same) (w .settled));
+        (subst (λ (t : State). HeadsSettled (sheetBy goal x) t) (sym same) (w .settled));
     size = size;
     stood = λ n h. subst (Standing x) (sym (each n h)) (slot-stands x ws (λ k l. let z = w .size in w .stood k (omega arith)) n h);
   }

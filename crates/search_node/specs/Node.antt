@@ -12,7 +12,7 @@ use Rattle.case_verdicts.specs.Sheets.{top}
 use Rattle.case_verdicts.specs.Tableau.{State, Good}
 use Rattle.case_verdicts.specs.Words.{stateOf}
 use Rattle.tableau_plan.specs.Plan.{rowAt, rowValues, rowCount, tableauAt, tableauSize}
-use Rattle.search_task.specs.Task.{Settled, fromBy}
+use Rattle.search_task.specs.Task.{HeadsSettled, fromBy}
 use Rattle.search_task.specs.declared.Goal.{Goal}
 use Rattle.search_slots.specs.Slots.{SetWithin}
 use Rattle.search_links.specs.Links.{Linked, linkedState}
@@ -29,7 +29,7 @@ pub record Wordly (x y : Sheet) (ws : List ℕ) : Type 0 where
   pub size : length ws ≡ slot-end
   pub linked : Linked top ws
   pub stood : (n : ℕ) → n < slot-end → Standing x (getD ws n 0)
-  pub settled : Settled y (linkedState top ws)
+  pub settled : HeadsSettled y (linkedState top ws)
 
 -- a slot has this word
 abbrev pub WordOf : List ℕ → ℕ → Type 0

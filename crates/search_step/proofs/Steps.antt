@@ -27,7 +27,7 @@ use Rattle.search_reasons.specs.Reasons.{RestsOn, AlternativeFails, ValueFails,
 use Rattle.search_reasons.proofs.Laws.{Step, step-of, Untouched, rests-more, rests-back, value-down, value-back, value-learnt, fails-step}
 use Rattle.search_nogoods.specs.Memory.{MemoryMore, MemoryLess, LearnedValue}
 use Rattle.search_nogoods.proofs.Laws.{more-holds, less-holds}
-use Rattle.search_task.specs.Task.{ReadyPlan, sheetBy, Settled}
+use Rattle.search_task.specs.Task.{ReadyPlan, sheetBy, HeadsSettled}
 use Rattle.search_task.specs.declared.Goal.{Goal}
 use Rattle.search_task.proofs.Columns.{met-at, at-met, at-in}
 use Rattle.search_task.proofs.Copies.{settled-after}
@@ -152,7 +152,7 @@ module _ (p : List ℕ) (x : Sheet) (r : ReadyPlan p x) (goal : Goal) (ws : List
     size = q .same ∙ w .size;
     linked = q .linked (w .linked);
     stood = stood-step x ws out u v (w .size) (w .linked) (j .left) (j .right) four four-v q (j .fits) (j .back) (w .stood);
-    settled = subst (Settled (sheetBy goal x)) (sym (q .state)) (settled-after p x r goal (q .by) (linkedState top ws) (q .unifier .keeps) (w .settled));
+    settled = subst (HeadsSettled (sheetBy goal x)) (sym (q .state)) (settled-after p x r goal (q .by) (linkedState top ws) (q .unifier .keeps) (w .settled));
   }
 
   pub taken-room : (left : ℕ) → roots top ws < left → roots top out < left - 1

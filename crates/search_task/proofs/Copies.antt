@@ -22,7 +22,7 @@ use Rattle.case_verdicts.proofs.Tableau.{numbered-job, of-listed, copy-block, j
 use Rattle.case_verdicts.proofs.Reduce.{row-con}
 use Rattle.tableau_plan.specs.Plan.{rowAt, rowCount, blockNumbers}
 use Rattle.tableau_plan.proofs.Whole.{nth-in}
-use Rattle.search_task.specs.Task.{ReadyPlan, sheetBy, Settled}
+use Rattle.search_task.specs.Task.{ReadyPlan, sheetBy, HeadsSettled}
 use Rattle.search_task.proofs.Node.{in-nth, meets-kept}
 use Rattle.search_task.proofs.ReadyLaws.{ready-task}
 use Rattle.search_task.specs.declared.Goal.{Goal}
@@ -123,5 +123,5 @@ module _ (p : List ℕ) (x : Sheet) (r : ReadyPlan p x) where
       let j = numbered-job (jobs y) c m in
       meets-kept h (copy s (c .number)) (c .job) k (copy-block y ok c m .head) (job-is y ok (c .job) j) (job-plain goal (c .job) j) meets
 
-  pub settled-after : (goal : Goal) (h : ℕ → ℕ) (s : State) → Keeps top h → Settled (sheetBy goal x) s → Settled (sheetBy goal x) (after h s)
+  pub settled-after : (goal : Goal) (h : ℕ → ℕ) (s : State) → Keeps top h → HeadsSettled (sheetBy goal x) s → HeadsSettled (sheetBy goal x) (after h s)
   settled-after goal h s k st c m = copy-kept goal h s c m k (st c m)

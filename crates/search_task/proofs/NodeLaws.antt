@@ -25,7 +25,7 @@ use Rattle.tableau_plan.proofs.Tableau.{tableau-length}
 use Rattle.tableau_parts.specs.Views.{GivenAt, GivenToList, SafePlan, StrayAt, NoStray, StrayBy}
 use Rattle.tableau_parts.specs.Walks as walks
 use Rattle.search_keys.specs.Keys.{KeysHold}
-use Rattle.search_task.specs.Task.{ReadyPlan, sheetBy, fromBy, goalFacts, Settled, askedRow, asks}
+use Rattle.search_task.specs.Task.{ReadyPlan, sheetBy, fromBy, goalFacts, HeadsSettled, askedRow, asks}
 use Rattle.search_task.proofs.Node.{list-refuted, list-lacks, good-state}
 use Rattle.search_task.proofs.ReadyLaws.{ready-task, ready-facts}
 use Rattle.search_task.specs.declared.Goal.{Goal}
@@ -98,7 +98,7 @@ module _ (p : List ℕ) (x : Sheet) (r : ReadyPlan p x) where
 
   -- none is, keys hold, and there is no stray row: good, once the copies' heads are settled
   pub closed : (goal : Goal) (s : State) (ns : List ℕ) → FactNumbers ns (tableauLog (sheetBy goal x) s)
-      → (asks goal ≡ true → GivenToList p ns (askedRow p s) → ⊥) → KeysHold p ns → NoStray p ns → Settled (sheetBy goal x) s → Good (sheetBy goal x) s
+      → (asks goal ≡ true → GivenToList p ns (askedRow p s) → ⊥) → KeysHold p ns → NoStray p ns → HeadsSettled (sheetBy goal x) s → Good (sheetBy goal x) s
   closed Counterexample s ns fn lacks keys clean st =
       good-state p x x (r .plan) (ready-task p x r Counterexample) s ns fn st keys clean
       (λ l m.

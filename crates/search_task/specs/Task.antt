@@ -45,8 +45,8 @@ abbrev pub goalFacts : Goal → List ℕ → State → List ℕ
 goalFacts goal p s = tableauFacts p s (fromBy goal p) (tableauSize p - fromBy goal p)
 
 -- the copies' heads are what they must be
-abbrev pub Settled : Sheet → State → Type 0
-Settled y s = (c : Copy) → In c (numbered (jobs y)) → Meets (copy s (c .number)) (c .job)
+abbrev pub HeadsSettled : Sheet → State → Type 0
+HeadsSettled y s = (c : Copy) → In c (numbered (jobs y)) → Meets (copy s (c .number)) (c .job)
 
 -- the question's head
 abbrev pub askedRow : List ℕ → State → List ℕ

@@ -1,0 +1,4 @@
+pub mod Searches
+pub mod Settlement
+pub mod Values
+pub mod Spare
