@@ -24,6 +24,7 @@ use search_board::LEAST;
 use search_board::LINKS;
 use search_board::LIST_GIVEN;
 use search_board::LOOKED;
+use search_board::MOST_FITS;
 use search_board::MOST_KEPT;
 use search_board::NOTHING;
 use search_board::OVER;
@@ -250,7 +251,7 @@ fn by_kept(
     by_entry(e, hint)
 }
 
-// How many listed rows kept row k fits, and NO_COUNT if nothing is to be done there.
+// How many listed rows kept row k fits, and NO_COUNT if nothing is to be done there: that it is left out is soon seen, and comes first.
 fn fit_count(
     sl: &[usize; MEMORY_NUMBERS],
     k: usize,
@@ -259,11 +260,11 @@ fn fit_count(
 ) -> usize {
     let e = kept_entry(bd, k);
     let row = search_board::entry_row(bd, e);
-    let f = search_fits::fits(search_board::entry_view(e), &row, sl, bd, bits);
-    if f.listed {
+    if search_board::is_folded(bd, bits, &row) {
         return NO_COUNT;
     }
-    if search_board::is_folded(bd, bits, &row) {
+    let f = search_fits::fits(search_board::entry_view(e), &row, sl, bd, bits);
+    if f.listed {
         return NO_COUNT;
     }
     search_board::ones(f.set)
@@ -315,10 +316,13 @@ fn survey(
     best
 }
 
-// Notes how many listed rows kept row k fits.
+// Notes how many listed rows kept row k fits, and the most that one fits.
 fn put_count(bd: &mut [u32; BOARD], k: usize, m: usize) {
     if k < MOST_KEPT {
         search_board::put(bd, COUNTS_AT + k, m);
+    }
+    if (m < NO_COUNT) & (search_board::get(bd, MOST_FITS) < m) {
+        search_board::put(bd, MOST_FITS, m);
     }
 }
 
@@ -399,8 +403,9 @@ fn try_all(
     bd: &mut [u32; BOARD],
     bits: &mut [u64; BITS],
 ) {
+    let most = search_board::get(bd, MOST_FITS) % NO_COUNT;
     let mut m = search_board::get(bd, TRY_COUNT);
-    while m <= 64 {
+    while m <= most {
         if try_those(p, ws, asked, sl, n, m, bd, bits) {
             return;
         }
@@ -464,6 +469,7 @@ fn choose(
     bits: &mut [u64; BITS],
 ) -> Advice {
     let n = kept_count(bd);
+    search_board::put(bd, MOST_FITS, 0);
     let best = survey(p, sl, n, bd, bits);
     if n <= best {
         return search_clash::nothing();

@@ -89,8 +89,10 @@ pub const KEYED: usize = FELL_ROW + 3;
 
 pub const LINKS: usize = FELL_ROW + 4;
 
-// How many listed rows each kept row fits.
-pub const COUNTS_AT: usize = FELL_ROW + 5;
+// The most listed rows that a kept row fits, and how many each of them fits.
+pub const MOST_FITS: usize = FELL_ROW + 5;
+
+pub const COUNTS_AT: usize = FELL_ROW + 6;
 
 // Values of a view's columns, where each may be found by what it is; of the values that slots cannot have, the first for a slot, and the next.
 pub const KEYS: usize = BYTE;
@@ -680,12 +682,21 @@ fn is_twice(bd: &[u32; BOARD], set: &[u64; FACT_WORDS], i: usize) -> bool {
     false
 }
 
+// The facts that count of the relation of fact i, as far as they may have its values.
+fn sharing_all(bd: &[u32; BOARD], bits: &[u64; BITS], i: usize) -> [u64; FACT_WORDS] {
+    let row = fact_row(bd, i);
+    let a = both(alive_of(bits, fact(bd, i, 0)), sharing(bits, 0, row[0]));
+    let b = both(a, sharing(bits, 1, row[1]));
+    let c = both(b, sharing(bits, 2, row[2]));
+    both(c, sharing(bits, 3, row[3]))
+}
+
 // Leaves one of facts that are the same: changed ones go first.
 pub fn keep_one(bd: &[u32; BOARD], bits: &mut [u64; BITS]) {
     let changed = both(facts_at(bits, CHANGED), facts_at(bits, ALIVE));
     let mut i = next_fact(&changed, 0);
     while i < FACT_END {
-        let set = alive_of(bits, fact(bd, i, 0));
+        let set = sharing_all(bd, bits, i);
         if is_twice(bd, &set, i) {
             clear_bit(bits, ALIVE, i);
         }

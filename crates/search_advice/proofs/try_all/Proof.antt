@@ -1,17 +1,20 @@
 -- `try_all` is safe and ends.
 use borrow.Author.Needs.{needs}
-use Prim.Native.Nat.{_-_}
+use Prim.Native.Nat.{_-_, _<_}
 use Rattle.search_advice.proofs.try_all.Statement.{statement}
 use Rattle.search_advice.proofs.try_all.Tie as tie
 
 abbrev Inv-loop : tie.InvT-loop
-Inv-loop p ws asked sl n bd₀ bits₀ m₀ bd bits m = Unit {0}
+Inv-loop p ws asked sl n bd₀ bits₀ most m₀ bd bits m = most < 99
 
 abbrev μ-loop : tie.MeasureT-loop
-μ-loop p ws asked sl n bd₀ bits₀ m₀ bd bits m = 65 - m
+μ-loop p ws asked sl n bd₀ bits₀ most m₀ bd bits m = 99 - m
 
 get-requires : tie.Need-get-requires Inv-loop μ-loop
 get-requires c κs = search needs
+
+get-requires-2 : tie.Need-get-requires-2 Inv-loop μ-loop
+get-requires-2 c κs = search needs
 
 loop-holds : tie.Need-loop-holds Inv-loop μ-loop
 loop-holds c = search needs
@@ -44,6 +47,7 @@ try-all-spec =
     Inv-loop
     μ-loop
     get-requires
+    get-requires-2
     loop-holds
     try-those-requires
     returns

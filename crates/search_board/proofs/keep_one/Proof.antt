@@ -26,11 +26,8 @@ next-fact-requires c κs = search needs
 loop-holds : tie.Need-loop-holds Inv-loop μ-loop
 loop-holds c = search needs
 
-fact-requires : tie.Need-fact-requires Inv-loop μ-loop
-fact-requires c κs = search needs
-
-alive-of-requires : tie.Need-alive-of-requires Inv-loop μ-loop
-alive-of-requires c κs = search needs
+sharing-all-requires : tie.Need-sharing-all-requires Inv-loop μ-loop
+sharing-all-requires c κs = search needs
 
 is-twice-requires : tie.Need-is-twice-requires Inv-loop μ-loop
 is-twice-requires c κs = search needs
@@ -64,8 +61,7 @@ keep-one-spec =
     both-requires
     next-fact-requires
     loop-holds
-    fact-requires
-    alive-of-requires
+    sharing-all-requires
     is-twice-requires
     clear-bit-requires
     add-next-fact
