@@ -19,6 +19,7 @@ import sys
 
 sys.path.insert(0, str(pathlib.Path(__file__).resolve().parent.parent / "tests"))
 
+import stored_parts  # noqa: E402
 from cover_cases import (COLUMNS, KEYED, MADE_UP, Dice, answers_in_steps, blocks_of, constants_of, has_no_fact_to_spare, is_case, judged_by_search,  # noqa: E402
                          lacking, most_general, obeying, parts_of, some_block, some_sheet)
 from evaluate_cases import raised_lines  # noqa: E402
@@ -74,7 +75,7 @@ def damaged(dice, sheet):
 
 def stored():
     """The sheets of the stored cases for the judgement."""
-    for line in pathlib.Path("crates/test_cover/stdin").read_text().splitlines():
+    for line in stored_parts.part("stdin", "cover").decode("ascii").splitlines():
         if not line.startswith("#"):
             sheet = line.split("|")[2].replace(",", " " * 7).replace(";", " " * 6).replace("/", "\n").encode("ascii")
             if "\\" not in line:

@@ -3,10 +3,10 @@
 
 This is an independent account of the page: it is written from the description in words alone, and shares nothing with the
 library. Each set is judged by tests/set_cases.py, which was made in the same way. The stored results
-(crates/test_day/stdout, crates/day/stdout) come from here and not from the library.
+(the part day of crates/test_judge/stdout, crates/day/stdout) come from here and not from the library.
 
-    python3 tests/day_cases.py            writes stdin and stdout of crates/test_day; args, data and stdout of crates/day
-    python3 tests/day_cases.py --check    only says whether those files are what it would write
+    python3 tests/day_cases.py            writes the part day of stdin and stdout of crates/test_judge; args, data and stdout of crates/day
+    python3 tests/day_cases.py --check    only says whether these are what it would write
     python3 tests/day_cases.py --run      runs the built program `day` (rt check) on files that cannot be taken, and looks at what it says
 
 Run it at the repository's root. It draws no chance from outside: each run writes the same bytes.
@@ -17,12 +17,14 @@ import subprocess
 import sys
 import tempfile
 
+import stored_parts
+import table_cases
 from cover_cases import LENT_WORDS, NO_ROOM, page
 from evaluate_cases import raised_lines
 from set_cases import (CLUB_CASE, CLUB_COVERED, CLUB_NO_LOG, CLUB_NO_RELATION, COVERED_ONE, LAST_CASE, MOST_SHEETS, NO_LIST, NO_LOG_ONE, NO_RELATION, ONE_ROWER,
                        OTHER_LENGTH, OUT_OF_RANGE, ROWS_DESCEND, SETTLED, SEVENTH_ATOM, SMALL, TOO_LONG, TWO_RATES, TWO_TICKS, UNCLOSED, UNSAFE, WORKED, WRONG_ENDS,
                        ends_of, judged_alone, judged_set, refused, some_set, some_sheet, some_table, written)
-from sheet_cases import BROKEN_TABLES, CLUB, FULL_TABLE, MOST_WORDS, OWN_TABLE, Dice, noted, read, sheet_of
+from sheet_cases import BROKEN_TABLES, CLUB, FULL_TABLE, LACTATE, MOST_WORDS, OWN_TABLE, Dice, noted, read, sheet_of
 
 # --- The page -------------------------------------------------------------------------------------------------------
 
@@ -50,8 +52,6 @@ def judged_day(data, ends, words, room, table=None):
 
 # --- The cases ------------------------------------------------------------------------------------------------------
 
-STDIN = pathlib.Path("crates/test_day/stdin")
-STDOUT = pathlib.Path("crates/test_day/stdout")
 PROGRAM = pathlib.Path("crates/day")
 
 # What the program has room for.
@@ -79,7 +79,7 @@ def keep(name, data, ends, want, words=None, room=PAGE_ROOM, table=None):
     got = number if number else " / ".join(" ".join(line.split()) for line in paper.decode().splitlines())
     if want is not None and got != want:
         sys.exit(f"the page is {got} and not {want}: {name}")
-    given.append(f"{name}|{' '.join(map(str, [words, room] + ends))}|{written(data, table)}")
+    given.append(f"day {name}|{' '.join(map(str, [words, room] + ends))}|{written(data, table)}")
     wanted.append(f"{name}: {number} 0 {count} {len(paper)} =|{paper.decode().replace(chr(10), '/')}{'~' * (room - len(paper))}")
     tally[(f"refused by {number}" if number else f"{count} sheets") + " by a table" * (table is not None)] += 1
 
@@ -218,8 +218,14 @@ def generated():
 
 SIGNALS_TEXT = b"# all signals, and a list of all beats\nq(s,t): Sig(s,t)\nl(s,t): Beat(s,t)\n\nv(s,t): Sig(s,t) = (7,1); (7,2)\n"
 STRAPS_TEXT = b"q(s): Sig(s,t)\nl(9999998): Sig(9999998,t)\nv(s): Sig(s,t) = 9999998; 9999999\nv(t): Sig(s,t) = 1234567\n"
+LACTATE_TEXT = (b"# levels of lactate, and a list of those that were tested again\n"
+                b"q(r,l): R11(r,t,l)\nl(r,l): R12(r,t,l)\nv(r,t,l): R11(r,t,l) = (7,1,42)\nv(r,t): R12(r,t,l) = (7,1)\n")
 
-# A file for each of the program's arguments, and the sheet that it stands for.
+# The club's table that the program is given, with the first two of its relations.
+TABLE_NAME = "lactate.table"
+TABLE = table_cases.table(table_cases.OWN + LACTATE[:2])
+
+# A file for each of the program's other arguments, and the sheet that it stands for.
 FILES = [
     ("signals.sheet", WORKED, WORKED),
     ("straps.text", STRAPS_TEXT, page("(s): Sig(s,t)", "(9999998): Sig(9999998,t)", "(s): Sig(s,t) = (9999998) (9999999)", "(t): Sig(s,t) = (1234567)")),
@@ -227,14 +233,21 @@ FILES = [
     ("unclosed.sheet", UNCLOSED, UNCLOSED),
     ("signals.text", SIGNALS_TEXT, WORKED),
     ("contrary.sheet", NO_LOG_ONE, NO_LOG_ONE),
+    ("lactate.text", LACTATE_TEXT, page("(r,l): R11(r,t,l)", "(r,l): R12(r,t,l)", "(r,t,l): R11(r,t,l) = (7,1,42)", "(r,t): R12(r,t,l) = (7,1)")),
 ]
+NAMES = [name for name, _, _ in FILES]
+
+
+def page_of_files(table=None):
+    return page_of([judged_alone(sheet, table) for _, _, sheet in FILES])
 
 
 def program_files():
     """What the program is run on, and what it must print."""
     files = {PROGRAM / "data" / name: data for name, data, _ in FILES}
-    files[PROGRAM / "args"] = "".join(name + "\n" for name, _, _ in FILES).encode()
-    files[PROGRAM / "stdout"] = page_of([judged_alone(sheet) for _, _, sheet in FILES])
+    files[PROGRAM / "data" / TABLE_NAME] = TABLE
+    files[PROGRAM / "args"] = "".join(word + "\n" for word in ["-t", TABLE_NAME, *NAMES]).encode()
+    files[PROGRAM / "stdout"] = page_of_files(TABLE)
     return files
 
 
@@ -249,9 +262,10 @@ def run():
             (pathlib.Path(folder) / name).write_bytes(data)
         (pathlib.Path(folder) / "broken.text").write_bytes(b"q(s): Strop(s)\n")
         (pathlib.Path(folder) / "long.sheet").write_bytes(b" " * 100_000)
-        names = [name for name, _, _ in FILES]
+        (pathlib.Path(folder) / TABLE_NAME).write_bytes(TABLE)
         worked, none = judged_alone(WORKED), judged_alone(b"")
-        assert ran(folder, *names) == (page_of([judged_alone(sheet) for _, _, sheet in FILES]), "")
+        assert ran(folder, *NAMES) == (page_of_files(), "")
+        assert ran(folder, "-t", TABLE_NAME, *NAMES) == (page_of_files(TABLE), "")
         assert ran(folder) == (page_of([]), "")
         assert ran(folder, *["signals.text"] * 16) == (page_of([worked] * 16), "")
         assert ran(folder, *["signals.text"] * 17) == (line_of(9, WRONG_ENDS, 0), "")
@@ -277,8 +291,10 @@ def main():
     for kind, count in sorted(tally.items()):
         print(f"{kind:<25} {count:>4}")
     print(f"{sum(tally.values())} cases, {len(texts[0])} bytes of input, {len(texts[1])} bytes of output")
-    for path, text in [(STDIN, texts[0]), (STDOUT, texts[1]), *program_files().items()]:
-        if "--check" in sys.argv[1:]:
+    check = "--check" in sys.argv[1:]
+    stored_parts.store("day", *texts, check)
+    for path, text in program_files().items():
+        if check:
             if path.read_bytes() != text:
                 sys.exit(f"{path} is not what is made here")
         else:

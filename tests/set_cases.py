@@ -3,10 +3,10 @@
 
 This is an independent account of a set: it is written from the description in words alone, and shares nothing with the
 library. Each sheet is judged by tests/cover_cases.py, which was made in the same way. The stored results
-(crates/test_set/stdout) come from here and not from the library.
+(the part set of crates/test_judge/stdout) come from here and not from the library.
 
-    python3 tests/set_cases.py            writes crates/test_set/stdin and crates/test_set/stdout
-    python3 tests/set_cases.py --check    only says whether those files are what it would write
+    python3 tests/set_cases.py            writes the part set of stdin and stdout of crates/test_judge
+    python3 tests/set_cases.py --check    only says whether that part is what it would write
 
 Run it at the repository's root. It draws no chance from outside: each run writes the same bytes.
 
@@ -14,9 +14,9 @@ A case that is handed over is free but for what is said of it. So a sheet that i
 there is one spare-free case, whose facts are then stored.
 """
 import collections
-import pathlib
 import sys
 
+import stored_parts
 import table_cases
 from cover_cases import (LENT_WORDS, NO_ROOM, NOT_COVERED, OWN, REFUSED, facts_in, judged, law_by, law_of, lawful, page, parts_of, some_relations, some_sheet, told)
 from evaluate_cases import fact, raised_lines, shown_answers
@@ -69,9 +69,6 @@ def judged_set(data, ends, room, table=None):
 
 # --- The cases ------------------------------------------------------------------------------------------------------
 
-STDIN = pathlib.Path("crates/test_set/stdin")
-STDOUT = pathlib.Path("crates/test_set/stdout")
-
 # What the program has room for.
 HELD_WORDS = MOST_SHEETS * LENT_WORDS + 64
 HELD_ENDS = MOST_SHEETS + 3
@@ -103,7 +100,7 @@ def keep(name, data, ends, want, room=None, table=None):
     got = number if number else [(one.verdict, one.number) if one.number else one.verdict for one in sheets]
     if want is not None and got != want:
         sys.exit(f"the judge gives {got} and not {want}: {name}")
-    given.append(f"{name}|{' '.join(map(str, [room] + ends))}|{written(data, table)}")
+    given.append(f"set {name}|{' '.join(map(str, [room] + ends))}|{written(data, table)}")
     wanted.append(f"{name}: {number} 0 {len(sheets)} ==" + "".join(map(shown, sheets)))
     tally[(f"refused by {number}" if number else f"{len(sheets)} sheets") + " by a table" * (table is not None)] += 1
 
@@ -393,12 +390,7 @@ def main():
     for kind, count in sorted(tally.items()):
         print(f"{kind:<25} {count:>4}")
     print(f"{sum(tally.values())} cases, {len(texts[0])} bytes of input, {len(texts[1])} bytes of output")
-    for path, text in zip((STDIN, STDOUT), texts):
-        if "--check" in sys.argv[1:]:
-            if path.read_bytes() != text:
-                sys.exit(f"{path} is not what is made here")
-        else:
-            path.write_bytes(text)
+    stored_parts.store("set", *texts, "--check" in sys.argv[1:])
 
 
 if __name__ == "__main__":

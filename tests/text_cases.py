@@ -1,8 +1,8 @@
 #!/usr/bin/env python3
-"""The stored cases of crates/test_text: texts and sheets, with what is to be said of each.
+"""The part text of the stored cases of crates/test_judge: texts and sheets, with what is to be said of each.
 
-usage: text_cases.py            writes crates/test_text/stdin and stdout
-       text_cases.py --check    says whether the stored files are these
+usage: text_cases.py            writes the part text of stdin and stdout of crates/test_judge
+       text_cases.py --check    says whether that part is this
        text_cases.py --run      runs the built programs (rt check) on made-up sheets, and compares them with a writer and a reader of
                                 its own
 
@@ -16,8 +16,9 @@ import re
 import subprocess
 import sys
 
+import stored_parts
+
 ROOT = pathlib.Path(__file__).resolve().parent.parent
-CRATE = ROOT / "crates" / "test_text"
 RELATIONS = "a relation: Rower, Strap, Worn, Sig, Beat, Noise, Pulse, Coach, Seat or Pause"
 CAUSES = {
     1: "the sheet is too long",
@@ -232,7 +233,7 @@ def stored():
             said.append(case)
             continue
         name, text, words = case[:3]
-        given.append(f"{name}|{text}")
+        given.append(f"text {name}|{text}")
         said.append(f"{name}|{words}")
         if len(case) == 4:
             said.append(case[3].rstrip("/").replace("/", "\n"))
@@ -549,18 +550,14 @@ def run():
 
 def main():
     agree()
-    given, said = stored()
-    files = {CRATE / "stdin": given, CRATE / "stdout": said}
+    given, said = (text.encode() for text in stored())
     if sys.argv[1:] == ["--check"]:
-        for path, text in files.items():
-            if path.read_bytes() != text.encode():
-                sys.exit(f"{path.relative_to(ROOT)} is not what this program writes")
+        stored_parts.store("text", given, said, True)
         print(f"{sum(not isinstance(c, str) for c in CASES)} cases, as stored")
     elif sys.argv[1:] == ["--run"]:
         run()
     elif not sys.argv[1:]:
-        for path, text in files.items():
-            path.write_bytes(text.encode())
+        stored_parts.store("text", given, said, False)
     else:
         sys.exit(__doc__)
 
