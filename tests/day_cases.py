@@ -238,16 +238,12 @@ FILES = [
 NAMES = [name for name, _, _ in FILES]
 
 
-def page_of_files(table=None):
-    return page_of([judged_alone(sheet, table) for _, _, sheet in FILES])
-
-
 def program_files():
     """What the program is run on, and what it must print."""
     files = {PROGRAM / "data" / name: data for name, data, _ in FILES}
     files[PROGRAM / "data" / TABLE_NAME] = TABLE
     files[PROGRAM / "args"] = "".join(word + "\n" for word in ["-t", TABLE_NAME, *NAMES]).encode()
-    files[PROGRAM / "stdout"] = page_of_files(TABLE)
+    files[PROGRAM / "stdout"] = page_of([judged_alone(sheet, TABLE) for _, _, sheet in FILES])
     return files
 
 
@@ -264,8 +260,12 @@ def run():
         (pathlib.Path(folder) / "long.sheet").write_bytes(b" " * 100_000)
         (pathlib.Path(folder) / TABLE_NAME).write_bytes(TABLE)
         worked, none = judged_alone(WORKED), judged_alone(b"")
-        assert ran(folder, *NAMES) == (page_of_files(), "")
-        assert ran(folder, "-t", TABLE_NAME, *NAMES) == (page_of_files(TABLE), "")
+        assert ran(folder, "-t", TABLE_NAME, *NAMES) == (page_of([judged_alone(sheet, TABLE) for _, _, sheet in FILES]), "")
+        # without the table the last text has no sheet
+        own = [judged_alone(sheet) for _, _, sheet in FILES[:-1]]
+        assert ran(folder, *NAMES[:-1]) == (page_of(own), "")
+        out, said = ran(folder, *NAMES)
+        assert out == page_of([*own, refused(2)]) and said.count("\n") == 1 and said.startswith("lactate.text: refused: cause 4 at line 2"), (out, said)
         assert ran(folder) == (page_of([]), "")
         assert ran(folder, *["signals.text"] * 16) == (page_of([worked] * 16), "")
         assert ran(folder, *["signals.text"] * 17) == (line_of(9, WRONG_ENDS, 0), "")
