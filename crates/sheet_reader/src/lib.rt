@@ -103,7 +103,7 @@ fn parse(s: &[u8], ws: &mut [i32]) -> usize
 }
 
 // The first n words to the output.
-fn copy(ws: &[i32], n: usize, out: &mut [i32])
+pub fn copy(ws: &[i32], n: usize, out: &mut [i32])
     requires { ⌜ (n ≤ length (now ws)) × (n ≤ length (now out)) ⌝ }
     ensures { λ r. ⌜ Wrote (now (out .entry)) (now (out .exit)) 0 n (take n (now (ws .entry))) ⌝ }
 {
