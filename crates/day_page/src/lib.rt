@@ -6,6 +6,7 @@ use judge_result::Judgement;
 use judge_result::NO_LOG;
 use judge_result::NOT_COVERED;
 use judge_result::REFUSED;
+use sheet_format::NO_ROOM;
 use text_buffer::put;
 use text_buffer::put_byte;
 ghost use mathlib.Core.Path.{_≡_};
@@ -20,6 +21,7 @@ ghost use Rattle.sheet_format.specs.Line.{lineBytes, bytesOf};
 ghost use Rattle.text_buffer.specs.Puts.{Put};
 ghost use Rattle.judge_ends.specs.Sets.{most-sheets};
 ghost use Rattle.day_page.specs.Page.{sheetLine, sheetLines, tally, factSum, closingLine, pageOf, Printable, AllShown};
+ghost use Rattle.day_page.specs.Refusal.{dayRefusal};
 
 // The set's judgement, and how many bytes its page has; none where the set is sent back.
 pub struct DayJudgement {
@@ -129,4 +131,35 @@ pub fn put_page(out: &mut [u8], sheets: [Judgement; MOST_SHEETS], count: usize) 
 {
     let n = put_sheets(out, sheets, count);
     put_closing(out, n, sheets, count)
+}
+
+// The number that a call for a set and its page is sent back by, 0 where it is not.
+pub fn day_refusal(bytes: &[u8], ends: &[usize], out: &[i32], page: &[u8]) -> usize
+    ensures { λ r. ⌜ r ≡ dayRefusal (now (bytes .entry)) (now (ends .entry)) (now (out .entry)) (now (page .entry)) ⌝ }
+{
+    let number = judge_ends::set_refusal(bytes, ends, out);
+    if number != 0 {
+        return number;
+    }
+    if page.len() < PAGE_ROOM {
+        return NO_ROOM;
+    }
+    0
+}
+
+// The page for the set, unless the call is sent back by a number; how many bytes it has.
+pub fn print_unless(
+    sent: usize,
+    sheets: [Judgement; MOST_SHEETS],
+    count: usize,
+    page: &mut [u8],
+) -> usize
+    requires { ⌜ (sent ≡ 0 → (count ≤ most-sheets) × AllShown (take count sheets)) ⌝ }
+    ensures { λ r. ⌜ ((sent ≡ 0 → ⊥) → (now (page .exit) ≡ now (page .entry)) × (r ≡ 0)) ⌝ }
+    ensures { λ r. ⌜ (sent ≡ 0 → Put (now (page .entry)) (now (page .exit)) 0 (pageOf (take count sheets)) r) ⌝ }
+{
+    if sent != 0 {
+        return 0;
+    }
+    put_page(page, sheets, count)
 }

@@ -5,7 +5,7 @@ use mathlib.Core.List.{List, [], _∷_, _++_}
 use mathlib.Core.Logic.{_⊎_, inl, inr, ⊎-elim}
 use Prim.Native.Nat.{ℕ, zero, suc, _+_, _*_, _<_, _≤_}
 use native.Mathlib.Omega.{arith}
-use borrow.Author.Tests.{ltb-false, lt-ltb, le-ltb, eq-eqb, ne-eqb, eqb-true, eqb-false}
+use borrow.Author.Tests.{ltb-false, eqb-true, eqb-false}
 use lib.Dec.{eqb, ltb}
 use lib.IntN.{ℤ}
 use lib.ListN.{length, getD, take, drop, length-take, length-drop}
@@ -31,7 +31,8 @@ use Rattle.judge_set.proofs.Laws.{set-as}
 use Rattle.day_page.specs.Page.{page-room, pageOf, Printable, AllShown}
 use Rattle.day_page.proofs.Laws.{page-fits}
 use Rattle.day_page.specs.declared.DayJudgement.{DayJudgement}
-use Rattle.judge_day.specs.Days.{dayRefusal, dayJudgement, setSent, DaySent, DayTaken, DayJudged}
+use Rattle.day_page.specs.Refusal.{dayRefusal}
+use Rattle.judge_day.specs.Days.{dayJudgement, setSent, DaySent, DayTaken, DayJudged}
 
 -- ---- a sheet is sent back by a number up to 9
 
@@ -137,18 +138,6 @@ by-number zero clean some = clean refl
 by-number (suc n) clean some = some (λ e. omega arith)
 
 module _ (bytes ends : List ℕ) (out : List ℤ) (page : List ℕ) where
-  pub by-set : (n : ℕ) → n ≡ setRefusal bytes ends out → (n ≡ 0 → ⊥) → n ≡ dayRefusal bytes ends out page
-  unfolding dayRefusal
-  by-set n is some = rw (← is, ne-eqb n 0 some) refl
-
-  pub by-page : (n : ℕ) → n ≡ setRefusal bytes ends out → n ≡ 0 → length page < page-room → 13 ≡ dayRefusal bytes ends out page
-  unfolding dayRefusal
-  by-page n is clean short = rw (← is, eq-eqb n 0 clean, lt-ltb (length page) page-room short) refl
-
-  pub by-none : (n : ℕ) → n ≡ setRefusal bytes ends out → n ≡ 0 → page-room ≤ length page → 0 ≡ dayRefusal bytes ends out page
-  unfolding dayRefusal
-  by-none n is clean room = rw (← is, eq-eqb n 0 clean, le-ltb (length page) page-room room) refl
-
   -- a call that is not sent back has a set that is not, and room for a page
   pub neither : dayRefusal bytes ends out page ≡ 0 → (setRefusal bytes ends out ≡ 0) × (page-room ≤ length page)
   unfolding dayRefusal

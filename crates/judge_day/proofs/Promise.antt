@@ -23,7 +23,8 @@ use Rattle.day_page.specs.Page.{page-room, sheetLines, tally, pageOf}
 use Rattle.day_page.specs.Totals.{totalsOf}
 use Rattle.day_page.proofs.Laws.{page-reads}
 use Rattle.day_page.specs.declared.DayJudgement.{DayJudgement}
-use Rattle.judge_day.specs.Days.{dayRefusal, setSent, results, DayTaken, DayJudged}
+use Rattle.day_page.specs.Refusal.{dayRefusal}
+use Rattle.judge_day.specs.Days.{setSent, results, DayTaken, DayJudged}
 use Rattle.judge_day.proofs.Laws.{neither, Showing, set-shown}
 
 -- ---- each verdict is one of four

@@ -1,26 +1,18 @@
 -- What judging a set and writing its page gives, for all input. `bytes`, `ends`, `out` and `after` are those of a set; `page` is what was lent
 -- for the page, `printed` what it holds afterwards.
 use mathlib.Core.Path.{_≡_}
-use mathlib.Core.Bool.{cond}
 use mathlib.Core.List.{List}
 use mathlib.Core.Logic.{_⊎_}
 use Prim.Native.Nat.{ℕ}
-use lib.Dec.{eqb, ltb}
 use lib.IntN.{ℤ}
 use lib.ListN.{length, take, replicate}
 use Rattle.sheet_format.specs.Sheet.{over}
 use Rattle.judge_result.specs.declared.Judgement.{Judgement}
 use Rattle.judge_ends.specs.declared.SetJudgement.{SetJudgement}
-use Rattle.judge_ends.specs.Sets.{Promise, most-sheets, setRefusal, unjudged, setJudgement, SetTaken}
-use Rattle.day_page.specs.Page.{page-room, pageOf}
+use Rattle.judge_ends.specs.Sets.{Promise, most-sheets, unjudged, setJudgement, SetTaken}
+use Rattle.day_page.specs.Page.{pageOf}
+use Rattle.day_page.specs.Refusal.{dayRefusal}
 use Rattle.day_page.specs.declared.DayJudgement.{DayJudgement}
-
--- what the set is sent back for, and then 13 for fewer bytes than a page may have, whatever the set needs; 0 where all is taken
-unfoldable pub dayRefusal : List ℕ → List ℕ → List ℤ → List ℕ → ℕ
-dayRefusal bytes ends out page =
-    cond (eqb (setRefusal bytes ends out) 0)
-    (cond (ltb (length page) page-room) 13 0)
-    (setRefusal bytes ends out)
 
 -- the set's judgement, and how many bytes its page has
 abbrev pub dayJudgement : SetJudgement → ℕ → DayJudgement

@@ -1,36 +1,15 @@
 // A page's whole set of sheets, judged in one call, and the page for it: a line for each sheet, and a closing line of totals.
 use day_page::DayJudgement;
-use day_page::PAGE_ROOM;
-use judge_ends::MOST_SHEETS;
 use judge_ends::SetJudgement;
-use judge_result::Judgement;
-use sheet_format::NO_ROOM;
 use sheet_table::Loaded;
 ghost use mathlib.Core.Path.{_≡_};
 ghost use mathlib.Core.List.{List};
-ghost use Prim.Native.Nat.{ℕ, _≤_};
-ghost use lib.ListN.{length, take};
-ghost use Rattle.text_buffer.specs.Puts.{Put};
+ghost use Prim.Native.Nat.{ℕ};
 ghost use Rattle.sheet_format.specs.Table.{ten};
 ghost use Rattle.sheet_table.specs.Loads.{Loads};
 ghost use Rattle.judge_result.specs.Judged.{Judged, JudgedBy};
-ghost use Rattle.judge_ends.specs.Sets.{most-sheets, SetJudged};
-ghost use Rattle.day_page.specs.Page.{pageOf, AllShown};
-ghost use Rattle.judge_day.specs.Days.{dayRefusal, setSent, DayJudged};
-
-// The number that the call is sent back by, 0 where it is not.
-fn day_refusal(bytes: &[u8], ends: &[usize], out: &[i32], page: &[u8]) -> usize
-    ensures { λ r. ⌜ r ≡ dayRefusal (now (bytes .entry)) (now (ends .entry)) (now (out .entry)) (now (page .entry)) ⌝ }
-{
-    let number = judge_ends::set_refusal(bytes, ends, out);
-    if number != 0 {
-        return number;
-    }
-    if page.len() < PAGE_ROOM {
-        return NO_ROOM;
-    }
-    0
-}
+ghost use Rattle.judge_ends.specs.Sets.{SetJudged};
+ghost use Rattle.judge_day.specs.Days.{setSent, DayJudged};
 
 // The judgement of the set, unless the call is sent back.
 fn judge_unless(
@@ -49,23 +28,6 @@ fn judge_unless(
     judge_set::judge_set_loaded(table, bytes, ends, out)
 }
 
-// The page for the set, unless the call is sent back by a number; how many bytes it has.
-fn print_unless(
-    sent: usize,
-    sheets: [Judgement; MOST_SHEETS],
-    count: usize,
-    page: &mut [u8],
-) -> usize
-    requires { ⌜ (sent ≡ 0 → (count ≤ most-sheets) × AllShown (take count sheets)) ⌝ }
-    ensures { λ r. ⌜ ((sent ≡ 0 → ⊥) → (now (page .exit) ≡ now (page .entry)) × (r ≡ 0)) ⌝ }
-    ensures { λ r. ⌜ (sent ≡ 0 → Put (now (page .entry)) (now (page .exit)) 0 (pageOf (take count sheets)) r) ⌝ }
-{
-    if sent != 0 {
-        return 0;
-    }
-    day_page::put_page(page, sheets, count)
-}
-
 // Judges a set of sheets by a table that was loaded before, and writes its page.
 fn judge_day_loaded(
     table: Loaded,
@@ -77,10 +39,10 @@ fn judge_day_loaded(
     requires { ⌜ ((tb : List ℕ) × Loads tb table) ⌝ }
     ensures { λ r. ⌜ ((tb : List ℕ) → Loads tb table → DayJudged (JudgedBy tb) (now (bytes .entry)) (now (ends .entry)) (now (out .entry)) (now (out .exit)) (now (page .entry)) (now (page .exit)) r) ⌝ }
 {
-    let number = day_refusal(bytes, ends, out, page);
+    let number = day_page::day_refusal(bytes, ends, out, page);
     let set = judge_unless(number, table, bytes, ends, out);
     let sheets = set.sheets;
-    let n = print_unless(number, sheets, ends.len(), page);
+    let n = day_page::print_unless(number, sheets, ends.len(), page);
     DayJudgement { set, bytes: n }
 }
 

@@ -1,7 +1,7 @@
 use borrow.Author.Needs.{needs}
-use Rattle.judge_day.proofs.Laws.{by-set, by-page, by-none}
-use Rattle.judge_day.proofs.day_refusal.Statement.{statement}
-use Rattle.judge_day.proofs.day_refusal.Tie as tie
+use Rattle.day_page.proofs.Refusal.{by-set, by-page, by-none}
+use Rattle.day_page.proofs.day_refusal.Statement.{statement}
+use Rattle.day_page.proofs.day_refusal.Tie as tie
 
 set-refusal-requires : tie.Need-set-refusal-requires
 set-refusal-requires c κs = search needs

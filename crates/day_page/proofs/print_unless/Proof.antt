@@ -1,7 +1,7 @@
 use mathlib.Core.Path.{refl}
 use borrow.Author.Needs.{needs}
-use Rattle.judge_day.proofs.print_unless.Statement.{statement}
-use Rattle.judge_day.proofs.print_unless.Tie as tie
+use Rattle.day_page.proofs.print_unless.Statement.{statement}
+use Rattle.day_page.proofs.print_unless.Tie as tie
 
 returns : tie.Need-returns
 returns c = (λ some. (refl, refl), λ zero. absurd (c .if1 .taken zero))
