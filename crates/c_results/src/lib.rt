@@ -1,4 +1,6 @@
 // What the calls give back, as C has it: the structs of include/figdawesa.h.
+#![tactic(auto)]
+
 ghost use Rattle.std.specs.Prelude.{◌≡◌, map, ◌-◌};
 ghost use Rattle.sheet_format.specs.Sheet.{returned};
 ghost use Rattle.c_results.specs.Passed.{returned_of, judgement_of, set_judgement_of, day_judgement_of};
@@ -10,7 +12,7 @@ use sheet_format::Ending;
 
 // How a call ended: a refusal's number and line, both 0 where nothing is refused, and the count of what was written.
 #[repr(C)]
-#[derive(Drop)]
+#[derive(Clone, Copy)]
 pub struct Ended {
     pub number: usize,
     pub line: usize,
@@ -19,7 +21,7 @@ pub struct Ended {
 
 // Where a part of the sheet stands.
 #[repr(C)]
-#[derive(Drop)]
+#[derive(Clone, Copy)]
 pub struct Stretch {
     pub start: usize,
     pub length: usize,
@@ -27,7 +29,7 @@ pub struct Stretch {
 
 // A judgement: the verdict, a refusal's number and line, the count of facts, the missing answer.
 #[repr(C)]
-#[derive(Drop)]
+#[derive(Clone, Copy)]
 pub struct Outcome {
     pub verdict: usize,
     pub number: usize,
@@ -38,7 +40,7 @@ pub struct Outcome {
 
 // A set's judgement: a refusal's number and line, both 0 where the set is taken, how many sheets were judged, and a judgement for each place.
 #[repr(C)]
-#[derive(Drop)]
+#[derive(Clone, Copy)]
 pub struct SetOutcome {
     pub number: usize,
     pub line: usize,
@@ -48,7 +50,7 @@ pub struct SetOutcome {
 
 // A set's judgement, and how many bytes its page has.
 #[repr(C)]
-#[derive(Drop)]
+#[derive(Clone, Copy)]
 pub struct DayOutcome {
     pub set: SetOutcome,
     pub bytes: usize,

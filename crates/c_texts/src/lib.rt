@@ -1,4 +1,6 @@
 // What the calls on texts give back, as C has it: the struct of include/figdawesa.h.
+#![tactic(auto)]
+
 ghost use Rattle.std.specs.Prelude.{◌≡◌};
 ghost use Rattle.c_texts.specs.Passed.{text_outcome_of};
 
@@ -7,7 +9,7 @@ use text_to_sheet::Made;
 // What became of a text: how many bytes its sheet has; or what was expected, in which relation and in which line of the text; or the sheet's refusal, its
 // number and line, and the line of the text.
 #[repr(C)]
-#[derive(Drop)]
+#[derive(Clone, Copy)]
 pub struct TextOutcome {
     pub expected: usize,
     pub relation: usize,

@@ -1,4 +1,6 @@
 // Dropping facts from a case until none is to spare.
+#![tactic(auto)]
+
 ghost use Rattle.std.specs.Prelude.{◌≡◌, true, false, ℕ, ◌+◌, ◌-◌, ◌*◌, ◌<◌, ◌≤◌, length, take};
 ghost use Rattle.tableau_layout.specs.Layout.{plan-numbers, tableau_atoms};
 ghost use Rattle.sheet_format.specs.Limits.{most-rows};

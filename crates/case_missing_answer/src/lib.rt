@@ -1,4 +1,6 @@
 // The least row that the question of a plan is given and no list is.
+#![tactic(auto)]
+
 ghost use Rattle.std.specs.Prelude.{◌≡◌, true, false, ◌≤◌, ◌<◌, min};
 ghost use Rattle.tableau_layout.specs.Layout.{list-block};
 ghost use Rattle.sheet_format.specs.Limits.{most-atoms, most-lists};
@@ -21,7 +23,7 @@ const ONE_BY_ONE: usize = 16;
 const ROUND: usize = ONE_BY_ONE + ONE_BY_ONE - 1;
 
 // A count of the rows passed, the columns where dominated values were looked for in vain, and the row from which a walk goes on.
-#[derive(Drop)]
+#[derive(Clone, Copy)]
 struct Pace {
     passed: usize,
     vain: [bool; 4],

@@ -131,6 +131,8 @@ module _ (log : Log) (b : Block) where
       in-gather (λ f. f.row) (fact_of v a) (v x) log (holds a i) (go a t l k)
     where
       go : (a : Atom) (t : Term) → In x (variable t) → In t a.terms → In (v x) (row v a.terms)
+      go a (con _) x4 k = elim x4 [ ]
+      go a (var y) (inr x6) k = elim x6 [ ]
       go a (var y) (inl e) k = subst (λ z. In (v z) (row v a.terms)) (sym e) (in_map (value v) a.terms (var y) k)
 
   module _ (v w : ℕ → ℕ) (same : (x : ℕ) → In x (variables b) → w x ≡ v x) where
@@ -197,6 +199,7 @@ infix 20 ◌≼◌
 pub same_or_below : (l r : List ℕ) → length l ≡ length r → l ≼ r → (l ≡ r) ⊎ (l ≺ r)
 same_or_below [] [] e h = inl refl
 same_or_below [] (n ∷ r) e h = absurd (omega arith)
+same_or_below (m ∷ l) [] e h = elim h [ ]
 same_or_below (m ∷ l) (n ∷ r) e (inl lt) = inr (inl lt)
 same_or_below (m ∷ l) (n ∷ r) e (inr (p, h)) = ⊎_elim (λ q. inl (cons_eq p q)) (λ q. inr (inr (p, q))) (same_or_below l r (omega arith) h)
 
@@ -216,6 +219,8 @@ total (m ∷ l) (n ∷ r) = first-least m n l r (total l r)
 
 pub least_trans : (a b c : List ℕ) → a ≼ b → b ≼ c → a ≼ c
 least_trans [] b c p q = tt
+least_trans (k ∷ a) [] c p q = elim p [ ]
+least_trans (k ∷ a) (m ∷ b) [] p q = elim q [ ]
 least_trans (k ∷ a) (m ∷ b) (n ∷ c) (inl p) (inl q) = inl (omega arith)
 least_trans (k ∷ a) (m ∷ b) (n ∷ c) (inl p) (inr (e, q)) = inl (omega arith)
 least_trans (k ∷ a) (m ∷ b) (n ∷ c) (inr (e, p)) (inl q) = inl (omega arith)

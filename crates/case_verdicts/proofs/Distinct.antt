@@ -19,6 +19,7 @@ module _ {A : Type 0} (eq : Discrete A) where
   taken_out x (y ∷ l) = drop-if (eq y x) y (taken_out x l)
 
   pub of_without : (x z : A) (l : List A) → In z (taken_out x l) → In z l × (z ≡ x → ⊥)
+  of_without x z [] m = elim m [ ]
   of_without x z (y ∷ l) m = go (of_without x z l) (eq y x) m
     where
       go : (In z (taken_out x l) → In z l × (z ≡ x → ⊥)) → (d : Dec (y ≡ x)) → In z (drop-if d y (taken_out x l)) → In z (y ∷ l) × (z ≡ x → ⊥)
@@ -27,6 +28,7 @@ module _ {A : Type 0} (eq : Discrete A) where
       go rec (no n) (inr i) = (inr (rec i).0, (rec i).1)
 
   pub in_without : (x z : A) (l : List A) → In z l → (z ≡ x → ⊥) → In z (taken_out x l)
+  in_without x z [] m ne = elim m [ ]
   in_without x z (y ∷ l) m ne = go (λ i. in_without x z l i ne) (eq y x) m
     where
       go : (In z l → In z (taken_out x l)) → (d : Dec (y ≡ x)) → In z (y ∷ l) → In z (drop-if d y (taken_out x l))
@@ -44,6 +46,7 @@ module _ {A : Type 0} (eq : Discrete A) where
       go h (no n) = omega arith
 
   pub without_fewer : (x : A) (l : List A) → In x l → length (taken_out x l) < length l
+  without_fewer x [] m = elim m [ ]
   without_fewer x (y ∷ l) m = go (λ i. without_fewer x l i) (without-most x l) (eq y x) m
     where
       go : (In x l → length (taken_out x l) < length l) → length (taken_out x l) ≤ length l → (d : Dec (y ≡ x)) → In x (y ∷ l) → length (drop-if d y (taken_out x l)) < suc (length l)
@@ -73,10 +76,12 @@ module _ {A : Type 0} (eq : Discrete A) where
   once (x ∷ l) = x ∷ taken_out x (once l)
 
   pub of_once : (z : A) (l : List A) → In z (once l) → In z l
+  of_once z [] x' = elim x' [ ]
   of_once z (x ∷ l) (inl e) = inl e
   of_once z (x ∷ l) (inr m) = inr (of_once z l (of_without x z (once l) m).0)
 
   pub in-once : (z : A) (l : List A) → In z l → In z (once l)
+  in-once z [] m = elim m [ ]
   in-once z (x ∷ l) m = go (λ i. in-once z l i) (eq z x) m
     where
       go : (In z l → In z (once l)) → Dec (z ≡ x) → In z (x ∷ l) → In z (once (x ∷ l))

@@ -35,6 +35,7 @@ in-upto (suc n) k h = go (same? k n) (λ l. in-upto n k l)
     go (no d) rec = inr (rec (omega arith))
 
 pub of_upto : (n k : ℕ) → In k (upto n) → k < n
+of_upto zero k x' = elim x' [ ]
 of_upto (suc n) k (inl e) = omega arith
 of_upto (suc n) k (inr m) = let h = of_upto n k m in omega arith
 
@@ -43,6 +44,7 @@ abbrev pub slots : Sheet → List ℕ
 slots x = upto (length (jobs x) * width)
 
 number-below : (js : List Job) (c : Copy) → In c (numbered js) → c.number < length js
+number-below [] c x' = elim x' [ ]
 number-below (j ∷ js) c (inl e) = subst (λ (d : Copy). d.number < suc (length js)) (sym e) (omega arith)
 number-below (j ∷ js) c (inr m) =
     let (d, n, e) = from-map later (numbered js) c m in

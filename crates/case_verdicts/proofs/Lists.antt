@@ -12,6 +12,7 @@ use Rattle.query_meaning.specs.Meaning.{In}
 -- ---- elements
 
 pub in_left : {A : Type 0} (x : A) (l r : List A) → In x l → In x (l ++ r)
+in_left {A = A} x [] r x'' = elim x'' [ ]
 in_left x (y ∷ l) r (inl e) = inl e
 in_left x (y ∷ l) r (inr m) = inr (in_left x l r m)
 
@@ -25,10 +26,12 @@ in-cases x (y ∷ l) r (inl e) = inl (inl e)
 in-cases x (y ∷ l) r (inr m) = ⊎_elim (λ h. inl (inr h)) (λ h. inr h) (in-cases x l r m)
 
 pub in-gather : {A B : Type 0} (f : A → List B) (x : A) (y : B) (l : List A) → In x l → In y (f x) → In y (gather f l)
+in-gather {A = A} {B = B} f x y [] x3 m = elim x3 [ ]
 in-gather f x y (z ∷ l) (inl e) m = in_left y (f z) (gather f l) (subst (λ w. In y (f w)) e m)
 in-gather f x y (z ∷ l) (inr h) m = in_right y (f z) (gather f l) (in-gather f x y l h m)
 
 pub of_gather : {A B : Type 0} (f : A → List B) (y : B) (l : List A) → In y (gather f l) → (x : A) × In x l × In y (f x)
+of_gather {A = A} {B = B} f y [] m = elim m [ ]
 of_gather f y (z ∷ l) m = ⊎_elim (λ h. (z, inl refl, h)) (λ h. let (x, n, i) = of_gather f y l h in (x, inr n, i)) (in-cases y (f z) (gather f l) m)
 
 -- ---- sums over lists

@@ -21,6 +21,7 @@ made top [] = []
 made top (n ∷ l) = cond (ltb n top) (made top l) (n ∷ made top l)
 
 of_made : (top k : ℕ) (l : List ℕ) → In k (made top l) → In k l × (top ≤ k)
+of_made top k [] m = elim m [ ]
 of_made top k (n ∷ l) m = go (of_made top k l) (ltb n top) refl m
   where
     go : (In k (made top l) → In k l × (top ≤ k)) → (b : Bool) → ltb n top ≡ b → In k (cond b (made top l) (n ∷ made top l)) → In k (n ∷ l) × (top ≤ k)
@@ -29,6 +30,7 @@ of_made top k (n ∷ l) m = go (of_made top k l) (ltb n top) refl m
     go rec false e (inr i) = (inr (rec i).0, (rec i).1)
 
 in-made : (top k : ℕ) (l : List ℕ) → In k l → top ≤ k → In k (made top l)
+in-made top k [] x'' h = elim x'' [ ]
 in-made top k (n ∷ l) (inl e) h = subst (λ b. In k (cond b (made top l) (n ∷ made top l))) (sym (le-ltb n top (subst (λ z. top ≤ z) e h))) (inl e)
 in-made top k (n ∷ l) (inr m) h = go (ltb n top) (in-made top k l m h)
   where
@@ -142,6 +144,8 @@ module _ (C : ℕ → Type 0) (slots : List ℕ) where
   open_rows s (m ∷ ms) (n ∷ ns) e ne k l = go (same? m n) (row? ms ns) (λ d. open_rows s ms ns (omega arith) d (λ z i. k z (inr i)) (λ z i. l z (inr i)))
     where
       rest : (xs ys : List ℕ) → ((z : ℕ) → In z xs → Known C slots s z) → ((z : ℕ) → In z ys → Known C slots s z) → (f : Equation) → In f (equations xs ys) → Known C slots s f.left × Known C slots s f.right
+      rest [] ys kx ky f x7 = elim x7 [ ]
+      rest (x ∷ xs) [] kx ky f x12 = elim x12 [ ]
       rest (x ∷ xs) (y ∷ ys) kx ky f (inl p) = (subst (λ (z : Equation). Known C slots s z.left) (sym p) (kx x (inl refl)), subst (λ (z : Equation). Known C slots s z.right) (sym p) (ky y (inl refl)))
       rest (x ∷ xs) (y ∷ ys) kx ky f (inr i) = rest xs ys (λ z j. kx z (inr j)) (λ z j. ky z (inr j)) f i
 

@@ -17,6 +17,7 @@ module _ (x : Sheet) (l : Block) (one : x.lists ≡ l ∷ []) (log : Log) (t : L
   only k m = go (subst (In k) one m)
     where
       go : In k (l ∷ []) → k ≡ l
+      go (mathlib.Core.Logic.inr x'') = elim x'' [ ]
       go (inl e) = e
 
   pub case-against : Case x log t → CaseAgainst x l log t

@@ -29,6 +29,7 @@ pub record Violation (top : ℕ) (x : Sheet) (s : State) : Type 0 where
   pub opens : (alt : List Equation) → In alt alts → Open (Stands x) (slots x) s alt
 
 pub only : {C : ℕ → Type 0} {ns : List ℕ} {s : State} (es : List Equation) → Open C ns s es → (alt : List Equation) → In alt (es ∷ []) → Open C ns s alt
+only {C = C} {ns = ns} {s = s} es o alt (inr x') = elim x' [ ]
 only {C} {ns} {s} es o alt (inl e) = subst (Open C ns s) (sym e) o
 
 abbrev KeySettled : Sheet → State → Fact → Fact → Type 0

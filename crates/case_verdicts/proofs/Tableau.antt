@@ -18,6 +18,8 @@ use Rattle.case_verdicts.proofs.Lists.{in-gather, of_gather}
 -- ---- rows owed to parents
 
 of_owed : (p : ℕ) (r : List ℕ) (f : Fact) → In f (owed p r) → (0 < p) × (f ≡ fact p r)
+of_owed Prim.Native.Nat.zero r f x' = elim x' [ ]
+of_owed (suc p) r f (inr x3) = elim x3 [ ]
 of_owed (suc p) r f (inl e) = (omega arith, e)
 
 module _ (table : Table) where
@@ -41,10 +43,12 @@ module _ (table : Table) where
 -- ---- copies and jobs
 
 pub numbered-job : (js : List Job) (c : Copy) → In c (numbered js) → In c.job js
+numbered-job mathlib.Core.List.[] c x' = elim x' [ ]
 numbered-job (j ∷ js) c (inl e) = inl (λ i. (e i).job)
 numbered-job (j ∷ js) c (inr m) = let (d, n, e) = from-map later (numbered js) c m in inr (subst (λ k. In k.job js) (sym e) (numbered-job js d n))
 
 pub job-numbered : (js : List Job) (j : Job) → In j js → (k : ℕ) × In (record { number = k; job = j }) (numbered js)
+job-numbered mathlib.Core.List.[] j x' = elim x' [ ]
 job-numbered (i ∷ js) j (inl e) = (0, inl (λ d. record { number = 0; job = e d }))
 job-numbered (i ∷ js) j (inr m) = let (k, n) = job-numbered js j m in (suc k, inr (in_map later (numbered js) _ n))
 

@@ -38,6 +38,7 @@ pub unify-same : (top a b : ℕ) → a ≡ b → Unifier top (λ n. n) ((a ≈ b
 unify-same top a b same = record { keeps = λ c h. refl; met = λ e m. one e m; general = λ h k m n. refl }
   where
     one : (e : Equation) → In e ((a ≈ b) ∷ []) → e.left ≡ e.right
+    one e (inr x') = elim x' [ ]
     one e (inl p) = (λ i. (p i).left) ∙ same ∙ sym (λ i. (p i).right)
 
 pub unify-left : (top m n : ℕ) → top ≤ m → Unifier top (replace m n) ((m ≈ n) ∷ [])
@@ -48,10 +49,12 @@ unify-left top m n made = record {
 }
   where
     one : (e : Equation) → In e ((m ≈ n) ∷ []) → replace m n e.left ≡ replace m n e.right
+    one e (inr x') = elim x' [ ]
     one e (inl p) = ap (λ (q : Equation). replace m n q.left) p ∙ replace-same m n ∙ sym (replace-right m n) ∙ sym (ap (λ (q : Equation). replace m n q.right) p)
 
 -- an equation may be read from right to left
 met_swap : (h : ℕ → ℕ) (m n : ℕ) → Met h ((m ≈ n) ∷ []) → Met h ((n ≈ m) ∷ [])
+met_swap h m n met e (inr x') = elim x' [ ]
 met_swap h m n met e (inl p) = ap (λ (q : Equation). h q.left) p ∙ sym (met (m ≈ n) (inl refl)) ∙ sym (ap (λ (q : Equation). h q.right) p)
 
 pub unify-right : (top m n : ℕ) → top ≤ n → Unifier top (replace n m) ((m ≈ n) ∷ [])
@@ -70,6 +73,7 @@ unify-none top = record { keeps = λ c h. refl; met = λ e m. absurd m; general 
 module _ {top : ℕ} {r : ℕ → ℕ} (a b : ℕ) {es : List Equation} (u : Unifier top r es) where
   -- h meets the next equation also as the earlier ones have left it
   became : (h : ℕ → ℕ) → Keeps top h → Met h ((a ≈ b) ∷ es) → Met h ((r a ≈ r b) ∷ [])
+  became h k met e (inr x') = elim x' [ ]
   became h k met e (inl p) =
       let g = u.general h k (λ f m. met f (inr m)) in
       ap (λ (q : Equation). h q.left) p ∙ g a ∙ met (a ≈ b) (inl refl) ∙ sym (g b) ∙ sym (ap (λ (q : Equation). h q.right) p)

@@ -1,4 +1,6 @@
 // Hands the case of a good state over: its facts in order and without any to spare, and the least missing answer.
+#![tactic(auto)]
+
 ghost use Rattle.std.specs.Prelude.{◌≡◌, map, ℕ, ◌*◌, ◌≤◌, ◌<◌, pos, length, get_or, take};
 ghost use Rattle.tableau_layout.specs.Layout.{tableau_atoms, tableau_numbers};
 ghost use Rattle.list_laws.specs.Wrote.{Wrote};
@@ -11,7 +13,7 @@ use query_layout::FACT_NUMBERS;
 use tableau_layout::{PLAN_NUMBERS, TABLEAU_ATOMS, TABLEAU_NUMBERS};
 
 // How many facts stand in the lent words, and the missing answer.
-#[derive(Drop)]
+#[derive(Clone, Copy)]
 pub struct HandedCase {
     pub count: usize,
     pub missing: [usize; 4],

@@ -8,51 +8,51 @@
 //     1, count                    not covered, and how many facts the case has; then
 //     6, a value for each column of the question's head       the missing answer
 //     7, relation, a value for each column of it              a fact of the case, a line for each
+#![tactic(auto)]
+
 ghost use Rattle.std.specs.Prelude.{◌≡◌, ◌+◌, ◌*◌, ◌≤◌, length};
 ghost use Rattle.judge_result.specs.Judged.{least-room};
 
 use judge_result::{Judgement, LEAST_ROOM};
-use libc::{STDIN_FILENO, STDOUT_FILENO};
 use query_meaning::FACT_WORDS;
 use sheet_format::{FIELD_BYTES, FIELD_END, MOST_SHEET_BYTES, TABLE_NUMBERS};
 use sheet_table_file::TABLE_READ;
+use std::io;
 
 // What is read: one byte more than a sheet may have, so that a longer one is refused.
 const READ: usize = MOST_SHEET_BYTES + 1;
 
-fn main() {
+fn main(rt: HostRuntime) -> io::Result<()> {
     let mut bytes = [0u8; TABLE_READ];
-    let n = sheet_table_file::table(1, &mut bytes);
-    cover_given(&bytes[..n]);
+    let n = sheet_table_file::table(&rt, &rt.stderr(), 1, &mut bytes);
+    cover_given(&rt, &bytes[..n])
 }
 
 // Judges the sheet of standard input by a table.
-fn cover_given(table: &[u8]) {
+fn cover_given(rt: &(impl Input + Print), table: &[u8]) -> io::Result<()> {
     let mut given = [0u8; READ];
-    let n = io::read_full(STDIN_FILENO, &mut given);
-    cover(table, &given[..n]);
+    let n = program_input::read_up_to(&mut rt.reader(), &mut given)?;
+    cover(rt, table, &given[..n])
 }
 
 // Judges a sheet by a table, and prints what comes out.
-fn cover(table: &[u8], sheet: &[u8]) {
+fn cover(rt: &impl Print, table: &[u8], sheet: &[u8]) -> io::Result<()> {
     let mut facts = [0i32; LEAST_ROOM];
     let j = judged(table, sheet, &mut facts);
     let verdict = j.verdict;
     let count = j.count;
     if verdict == 9 {
-        print_refusal(j.number, j.line);
-        return;
+        return print_refusal(rt, j.number, j.line);
     }
     if verdict != 1 {
-        print_verdict(verdict);
-        return;
+        return print_verdict(rt, verdict);
     }
     let missing = j.missing;
-    print_count(count);
-    print_missing(&missing, columns(sheet));
+    print_count(rt, count)?;
+    print_missing(rt, &missing, columns(sheet))?;
     let loaded = sheet_table::load(table);
     let numbers = loaded.numbers;
-    print_facts(&numbers, &facts, count);
+    print_facts(rt, &numbers, &facts, count)
 }
 
 // Judges a sheet into the words that a verdict wants: the facts of its case are among them.
@@ -77,59 +77,65 @@ fn columns(sheet: &[u8]) -> usize
     fields - 1
 }
 
-fn print_refusal(number: usize, line: usize) {
-    print_number(9);
-    print_number(number);
-    print_number(line);
-    print_end();
+fn print_refusal(rt: &impl Print, number: usize, line: usize) -> io::Result<()> {
+    print_number(rt, 9)?;
+    print_number(rt, number)?;
+    print_number(rt, line)?;
+    print_end(rt)
 }
 
-fn print_verdict(verdict: usize) {
-    print_number(verdict);
-    print_end();
+fn print_verdict(rt: &impl Print, verdict: usize) -> io::Result<()> {
+    print_number(rt, verdict)?;
+    print_end(rt)
 }
 
-fn print_count(count: usize) {
-    print_number(1);
-    print_number(count);
-    print_end();
+fn print_count(rt: &impl Print, count: usize) -> io::Result<()> {
+    print_number(rt, 1)?;
+    print_number(rt, count)?;
+    print_end(rt)
 }
 
-fn print_missing(values: &[usize; 4], columns: usize)
+fn print_missing(rt: &impl Print, values: &[usize; 4], columns: usize) -> io::Result<()>
     requires { columns ≤ 4 }
 {
-    print_number(6);
+    print_number(rt, 6)?;
     let mut i = 0;
     while i < columns {
-        print_number(values[i]);
+        print_number(rt, values[i])?;
         i += 1;
     }
-    print_end();
+    print_end(rt)
 }
 
-fn print_facts(table: &[usize; TABLE_NUMBERS], facts: &[i32], count: usize)
+fn print_facts(
+    rt: &impl Print,
+    table: &[usize; TABLE_NUMBERS],
+    facts: &[i32],
+    count: usize,
+) -> io::Result<()>
     requires { count * 5 ≤ length facts.now }
 {
     let mut i = 0;
     while i < count {
         let at = i * FACT_WORDS;
-        print_fact(table, &facts[at..at + FACT_WORDS]);
+        print_fact(rt, table, &facts[at..at + FACT_WORDS])?;
         i += 1;
     }
+    Ok(())
 }
 
 // A relation, and as many values as it has columns.
-fn print_fact(table: &[usize; TABLE_NUMBERS], fact: &[i32])
+fn print_fact(rt: &impl Print, table: &[usize; TABLE_NUMBERS], fact: &[i32]) -> io::Result<()>
     requires { length fact.now ≡ 5 }
 {
-    print_number(7);
+    print_number(rt, 7)?;
     let columns = least(sheet_terms::columns(table, fact[0]), 4);
     let mut i = 0;
     while i <= columns {
-        print_word(fact[i]);
+        print_word(rt, fact[i])?;
         i += 1;
     }
-    print_end();
+    print_end(rt)
 }
 
 fn least(a: usize, b: usize) -> usize
@@ -139,17 +145,18 @@ fn least(a: usize, b: usize) -> usize
 }
 
 // A number that fits a field, as all numbers of a judgement do.
-fn print_number(n: usize) {
+fn print_number(rt: &impl Print, n: usize) -> io::Result<()> {
     if n < FIELD_END as usize {
-        print_word(n as i32);
+        print_word(rt, n as i32)?;
     }
+    Ok(())
 }
 
-fn print_word(w: i32) {
+fn print_word(rt: &impl Print, w: i32) -> io::Result<()> {
     let bytes = sheet_fields::field_bytes(w);
-    io::write_all(STDOUT_FILENO, &bytes);
+    rt.write_all(&bytes)
 }
 
-fn print_end() {
-    io::write_all(STDOUT_FILENO, b"\n");
+fn print_end(rt: &impl Print) -> io::Result<()> {
+    rt.write_all(b"\n")
 }

@@ -1,4 +1,6 @@
 // The page for a set that was judged: a line for each sheet, and a closing line of totals, in the fields of sheets.
+#![tactic(auto)]
+
 ghost use Rattle.std.specs.Prelude.{◌≡◌, cond, ◌≤◌, ◌<◌, eqb, pos, take};
 ghost use Rattle.sheet_format.specs.Limits.{field_end};
 ghost use Rattle.sheet_format.specs.Field.{field_bytes};
@@ -14,7 +16,7 @@ use sheet_format::NO_ROOM;
 use text_buffer::{put, put_byte};
 
 // The set's judgement, and how many bytes its page has; none where the set is sent back.
-#[derive(Drop)]
+#[derive(Clone, Copy)]
 pub struct DayJudgement {
     pub set: SetJudgement,
     pub bytes: usize,

@@ -1,4 +1,6 @@
 // The calls for programs in C and Rust. include/figdawesa.h describes them to those who call them.
+#![tactic(auto)]
+
 ghost use Rattle.std.specs.Prelude.{◌≡◌, ◌+◌, ◌≤◌, length, take, drop};
 ghost use Rattle.sheet_format.specs.Table.{ten};
 ghost use Rattle.sheet_format.specs.Line.{line_at};

@@ -1,4 +1,6 @@
 // Whether a saved list covers its question, judged from the rows of the views alone.
+#![tactic(auto)]
+
 ghost use Rattle.std.specs.Prelude.{◌≡◌, List, ℕ, ◌≤◌, length};
 ghost use Rattle.sheet_format.specs.Table.{Sound, ten, table_in};
 ghost use Rattle.sheet_format.specs.Line.{word_lines};

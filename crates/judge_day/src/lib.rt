@@ -1,4 +1,6 @@
 // A page's whole set of sheets, judged in one call, and the page for it: a line for each sheet, and a closing line of totals.
+#![tactic(auto)]
+
 ghost use Rattle.std.specs.Prelude.{◌≡◌, List, ℕ};
 ghost use Rattle.sheet_format.specs.Table.{ten};
 ghost use Rattle.sheet_table.specs.Loads.{Loads};

@@ -1,4 +1,6 @@
 // A page's set of sheets in one run of bytes: where each starts and ends, what the set is sent back for, and what is returned of it.
+#![tactic(auto)]
+
 ghost use Rattle.std.specs.Prelude.{◌≡◌, ◌≤◌, ◌<◌, ◌*◌, ltb, length, replicate};
 ghost use Rattle.judge_result.specs.Judged.{least-room};
 ghost use Rattle.judge_ends.specs.Sets.{most_sheets, start_of, ends_fall_back, has_wrong_ends, refusal_of_set, unjudged, set_judgement};
@@ -13,7 +15,7 @@ pub const MOST_SHEETS: usize = 16;
 pub const WRONG_ENDS: usize = 14;
 
 // A set that is sent back: its number and line. Otherwise both are 0, the count is that of the sheets, and their judgements stand first.
-#[derive(Drop)]
+#[derive(Clone, Copy)]
 pub struct SetJudgement {
     pub number: usize,
     pub line: usize,

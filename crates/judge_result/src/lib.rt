@@ -1,9 +1,11 @@
 // What judging gives back, and how many words it wants.
+#![tactic(auto)]
+
 ghost use Rattle.std.specs.Prelude.{◌≡◌, []};
 ghost use Rattle.judge_result.specs.Judged.{judgement};
 
 // The verdict, and with a refusal its number and line. Not covered: how many facts the case in the lent words has, and the missing answer.
-#[derive(Drop)]
+#[derive(Clone, Copy)]
 pub struct Judgement {
     pub verdict: usize,
     pub number: usize,

@@ -1,5 +1,7 @@
 // A page's whole set of sheets, judged in one call: they come as one run of bytes with a list of their ends. Each gets the judgement that it
 // would get alone, and a stretch of the lent words of its own.
+#![tactic(auto)]
+
 ghost use Rattle.std.specs.Prelude.{List, ℕ, ◌<◌, length};
 ghost use Rattle.sheet_format.specs.Table.{ten};
 ghost use Rattle.sheet_table.specs.Loads.{Loads};

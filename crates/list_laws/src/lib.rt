@@ -1,1 +1,2 @@
 // Laws of lists, signed words and order, each said once: definitions and proofs only.
+#![tactic(auto)]

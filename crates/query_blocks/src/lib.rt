@@ -1,4 +1,6 @@
 // The blocks of an accepted sheet in plain numbers, read from the number form: seven words a line.
+#![tactic(auto)]
+
 ghost use Rattle.std.specs.Prelude.{◌≡◌, false, ℕ, ◌+◌, ◌/◌, ◌<◌, ◌≤◌, pos, length, get_or, drop};
 ghost use Rattle.query_layout.specs.Layout.{block-width};
 ghost use Rattle.sheet_format.specs.Limits.{most-atoms};
@@ -14,7 +16,7 @@ use query_layout::{FACT_NUMBERS, HEAD_AT, NAMES};
 use sheet_format::{LINE_WORDS, MOST_ATOMS};
 
 // A block of a sheet in plain numbers: whether there is one, how many atoms it has, its atoms and head.
-#[derive(Drop)]
+#[derive(Clone, Copy)]
 pub struct Numbers {
     pub some: bool,
     pub atoms: usize,

@@ -69,15 +69,15 @@ value_same u v e t = side (dec_lt t names)
     side (no h) = value-constant u t (omega arith) ∙ sym (value-constant v t (omega arith))
 
 -- what a variable became, thawed, is what the valuation says that gives the question a row with the same columns
-pub thaw-value : (q : List ℕ) (n : ℕ) (facts row w : List ℕ) (k x y : ℕ) → BelowFrozen row → k ≤ 4 → x < names → OwnValue q row k x y → SameBefore k row w
+pub thaw-value : (q : List ℕ) (n : ℕ) (facts row w : List ℕ) (k x y : ℕ) → BelowFrozen row → k ≤ 4 → x < names → OwnValue q row k x y → (g : Given q n facts w) → SameBefore k row w
     → thaw g.val y ≡ g.val x
-thaw-value q n facts row w k x y small le lt own a =
-    ⊎_elim (λ e. ap (thaw 𝓛.val) e ∙ thaw-own 𝓛.val x) (λ o. side o.0 o.1 o.2 o.3) own.is
+thaw-value q n facts row w k x y small le lt own g a =
+    ⊎_elim (λ e. ap (thaw g.val) e ∙ thaw-own g.val x) (λ o. side o.0 o.1 o.2 o.3) own.is
   where
-    side : (p : ℕ) → p < k → get_or q (block-head + p) 0 ≡ x → y ≡ get_or row p 0 → thaw 𝓛.val y ≡ 𝓛.val x
+    side : (p : ℕ) → p < k → get_or q (block-head + p) 0 ≡ x → y ≡ get_or row p 0 → thaw g.val y ≡ g.val x
     side p p-lt e s =
-        ap (thaw 𝓛.val) s ∙ thaw-small 𝓛.val (get_or row p 0) (small.all p) ∙ a.same p p-lt ∙ sym (given-column q n facts w 𝓛 p (omega arith))
-        ∙ ap (value_of 𝓛.val) e ∙ value-variable 𝓛.val x lt
+        ap (thaw g.val) s ∙ thaw-small g.val (get_or row p 0) (small.all p) ∙ a.same p p-lt ∙ sym (given-column q n facts w g p (omega arith))
+        ∙ ap (value_of g.val) e ∙ value-variable g.val x lt
 
 -- fact i of F, thawed, is fact h of the facts
 pub record Thaws (v : ℕ → ℕ) (F facts : List ℕ) (i h : ℕ) : Type 0 where
@@ -118,13 +118,13 @@ pub record Laid (q vals : List ℕ) (n : ℕ) (facts F : List ℕ) (m : ℕ) : T
   pub here : (j : ℕ) → j < n → Becomes q F (under vals) j (m + j)
 
 module _ (q l facts row : List ℕ) (n ln k m : ℕ) (vals F : List ℕ) (plain : NoneFrozen q l facts row) (le : k ≤ 4) (own : OwnValues q row k vals) (laid : Laid q vals n facts F m)
-    (w : List ℕ) (a : SameBefore k row w) where
+    (w : List ℕ) (g : Given q n facts w) (a : SameBefore k row w) where
   -- a term of the question, frozen and thawed
   thaw-question : (i : ℕ) → thaw g.val (value_of (under vals) (get_or q i 0)) ≡ value_of g.val (get_or q i 0)
   thaw-question i =
       thaw-term g.val (under vals) (get_or q i 0) (plain.question.all i)
       ∙ value_same (λ x. thaw g.val (under vals x)) g.val
-      (λ x lt. thaw-value q n facts row w k x (get_or vals x 0) plain.seen le lt (own.each x lt) a) (get_or q i 0)
+      (λ x lt. thaw-value q n facts row w k x (get_or vals x 0) plain.seen le lt (own.each x lt) g a) (get_or q i 0)
 
   all-thaw : AllThaw g.val F facts
   all-thaw i lt = side (dec_lt i m)
@@ -154,22 +154,22 @@ module _ (q l facts row : List ℕ) (n ln k m : ℕ) (vals F : List ℕ) (plain 
           let t = g.met (i - m) j-lt in
           (t.0, t.1, new (i - m) t.0 (omega arith) j-lt t.2)
 
-  thawed : Given l ln facts w
-  thawed = record {
-    val = λ x. thaw g.val (𝓛.val x);
-    met = λ j lt. thaw-met g.val 𝓛.val l F facts j plain.list all-thaw (𝓛.met j lt);
-    gives = same_row l q (λ x. thaw g.val (𝓛.val x)) g.val same ∙ g.gives;
+  thawed : Given l ln F (head_row (under vals) q) → Given l ln facts w
+  thawed f = record {
+    val = λ x. thaw g.val (f.val x);
+    met = λ j lt. thaw-met g.val f.val l F facts j plain.list all-thaw (f.met j lt);
+    gives = same_row l q (λ x. thaw g.val (f.val x)) g.val same ∙ g.gives;
   }
     where
-      same : (p : ℕ) → p < 4 → column l (λ x. thaw g.val (𝓛.val x)) p ≡ column q g.val p
+      same : (p : ℕ) → p < 4 → column l (λ x. thaw g.val (f.val x)) p ≡ column q g.val p
       same p lt =
-          sym (thaw-term g.val 𝓛.val (get_or l (block-head + p) 0) (plain.list.all (block-head + p)))
-          ∙ ap (thaw g.val) (given-column l ln F (head_row (under vals) q) 𝓛 p lt ∙ head_at q (under vals) p lt)
+          sym (thaw-term g.val f.val (get_or l (block-head + p) 0) (plain.list.all (block-head + p)))
+          ∙ ap (thaw g.val) (given-column l ln F (head_row (under vals) q) f p lt ∙ head_at q (under vals) p lt)
           ∙ thaw-question (block-head + p)
 
 pub covers : (q l facts row : List ℕ) (n ln k m : ℕ) (vals F : List ℕ) → NoneFrozen q l facts row → k ≤ 4 → OwnValues q row k vals → Laid q vals n facts F m
-    → Contained q n l ln facts row k
-covers q l facts row n ln k m vals F plain le own laid = record { gives = λ w g a. thawed q l facts row n ln k m vals F plain le own laid w a }
+    → Given l ln F (head_row (under vals) q) → Contained q n l ln facts row k
+covers q l facts row n ln k m vals F plain le own laid f = record { gives = λ w g a. thawed q l facts row n ln k m vals F plain le own laid w g a f }
 
 -- ---- putting facts
 

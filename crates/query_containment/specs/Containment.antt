@@ -55,4 +55,4 @@ pub record AtomsPut (q vals : List ℕ) (n m : ℕ) (old new : List ℕ) : Type 
 
 -- the list is given each row that the question is given and that has the row's values in the columns before k
 pub record Contained (q : List ℕ) (n : ℕ) (l : List ℕ) (ln : ℕ) (facts row : List ℕ) (k : ℕ) : Type 0 where
-  pub gives : (w : List ℕ) → SameBefore k row w → Given l ln facts w
+  pub gives : (w : List ℕ) → Given q n facts w → SameBefore k row w → Given l ln facts w

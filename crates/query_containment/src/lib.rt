@@ -3,6 +3,8 @@
 // The question is frozen: a variable becomes a value that stands nowhere else, or the row's value where the head has it in one of the
 // columns that count, and each atom becomes a fact. If these facts, put after the given ones, give the list the frozen head, then the facts give
 // it all such rows: the valuation that gives the question a row takes each frozen value to one of its own.
+#![tactic(auto)]
+
 ghost use Rattle.std.specs.Prelude.{◌≡◌, true, ◌+◌, ◌*◌, ◌≤◌, ◌<◌, min, length};
 ghost use Rattle.tableau_layout.specs.Layout.{tableau_numbers};
 ghost use Rattle.query_layout.specs.Layout.{names};

@@ -3,6 +3,8 @@
 //
 // The head's variable in that column becomes another value, and the rest of a valuation stays. So each fact that an atom with the variable can be
 // needs a fact with the other value in its place. A variable that stands only once may become anything: its column does not matter.
+#![tactic(auto)]
+
 ghost use Rattle.std.specs.Prelude.{◌≡◌, true, false, ◌+◌, ◌*◌, ◌/◌, ◌<◌, min, length};
 ghost use Rattle.query_layout.specs.Layout.{block-width, names};
 ghost use Rattle.sheet_format.specs.Limits.{most-atoms};

@@ -1,4 +1,6 @@
 // Facts in words, five a fact: its relation and its values, filled up with 0. Why they are sent back, and accepted ones as plain numbers.
+#![tactic(auto)]
+
 ghost use Rattle.std.specs.Prelude.{◌≡◌, ◌||◌, [], ◌+◌, ◌/◌, ◌≤◌, ◌<◌, length, get_or, take};
 ghost use Rattle.std.proofs.Math.Seq.{slice};
 ghost use Rattle.sheet_format.specs.Table.{Table, table_in};

@@ -1,4 +1,6 @@
 // How blocks, facts and rows stand in plain numbers: every size and place behind one name (specs/Layout has the same names).
+#![tactic(auto)]
+
 use sheet_format::{CONSTANT_END, MOST_ATOMS, VARIABLES};
 
 // A term below this is a variable of its block; from it on it is a constant.

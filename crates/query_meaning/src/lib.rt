@@ -1,4 +1,5 @@
 // What sheets and facts mean stands in specs/, and its laws in proofs/. The code is the limits that both forms of facts share.
+#![tactic(auto)]
 
 use sheet_format::CONSTANT_END;
 

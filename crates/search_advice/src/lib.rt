@@ -1,6 +1,8 @@
 // What the search should do next in a state: a list that is given the question's head, two facts that clash in a key, or a row of a view to repair and the
 // listed rows to try first.
 // Nothing here is believed: the search checks each proposal, and has a complete walk for where there is none.
+#![tactic(auto)]
+
 use search_board::{
     ALIVE, ANY_ROW, Advice, BEST, BITS, BOARD, BY_AT, BY_LIST, BYTE, CHANGED, COUNTS_AT, FAILURES,
     FELL, FELL_ROW, FOUND_ENTRY, HINT, KEPT_AT, KEPT_COUNT, KEYED, LEAST, LINKS, LIST_GIVEN,

@@ -2,6 +2,8 @@
 //
 // Nothing here is believed: a proposal that is made of it is checked before the search follows it. So no function asks for anything; a place that is not
 // there reads as 0, and nothing is written to it.
+#![tactic(auto)]
+
 ghost use Rattle.std.specs.Prelude.{◌*◌, ◌≤◌};
 ghost use Rattle.tableau_layout.specs.Layout.{tableau_atoms};
 ghost use Rattle.search_board.specs.Sizes.{fact-set-words, fact-end};
@@ -181,7 +183,7 @@ pub const ROW_FAILS: usize = 3;
 pub const KEY_BROKEN: usize = 4;
 
 // The block and the facts that its atoms are, and the listed rows to try first.
-#[derive(Drop)]
+#[derive(Clone, Copy)]
 pub struct Advice {
     pub kind: usize,
     pub block: usize,

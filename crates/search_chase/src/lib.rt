@@ -1,4 +1,6 @@
 // The search for a case.
+#![tactic(auto)]
+
 ghost use Rattle.std.specs.Prelude.{◌≡◌, true, false, List, ℕ, ◌+◌, ◌*◌, ◌-◌, ◌<◌, ◌≤◌, length};
 ghost use Rattle.sheet_format.specs.Limits.{most-rows};
 ghost use Rattle.tableau_layout.specs.Layout.{slot-end};

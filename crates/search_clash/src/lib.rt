@@ -1,4 +1,6 @@
 // Two facts that clash in a key: alike in its columns, and not in the others. Nothing here is believed: the search looks at the facts itself.
+#![tactic(auto)]
+
 use query_layout::{COLUMNS, MADE_UP};
 use search_board::{Advice, BITS, BOARD, FACT_END, FACT_WORDS, KEY_BROKEN, KEYED, NOTHING};
 use sheet_format::MOST_ATOMS;

@@ -1,5 +1,7 @@
 // Which listed rows a row of a view can become, for the search's advice. The listed rows that have a value in a column are a word's digits, found by the
 // value; so a row is looked at column by column, and not listed row by listed row.
+#![tactic(auto)]
+
 ghost use Rattle.std.specs.Prelude.{◌<◌};
 ghost use Rattle.search_board.specs.Sizes.{keys};
 
@@ -14,7 +16,7 @@ use sheet_format::MOST_VIEWS;
 use tableau_layout::{PLAN_NUMBERS, SLOTS};
 
 // The listed rows that a row can become, and whether it is one of them.
-#[derive(Drop)]
+#[derive(Clone, Copy)]
 pub struct Fitting {
     pub set: u64,
     pub listed: bool,

@@ -1,5 +1,7 @@
 // Keys: two facts of one relation that are alike in its key and not in all columns are a violation. Among facts in plain numbers, and among the
 // tableau's atoms under the words of a state, with the words that it rests on.
+#![tactic(auto)]
+
 ghost use Rattle.std.specs.Prelude.{◌≡◌, true, ◌+◌, ◌/◌, ◌<◌, ◌≤◌, length};
 ghost use Rattle.tableau_layout.specs.Layout.{tableau_atoms};
 ghost use Rattle.search_reasons.specs.Reasons.{Place};
@@ -13,7 +15,7 @@ use tableau_layout::{PLAN_NUMBERS, SLOTS, TABLEAU_ATOMS};
 // ---- facts in plain numbers
 
 // Two facts that clash, if there are such.
-#[derive(Drop)]
+#[derive(Clone, Copy)]
 pub struct Clash {
     pub some: bool,
     pub left: usize,
@@ -97,7 +99,7 @@ pub fn first_clash(p: &[usize; PLAN_NUMBERS], facts: &[usize]) -> Clash
 // ---- atoms of the tableau
 
 // The rows of two atoms that have to become one.
-#[derive(Drop)]
+#[derive(Clone, Copy)]
 pub struct ClashRows {
     pub left: [usize; 4],
     pub right: [usize; 4],

@@ -1,4 +1,6 @@
 // Whether a state in plain words is good. Each word is the value of its slot.
+#![tactic(auto)]
+
 ghost use Rattle.std.specs.Prelude.{◌≡◌, true, false, ◌+◌, ◌*◌, ◌<◌, ◌≤◌, min, length, get_or, take};
 ghost use Rattle.query_layout.specs.Layout.{block-head, names};
 ghost use Rattle.sheet_format.specs.Limits.{most-atoms, most-rows};

@@ -82,6 +82,7 @@ module _ (top : ℕ) (A : ℕ → Type 0) (ws out us rs : List ℕ) (v w : ℕ) 
     where
       pair : {x : ℕ} → In x (p.by v ∷ p.by w ∷ []) → A x
       pair (inl e) = subst A (sym e) (p.inner v av)
+      pair (inr (inr x3)) = elim x3 [ ]
       pair (inr (inl e)) = subst A (sym e) (p.inner w aw)
 
       go : (y : ℕ) → A y → In (j.by y) (y ∷ p.by v ∷ p.by w ∷ []) → A (j.by y)

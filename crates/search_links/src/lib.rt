@@ -1,4 +1,6 @@
 // The state of a search in words with links: a word for each slot.
+#![tactic(auto)]
+
 ghost use Rattle.std.specs.Prelude.{◌≡◌, List, ℕ, ◌+◌, ◌<◌, ◌≤◌, length};
 ghost use Rattle.tableau_layout.specs.Layout.{slot-end};
 ghost use Rattle.case_verdicts.specs.Sheets.{top};

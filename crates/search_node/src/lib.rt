@@ -2,6 +2,8 @@
 //
 // What to look at comes from advice, which is believed in nothing: each proposal is checked against the words. Where none is left, the state is looked
 // at whole.
+#![tactic(auto)]
+
 ghost use Rattle.std.specs.Prelude.{◌≡◌, true, false, List, ℕ, ◌<◌, ◌≤◌, length, get_or};
 ghost use Rattle.sheet_format.specs.Limits.{most-rows};
 ghost use Rattle.tableau_layout.specs.Layout.{slot-end, tableau_atoms};
@@ -161,7 +163,7 @@ pub fn right_row(p: &[usize; PLAN_NUMBERS], node: &[usize; NODE_NUMBERS], k: usi
 // ---- what a state is found to be
 
 // A row of a view that is not listed, if there is one.
-#[derive(Drop)]
+#[derive(Clone, Copy)]
 struct OpenRow {
     some: bool,
     view: usize,

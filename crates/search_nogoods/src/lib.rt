@@ -1,4 +1,6 @@
 // A table of values that slots of the search cannot have, each with the set of slots that this rests on.
+#![tactic(auto)]
+
 ghost use Rattle.std.specs.Prelude.{◌≡◌, false, ◌+◌, ◌*◌, ◌<◌, ◌≤◌, length, get_or};
 ghost use Rattle.case_verdicts.specs.Sheets.{top};
 ghost use Rattle.search_nogoods.specs.Sizes.{most_values, memory-numbers, memory-words};

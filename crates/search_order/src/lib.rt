@@ -1,4 +1,6 @@
 // In which order rows of views are repaired, and listed rows tried. Nothing here is believed.
+#![tactic(auto)]
+
 use query_layout::{COLUMNS, MADE_UP};
 use search_board::{BITS, BOARD, FACT_END};
 use tableau_layout::PLAN_NUMBERS;

@@ -1,4 +1,6 @@
 // What a failure rests on: the slots whose words it needs.
+#![tactic(auto)]
+
 ghost use Rattle.std.specs.Prelude.{◌≡◌, length};
 ghost use Rattle.search_slots.specs.Slots.{set_words};
 ghost use Rattle.search_reasons.specs.Reasons.{Place, WayMarked, AgreesBy, SlotsAdded, SlotsOf};

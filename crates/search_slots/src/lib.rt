@@ -2,6 +2,8 @@
 //
 // Missing words count as full: a slot beyond the words is in every set. So no reason loses a slot for want of words, and each function takes slices
 // of any length.
+#![tactic(auto)]
+
 ghost use Rattle.std.specs.Prelude.{◌≡◌, ◌<◌, ◌^◌, length};
 ghost use Rattle.search_slots.specs.Slots.{set_words, set_word, word_less, in_set, EmptySet, SetPut, SetWith, SetWithout, SetJoined, SetLess, SetsMeet};
 

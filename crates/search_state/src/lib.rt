@@ -1,4 +1,6 @@
 // The facts of a state: a value for each slot makes each atom of the tableau a fact.
+#![tactic(auto)]
+
 ghost use Rattle.std.specs.Prelude.{◌≡◌, ℕ, ◌+◌, ◌-◌, ◌*◌, ◌<◌, ◌≤◌, length, get_or, take};
 ghost use Rattle.tableau_layout.specs.Layout.{plan-numbers, slot-end, tableau_atoms, tableau_numbers};
 ghost use Rattle.case_verdicts.specs.Sheets.{top};

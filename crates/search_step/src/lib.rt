@@ -1,4 +1,6 @@
 // The steps of the search for a case: which alternative of a node is tried next, taking it and undoing it; the heads of the copies.
+#![tactic(auto)]
+
 ghost use Rattle.std.specs.Prelude.{◌≡◌, true, false, List, ℕ, ◌+◌, ◌*◌, ◌-◌, ◌<◌, ◌≤◌, length, get_or};
 ghost use Rattle.query_layout.specs.Layout.{block-head, names};
 ghost use Rattle.sheet_format.specs.Limits.{most-rows};

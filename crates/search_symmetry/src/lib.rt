@@ -1,5 +1,7 @@
 // Whether two listed rows are alike: whether exchanging their values changes neither the sheet nor the values of the slots that a failure
 // rests on.
+#![tactic(auto)]
+
 ghost use Rattle.std.specs.Prelude.{◌≡◌, true, false, ◌<◌, ◌≤◌, ◌*◌, length};
 ghost use Rattle.query_layout.specs.Layout.{block-width};
 ghost use Rattle.sheet_format.specs.Limits.{most-rows, most-views};

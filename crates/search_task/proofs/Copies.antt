@@ -31,6 +31,7 @@ use Rattle.search_task.specs.declared.Goal.TheVariants.{Counterexample, Agreemen
 -- ---- copies by their numbers
 
 pub numbered_is : (js : List Job) (c : Copy) (d : Job) → In c (numbered js) → c.job ≡ get_or js c.number d
+numbered_is [] c d x' = elim x' [ ]
 numbered_is (j ∷ js) c d (inl e) = ap (λ (q : Copy). q.job) e ∙ ap (λ n. get_or (j ∷ js) n d) (sym (ap (λ (q : Copy). q.number) e))
 numbered_is (j ∷ js) c d (inr m) =
     let (q, i, e) = map_in later c (numbered js) m in

@@ -46,6 +46,7 @@ pub record Task (p : List ℕ) (x y : Sheet) : Type 0 where
       → In (record { number = suc i; job = record { block = (nth x.views (row_at p i 0)).block; is = map con r } }) (numbered (jobs y))
 
 pub in-nth : (ws : List View) (w : View) → In w ws → (v : ℕ) × (v < length ws) × (w ≡ nth ws v)
+in-nth [] w x' = elim x' [ ]
 in-nth (u ∷ ws) w (inl e) = (0, omega arith, e)
 in-nth (u ∷ ws) w (inr m) = let (v, lt, e) = in-nth ws w m in (suc v, omega arith, e)
 

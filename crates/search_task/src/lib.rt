@@ -1,11 +1,13 @@
 // What is searched for, with a plan of an accepted sheet.
+#![tactic(auto)]
+
 ghost use Rattle.std.specs.Prelude.{◌≡◌};
 ghost use Rattle.search_task.specs.Task as specs;
 
 use tableau_layout::{ASKED_SIZE_AT, PLAN_NUMBERS};
 
 // What is searched for: a case of the sheet, or a log that agrees with its views, whatever the question is.
-#[derive(Drop)]
+#[derive(Clone, Copy)]
 pub enum Goal {
     Counterexample,
     Agreement,

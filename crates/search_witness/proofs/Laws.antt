@@ -197,6 +197,7 @@ module _ (p ws first : List ℕ) (from b : ℕ) (at : List ℕ) (n : ℕ) {row o
           go (inl e) = subst (RootValue top ws) (sym e) (r.root linked whole 0 (omega arith))
           go (inr (inl e)) = subst (RootValue top ws) (sym e) (r.root linked whole 1 (omega arith))
           go (inr (inr (inl e))) = subst (RootValue top ws) (sym e) (r.root linked whole 2 (omega arith))
+          go (inr (inr (inr (inr x4)))) = elim x4 [ ]
           go (inr (inr (inr (inl e)))) = subst (RootValue top ws) (sym e) (r.root linked whole 3 (omega arith))
 
 -- ---- the question's head

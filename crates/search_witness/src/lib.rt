@@ -1,5 +1,7 @@
 // Whether facts of the tableau give a block a row, and the words that this rests on: only those by which two places of the block's atoms, or a place
 // and a constant, have one value, and those of the head.
+#![tactic(auto)]
+
 ghost use Rattle.std.specs.Prelude.{◌≡◌, true, ℕ, ◌+◌, ◌<◌, ◌≤◌, length, get_or};
 ghost use Rattle.query_layout.specs.Layout.{names};
 ghost use Rattle.sheet_format.specs.Limits.{most-atoms};
@@ -17,14 +19,14 @@ use tableau_layout::{
 const NOWHERE: usize = SLOTS + MADE_UP;
 
 // Whether a block's atoms become facts, and the row that its head then has.
-#[derive(Drop)]
+#[derive(Clone, Copy)]
 pub struct ShownRow {
     pub ok: bool,
     pub row: [usize; 4],
 }
 
 // A value of the head, if there is one.
-#[derive(Drop)]
+#[derive(Clone, Copy)]
 struct HeadValue {
     ok: bool,
     value: usize,

@@ -1,4 +1,6 @@
 // A sheet's bytes to its number form and back, by the library's own table of relations or by a club's, and a line's own bytes.
+#![tactic(auto)]
+
 ghost use Rattle.std.specs.Prelude.{◌≡◌, ◌≤◌, length};
 ghost use Rattle.list_laws.specs.Wrote.{Wrote};
 ghost use Rattle.sheet_format.specs.Sheet.{read_ending, read_words, read_returned, write_ending, write_bytes, write_returned, returned};

@@ -1,4 +1,6 @@
 // Why the lines of a number form are sent back, by a table of relations: the first cause among the lines or at the end, and then cause 8 by heads.
+#![tactic(auto)]
+
 ghost use Rattle.std.specs.Prelude.{◌≡◌, false, not, [], ◌+◌, ◌/◌, ◌≤◌, ◌<◌, length, get_or, drop};
 ghost use Rattle.sheet_format.specs.Limits.{line-words};
 ghost use Rattle.sheet_format.specs.Line.{all, null, word_line, word_lines};

@@ -79,11 +79,13 @@ put x b j d lt = append_snoc x d (drop (suc j) b) ∙ ap (λ t. x ++ t) (sym (ap
 -- the first digit
 pub first-digit : (b : List ℕ) (k : ℕ) (neg : Bool) (v : ℕ) → 0 < k → k ≤ length b → v < 10 → decimal k neg v ++ drop k b ≡ lead (k - 1) neg ++ drop (k - 1) (set b (k - 1) (48 + v % 10))
 unfolding decimal
+first-digit b zero neg v lt le h = elim lt [ ]
 first-digit b (suc j) neg v lt le h = rw (let e : suc j - 1 ≡ j = omega arith in e) (rw (lt-ltb v 10 h) (put (lead j neg) b j (48 + v % 10) (omega arith)))
 
 -- any other
 pub more-digits : (b : List ℕ) (k : ℕ) (neg : Bool) (v : ℕ) → 0 < k → k ≤ length b → 10 ≤ v → decimal k neg v ++ drop k b ≡ decimal (k - 1) neg (v / 10) ++ drop (k - 1) (set b (k - 1) (48 + v % 10))
 unfolding decimal
+more-digits b zero neg v lt le h = elim lt [ ]
 more-digits b (suc j) neg v lt le h = rw (let e : suc j - 1 ≡ j = omega arith in e) (rw (le-ltb v 10 h) (put (decimal j neg (v / 10)) b j (48 + v % 10) (omega arith)))
 
 -- no column is left
@@ -103,6 +105,7 @@ blank-before b j e = sym (take-take j (suc j) b (omega arith)) ∙ ap (take j) e
 
 -- the columns before a digit that was put
 pub still-blank : (b : List ℕ) (k d : ℕ) → 0 < k → take k b ≡ replicate k 32 → take (k - 1) (set b (k - 1) d) ≡ replicate (k - 1) 32
+still-blank b zero d lt e = elim lt [ ]
 still-blank b (suc j) d lt e =
     rw (let f : suc j - 1 ≡ j = omega arith in f) (take-set-le j b j d (omega arith) ∙ blank-before b j e)
 
@@ -115,6 +118,7 @@ no_lead b zero neg le = refl
 no_lead b (suc k) neg le = absurd (omega arith)
 
 pub minus-lead : (b : List ℕ) (k : ℕ) → 0 < k → k ≤ length b → take k b ≡ replicate k 32 → set b (k - 1) 45 ≡ lead k true ++ drop k b
+minus-lead b zero lt le e = elim lt [ ]
 minus-lead b (suc j) lt le e =
     ap (λ n. set b n 45) (let g : suc j - 1 ≡ j = omega arith in g)
     ∙ set_split b j 45 (omega arith)

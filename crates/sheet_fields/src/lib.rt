@@ -1,4 +1,6 @@
 // A field's bytes as a number, and a number's bytes as a field.
+#![tactic(auto)]
+
 ghost use Rattle.std.specs.Prelude.{◌≡◌, ◌++◌, ℕ, ◌+◌, ◌≤◌, ◌<◌, nat_abs, length, take, drop, replicate};
 ghost use Rattle.sheet_format.specs.Limits.{field_end};
 ghost use Rattle.sheet_format.specs.Field.{digit, byte, run, signed, told, field_at, lead, decimal, field_bytes};

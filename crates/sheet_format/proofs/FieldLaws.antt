@@ -67,6 +67,7 @@ room-less (suc k) true v le h = omega (arith, pow-suc 10 k)
 -- with one digit more
 room-more : (k : ℕ) (neg : Bool) (v d : ℕ) → d < 10 → Room k neg v → Room (suc k) neg (v * 10 + d)
 unfolding Room
+room-more zero neg v d lt h = elim h [ ]
 room-more (suc k) false v d lt h = omega (arith, pow-suc 10 (suc k))
 room-more (suc k) true v d lt h = omega (arith, pow-suc 10 k)
 
@@ -106,6 +107,7 @@ first-is (suc k) true v lt h =
 
 run-decimal : (k : ℕ) (neg : Bool) (v : ℕ) → Room k neg v → run Blank (decimal k neg v) ≡ Run neg v
 unfolding decimal run Room
+run-decimal zero neg v h = elim h [ ]
 run-decimal (suc k) neg v h =
     run_append Blank (cond (ltb v 10) (lead k neg) (decimal k neg (v / 10))) ((48 + v % 10) ∷ []) ∙ either (run-decimal k neg (v / 10)) (ltb v 10) refl
   where

@@ -1,4 +1,5 @@
 // What the sheet's definitions (specs/) and the calls share: the limits, each behind one name, the kinds and causes by number, and the types.
+#![tactic(auto)]
 
 // A sheet's bytes, at most.
 pub const MOST_SHEET_BYTES: usize = 8192;
@@ -103,21 +104,21 @@ pub const NO_ROOM: usize = 13;
 pub const WRONG_TABLE: usize = 15;
 
 // Why a sheet is sent back: the cause's number and the line, counted from 1, or 0 where none is named. Nothing is refused where both are 0.
-#[derive(Drop)]
+#[derive(Clone, Copy)]
 pub struct Refusal {
     pub number: usize,
     pub line: usize,
 }
 
 // How a call ends: with the count of what it wrote, or with the cause's number and the line.
-#[derive(Drop)]
+#[derive(Clone, Copy)]
 pub enum Ending {
     Done(usize),
     Refused(usize, usize),
 }
 
 // What the bytes of a field so far are: blanks, a minus, a number with its sign, or no field.
-#[derive(Drop)]
+#[derive(Clone, Copy)]
 pub enum Digits {
     Blank,
     Minus,
@@ -126,14 +127,14 @@ pub enum Digits {
 }
 
 // What eight bytes are as a field.
-#[derive(Drop)]
+#[derive(Clone, Copy)]
 pub enum Field {
     Number(i32),
     Malformed,
 }
 
 // What a number stands for as a term: a constant, or a variable by its index from 1.
-#[derive(Drop)]
+#[derive(Clone, Copy)]
 pub enum FieldTerm {
     Constant(usize),
     Variable(usize),
@@ -142,7 +143,7 @@ pub enum FieldTerm {
 
 // What a line's place goes by: the kind of the block and of the line before (0 for none), the block's atoms, the lists, views and rows so
 // far, the lengths of the question's head and of the block's.
-#[derive(Drop)]
+#[derive(Clone, Copy)]
 pub struct Seen {
     pub block: usize,
     pub last: usize,
@@ -155,7 +156,7 @@ pub struct Seen {
 }
 
 // What a line does to the sheet: it goes on, or stops by its cause.
-#[derive(Drop)]
+#[derive(Clone, Copy)]
 pub enum LineStep {
     Goes(Seen),
     Stops(usize),

@@ -1,4 +1,6 @@
 // What one line of the number form does: seven words, the field count and then six fields, unused ones 0.
+#![tactic(auto)]
+
 ghost use Rattle.std.specs.Prelude.{◌≡◌, false, not, ◌&&◌, [], ◌+◌, ◌≤◌, eqb, pos, length, get_or};
 ghost use Rattle.std.proofs.Math.Seq.{slice};
 ghost use Rattle.sheet_format.specs.Cause.{above, atoms_of, constant, kind_of, next_by, rest, step_of, term, too_many_blocks};
@@ -19,7 +21,7 @@ use sheet_format::{
 const LAST_COUNT: i32 = MOST_FIELDS as i32;
 
 // What a word is tested for: it fits a field; it is 0; it is a term; it is a constant.
-#[derive(Drop)]
+#[derive(Clone, Copy)]
 enum Test {
     Narrow,
     Zero,

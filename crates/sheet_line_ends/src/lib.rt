@@ -1,4 +1,6 @@
 // Lines of bytes, each closed by a byte 10.
+#![tactic(auto)]
+
 ghost use Rattle.std.specs.Prelude.{◌≡◌, ◌+◌, drop};
 ghost use Rattle.sheet_line_ends.specs.Before.{before_end};
 

@@ -1,11 +1,13 @@
 // A line of a sheet found by its number, and its own bytes.
+#![tactic(auto)]
+
 ghost use Rattle.std.specs.Prelude.{◌≡◌};
 ghost use Rattle.sheet_format.specs.Line.{line_at};
 ghost use Rattle.sheet_lines.specs.Part.{Part};
 ghost use Rattle.sheet_lines.specs.Start.{line_start};
 
 // Where a part of the bytes starts and ends.
-#[derive(Drop)]
+#[derive(Clone, Copy)]
 pub struct LinePlace {
     pub start: usize,
     pub end: usize,

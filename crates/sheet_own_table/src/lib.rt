@@ -1,4 +1,6 @@
 // The library's own table of relations, as bytes and as a table that was read.
+#![tactic(auto)]
+
 ghost use Rattle.std.specs.Prelude.{◌≡◌, [], ◌<◌, ◌≤◌, pos, get_or};
 ghost use Rattle.sheet_table.specs.Loads.{Loads};
 ghost use Rattle.sheet_own_table.specs.Own.{own_lines, own_bytes, own-table-bytes};

@@ -1,4 +1,6 @@
 // A sheet's bytes to its number form, by a table of relations.
+#![tactic(auto)]
+
 ghost use Rattle.std.specs.Prelude.{◌≡◌, ◌+◌, ◌-◌, ◌*◌, ◌≤◌, length, take, drop};
 ghost use Rattle.sheet_format.specs.Limits.{most-lines, line-words};
 ghost use Rattle.sheet_format.specs.Line.{line_of, line_words};

@@ -1,4 +1,6 @@
 // A table of relations, from its bytes to plain numbers.
+#![tactic(auto)]
+
 ghost use Rattle.std.specs.Prelude.{◌≡◌, ◌≤◌, ◌<◌, length, replicate};
 ghost use Rattle.sheet_format.specs.Limits.{most-relations};
 ghost use Rattle.sheet_format.specs.Field.{field_at};
@@ -157,7 +159,7 @@ fn read_lines(s: &[u8], ns: &mut [usize; TABLE_NUMBERS]) -> Refusal
 }
 
 // A table that was read: why it is sent back, 0 where it is not, and its relations in plain numbers.
-#[derive(Drop)]
+#[derive(Clone, Copy)]
 pub struct Loaded {
     pub number: usize,
     pub line: usize,

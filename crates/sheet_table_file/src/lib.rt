@@ -1,7 +1,12 @@
 // A table of relations from the file that an argument of the program names.
+#![tactic(auto)]
+
 ghost use Rattle.std.specs.Prelude.{◌≤◌, length};
 
+use program_input::NAME_ROOM;
 use sheet_format::{Ending, FIELD_BYTES, MOST_RELATIONS, TABLE_FIELDS};
+use std::env::Env;
+use std::rt::Files;
 
 // What is read: one byte more than a table may have, so that a longer one is refused.
 pub const TABLE_READ: usize = MOST_RELATIONS * (TABLE_FIELDS * FIELD_BYTES + 1) + 1;
@@ -23,32 +28,23 @@ fn put_own(out: &mut [u8]) -> usize
     least(n, out.len())
 }
 
-// The bytes of the file that an argument names, none where it cannot be opened, which is said on standard error; how many they are.
-fn put_named(number: usize, out: &mut [u8]) -> usize
+// The bytes of the file that an argument names, none where it cannot be opened or read, which `errors` is told; how many they are.
+fn put_named<R: Env + Files>(rt: &R, errors: &impl Print, number: usize, out: &mut [u8]) -> usize
     ensures { result ≤ length out.new }
 {
-    let mut path = io::buffer();
-    let length = os::arg(number, &mut path);
-    if os::errno() != 0 {
-        os::fail(b"name");
-        return 0;
+    let mut name = [0u8; NAME_ROOM];
+    match program_input::read_named(rt, errors, number, &mut name, out) {
+        Some(file) => file.bytes,
+        None => 0,
     }
-    let fd = os::open_read(&path[..length]);
-    if fd < 0 {
-        os::fail(&path[..length]);
-        return 0;
-    }
-    let n = io::read_full(fd, out);
-    libc::close(fd);
-    n
 }
 
 // The table that an argument names, or the library's own where there is no such argument; how many bytes it has.
-pub fn table(number: usize, out: &mut [u8]) -> usize
+pub fn table<R: Env + Files>(rt: &R, errors: &impl Print, number: usize, out: &mut [u8]) -> usize
     ensures { result ≤ length out.new }
 {
-    if os::arg_count() <= number {
+    if !program_input::has_argument(rt, number) {
         return put_own(out);
     }
-    put_named(number, out)
+    put_named(rt, errors, number, out)
 }

@@ -1,4 +1,6 @@
 // Terms and relations of a sheet, by their numbers.
+#![tactic(auto)]
+
 ghost use Rattle.std.specs.Prelude.{◌≡◌, ◌+◌, ◌*◌, ◌<◌, ◌≤◌, min, get_or};
 ghost use Rattle.sheet_format.specs.Limits.{most-columns, relation-numbers};
 ghost use Rattle.sheet_format.specs.Cause.{term_of};

@@ -1,4 +1,6 @@
 // A number form to its sheet's bytes, by a table of relations.
+#![tactic(auto)]
+
 ghost use Rattle.std.specs.Prelude.{◌≡◌, false, ◌+◌, ◌*◌, ◌≤◌, length, take, drop};
 ghost use Rattle.sheet_format.specs.Limits.{most_bytes};
 ghost use Rattle.sheet_format.specs.Field.{field_bytes};

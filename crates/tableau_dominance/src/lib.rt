@@ -2,6 +2,8 @@
 //
 // If b dominates a in a column of the question's rows, and a dominates b in that column of each list's, then a row with a is given to a list if
 // the row with b in its place is. That one is lower, so an ascending walk has passed it.
+#![tactic(auto)]
+
 ghost use Rattle.std.specs.Prelude.{◌≡◌, true, ℕ, ◌*◌, ◌/◌, ◌≤◌, ◌<◌, length};
 ghost use Rattle.sheet_format.specs.Limits.{most-atoms};
 ghost use Rattle.tableau_layout.specs.Layout.{most-blocks, plan-numbers, list-block};

@@ -1,5 +1,7 @@
 // The plan of a sheet: where its tableau, listed rows, blocks and counts stand among plain numbers, every size and place behind one name
 // (specs/Layout has the same names).
+#![tactic(auto)]
+
 use query_layout::{BLOCK_NUMBERS, COLUMNS, FACT_NUMBERS, NAMES};
 use sheet_format::{MOST_ATOMS, MOST_LISTS, MOST_ROWS, MOST_VIEW_ATOMS, MOST_VIEWS, TABLE_NUMBERS};
 

@@ -195,6 +195,7 @@ pub record OfView (f : ℕ → View) (end : ℕ) (l : ViewRow) : Type 0 where
   pub listed_in : In l.row (f l.view).rows
 
 row_of : (v : ℕ) (rs : List (List ℕ)) (l : ViewRow) → In l (map (λ r. record { view = v; row = r }) rs) → (l.view ≡ v) × In l.row rs
+row_of v [] l x' = elim x' [ ]
 row_of v (r ∷ rs) l (inl e) = (ap (λ (x : ViewRow). x.view) e, inl (ap (λ (x : ViewRow). x.row) e))
 row_of v (r ∷ rs) l (inr m) = let (a, b) = row_of v rs l m in (a, inr b)
 
@@ -211,6 +212,7 @@ flat_of f v (w ∷ ws) h l m =
 -- and each row of a view is listed
 in_rows : (v : ℕ) (rs : List (List ℕ)) (r : List ℕ) → In r rs → In (listed_at v r) (map (λ r. record { view = v; row = r }) rs)
 unfolding listed_at
+in_rows v [] r x' = elim x' [ ]
 in_rows v (s ∷ rs) r (inl e) = inl (ap (λ t. record { view = v; row = t }) e)
 in_rows v (s ∷ rs) r (inr m) = inr (in_rows v rs r m)
 

@@ -1,4 +1,6 @@
 // A sheet in plain numbers, as the search for a case works on it.
+#![tactic(auto)]
+
 ghost use Rattle.std.specs.Prelude.{◌≡◌, List, ◌∷◌, ◌++◌, ℕ, ◌+◌, ◌-◌, ◌*◌, ◌/◌, ◌<◌, ◌≤◌, pos, length, get_or};
 ghost use Rattle.query_layout.specs.Layout.{block-width};
 ghost use Rattle.tableau_layout.specs.Layout.{blocks_at, most-blocks, plan-numbers, rows_at, table_at, tableau_atoms};
@@ -29,7 +31,7 @@ use tableau_layout::{
 const TERMS: usize = MADE_UP + NAMES;
 
 // How many views have begun, and how many rows have been taken.
-#[derive(Drop)]
+#[derive(Clone, Copy)]
 struct Tally {
     views: usize,
     rows: usize,

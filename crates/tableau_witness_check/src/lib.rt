@@ -1,4 +1,6 @@
 // Whether facts at given places give a block a row: the atoms become those facts, and the head the row, by the same values.
+#![tactic(auto)]
+
 ghost use Rattle.std.specs.Prelude.{◌≡◌, true, ◌/◌, ◌≤◌, ◌<◌, min, length};
 ghost use Rattle.sheet_format.specs.Limits.{most-atoms};
 ghost use Rattle.query_join.specs.Joins.{value_of, head_row, Becomes};

@@ -1,4 +1,6 @@
 // Bytes of a case's text.
+#![tactic(auto)]
+
 ghost use Rattle.std.specs.Prelude.{◌≡◌, ◌≤◌, ◌<◌, ◌+◌, length, get_or, drop, replicate};
 ghost use Rattle.text_buffer.specs.Puts.{Put};
 ghost use Rattle.test_bytes.specs.Bytes.{digit_value, escaped_by, extent, meant_by, stands_for, times_of};

@@ -2,6 +2,8 @@
 //
 // A sheet's words are its number form in the words of the longest sheet: seven to a line, the field count, the kind and the fields after it, and zeros after the
 // last line.
+#![tactic(auto)]
+
 ghost use Rattle.std.specs.Prelude.{◌≡◌, ◌+◌, ◌*◌, ◌<◌, ◌≤◌, length};
 ghost use Rattle.sheet_format.specs.Limits.{most-words};
 

@@ -1,4 +1,6 @@
 // Ends of sheets from the words of stored cases, and how a call on a set ended.
+#![tactic(auto)]
+
 ghost use Rattle.std.specs.Prelude.{◌≤◌, length};
 
 pub fn least(a: usize, b: usize) -> usize

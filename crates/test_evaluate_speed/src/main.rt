@@ -1,22 +1,24 @@
 // Evaluates the question of a few sheets that are hard on an evaluator, each once, on up to 128 facts, and prints a line for each: its name,
 // then the number, the line and the count. Each call is lent the words of 1,000 answers.
+#![tactic(auto)]
+
 ghost use Rattle.std.specs.Prelude.{◌<◌};
 
-use libc::STDOUT_FILENO;
 use sheet_format::Ending;
+use std::io;
 
-fn main() {
-    six_apart();
-    six_apart_last();
-    six_apart_none();
-    pairs_apart();
-    odd_cycle();
-    chain();
-    product();
+fn main(rt: HostRuntime) -> io::Result<()> {
+    six_apart(&rt)?;
+    six_apart_last(&rt)?;
+    six_apart_none(&rt)?;
+    pairs_apart(&rt)?;
+    odd_cycle(&rt)?;
+    chain(&rt)?;
+    product(&rt)
 }
 
 // Six atoms that share no variable, and the head over the first.
-fn six_apart() {
+fn six_apart(rt: &impl Print) -> io::Result<()> {
     let sheet = b"       1      -1
        4       2      -1
        4       2      -2
@@ -29,11 +31,11 @@ fn six_apart() {
 ";
     let mut facts = [0i32; 640];
     straps(&mut facts);
-    show(b"six apart", sheet, &facts);
+    show(rt, "six apart", sheet, &facts)
 }
 
 // The same with the head over the last.
-fn six_apart_last() {
+fn six_apart_last(rt: &impl Print) -> io::Result<()> {
     let sheet = b"       1      -6
        4       2      -1
        4       2      -2
@@ -46,11 +48,11 @@ fn six_apart_last() {
 ";
     let mut facts = [0i32; 640];
     straps(&mut facts);
-    show(b"six apart, head over the last", sheet, &facts);
+    show(rt, "six apart, head over the last", sheet, &facts)
 }
 
 // The same with no fact for the last.
-fn six_apart_none() {
+fn six_apart_none(rt: &impl Print) -> io::Result<()> {
     let sheet = b"       1      -1
        4       2      -1
        4       2      -2
@@ -63,11 +65,11 @@ fn six_apart_none() {
 ";
     let mut facts = [0i32; 640];
     straps(&mut facts);
-    show(b"six apart, no fact for the last", sheet, &facts);
+    show(rt, "six apart, no fact for the last", sheet, &facts)
 }
 
 // Three pairs of joined atoms. The first two are over a complete relation of 11 by 11, the last pair never meets.
-fn pairs_apart() {
+fn pairs_apart(rt: &impl Print) -> io::Result<()> {
     let sheet = b"       1      -1
        4       4      -1      -2
        4       4      -2      -3
@@ -82,11 +84,11 @@ fn pairs_apart() {
     grid(&mut facts, 0, 121, 4, 0, 0, 11);
     grid(&mut facts, 121, 124, 5, 0, 20, 1);
     grid(&mut facts, 124, 128, 6, 0, 0, 1);
-    show(b"three pairs, the last never meets", sheet, &facts);
+    show(rt, "three pairs, the last never meets", sheet, &facts)
 }
 
 // A cycle of five over the pairs of 8 and 8, both ways: each closed walk there is even.
-fn odd_cycle() {
+fn odd_cycle(rt: &impl Print) -> io::Result<()> {
     let sheet = b"       1
        4       4      -1      -2
        4       4      -2      -3
@@ -98,11 +100,11 @@ fn odd_cycle() {
 ";
     let mut facts = [0i32; 640];
     both_ways(&mut facts);
-    show(b"a cycle of five", sheet, &facts);
+    show(rt, "a cycle of five", sheet, &facts)
 }
 
 // A chain of six over the same.
-fn chain() {
+fn chain(rt: &impl Print) -> io::Result<()> {
     let sheet = b"       1      -1      -7
        4       4      -1      -2
        4       4      -2      -3
@@ -115,11 +117,11 @@ fn chain() {
 ";
     let mut facts = [0i32; 640];
     both_ways(&mut facts);
-    show(b"a chain of six", sheet, &facts);
+    show(rt, "a chain of six", sheet, &facts)
 }
 
 // Four columns of 128 values each.
-fn product() {
+fn product(rt: &impl Print) -> io::Result<()> {
     let sheet = b"       1      -1      -2      -3      -4
        4       2      -1
        4       2      -2
@@ -130,7 +132,7 @@ fn product() {
 ";
     let mut facts = [0i32; 640];
     straps(&mut facts);
-    show(b"a product of four columns", sheet, &facts);
+    show(rt, "a product of four columns", sheet, &facts)
 }
 
 // Strap(0) to Strap(127).
@@ -186,26 +188,20 @@ fn word(n: usize) -> i32 {
 }
 
 // Calls, and prints how it ended.
-fn show(name: &[u8], sheet: &[u8], facts: &[i32]) {
+fn show(rt: &impl Print, name: &str, sheet: &[u8], facts: &[i32]) -> io::Result<()> {
     let mut lent = [0i32; 4000];
     let ending = evaluate::evaluate(sheet, 1, facts, &mut lent);
-    io::write_all(STDOUT_FILENO, name);
-    io::write_all(STDOUT_FILENO, b": ");
-    print(ending);
+    print!(rt; "{name}: ")?;
+    print(rt, ending)
 }
 
-fn print(e: Ending) {
+fn print(rt: &impl Print, e: Ending) -> io::Result<()> {
     match e {
-        Ending::Done(count) => numbers(0, 0, count),
-        Ending::Refused(number, line) => numbers(number, line, 0),
+        Ending::Done(count) => numbers(rt, 0, 0, count),
+        Ending::Refused(number, line) => numbers(rt, number, line, 0),
     }
 }
 
-fn numbers(number: usize, line: usize, count: usize) {
-    io::print_decimal(STDOUT_FILENO, number as u64);
-    io::write_all(STDOUT_FILENO, b" ");
-    io::print_decimal(STDOUT_FILENO, line as u64);
-    io::write_all(STDOUT_FILENO, b" ");
-    io::print_decimal(STDOUT_FILENO, count as u64);
-    io::write_all(STDOUT_FILENO, b"\n");
+fn numbers(rt: &impl Print, number: usize, line: usize, count: usize) -> io::Result<()> {
+    println!(rt; "{number} {line} {count}")
 }

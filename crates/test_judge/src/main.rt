@@ -10,6 +10,8 @@
 //
 // The first letter of CALL tells which it is. What is printed: the name, and what the call's module says. Of any other CALL it is the name
 // alone.
+#![tactic(auto)]
+
 mod cover;
 mod day;
 mod set;
@@ -19,7 +21,8 @@ ghost use Rattle.std.specs.Prelude.{◌<◌, length};
 
 use judge_ends::MOST_SHEETS;
 use judge_result::LEAST_ROOM;
-use libc::STDOUT_FILENO;
+use std::io;
+use std::io::Read;
 use test_ends::least;
 use text_writer::TEXT_ROOM;
 
@@ -38,32 +41,39 @@ const HELD_NUMBERS: usize = MOST_SHEETS + 5;
 // The bytes of a table, at most: more than 33 lines have.
 const TABLE: usize = 2048;
 
-// Runs every case: the count is one that no input reaches.
-fn main() {
-    let mut turns: usize = 1000000;
-    while 0 < turns && run_next() {
-        turns -= 1;
+// Cases, more than any input has.
+const CASES: usize = 1000000;
+
+// Runs every case.
+fn main(rt: HostRuntime) -> io::Result<()> {
+    let mut input = rt.stdin();
+    for _ in 0..CASES {
+        if !run_next(&mut input, &rt)? {
+            break;
+        }
     }
+    Ok(())
 }
 
 // Runs the next case, and returns false where there is none.
-fn run_next() -> bool {
+fn run_next<R: Read>(input: &mut R, rt: &impl Print) -> io::Result<bool> {
     let mut line = [0u8; LINE];
-    let n = test_lines::line(&mut line);
+    let n = test_lines::line(input, &mut line)?;
     if n == 0 {
-        return false;
+        return Ok(false);
     }
     let mut out = [0u8; ROOM];
     let end = run(&line[0..n], &mut out);
-    print(&out, end);
-    true
+    print(rt, &out, end)?;
+    Ok(true)
 }
 
 // Prints the first n bytes.
-fn print(s: &[u8], n: usize) {
+fn print(rt: &impl Print, s: &[u8], n: usize) -> io::Result<()> {
     if n <= s.len() {
-        io::write_all(STDOUT_FILENO, &s[0..n]);
+        rt.write_all(&s[0..n])?;
     }
+    Ok(())
 }
 
 // Runs a case, puts its result at the start of out, and returns its length. A line without a bar is a heading.

@@ -1,4 +1,6 @@
 // Marks that tell lent words that were written from those that were not.
+#![tactic(auto)]
+
 ghost use Rattle.std.specs.Prelude.{◌≡◌, ◌-◌, length, drop};
 ghost use Rattle.test_lent.specs.Marks.{marks, place_mark, Tells};
 

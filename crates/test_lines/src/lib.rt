@@ -1,30 +1,36 @@
 // Lines of the input.
-ghost use Rattle.std.specs.Prelude.{◌≡◌};
-ghost use Rattle.test_lines.specs.Lines.{LineIn};
+#![tactic(auto)]
 
-use libc::STDIN_FILENO;
+ghost use Rattle.std.specs.Prelude.{◌≡◌, IfOk};
+ghost use Rattle.test_lines.specs.Lines.{LineIn, TakesByte, TakesLine};
+
+use std::io;
+use std::io::Read;
 
 // Reads a line, without its byte 10, and returns its length: 0 at the end of the input.
-pub fn line(out: &mut [u8]) -> usize
-    ensures { LineIn out.old out.new result }
+pub fn line<R: Read>(input: &mut R, out: &mut [u8]) -> io::Result<usize>
+    ensures line { IfOk result (λ n. LineIn out.old out.new n) }
+    ensures taken { IfOk result (λ n. TakesLine (R.remaining input.old) (R.remaining input.new) out.new n) }
 {
     let mut n = 0;
     while n < out.len() {
-        let b = next();
+        let b = next(input)?;
         if b == b'\n' {
-            return n;
+            return Ok(n);
         }
         out[n] = b;
         n += 1;
     }
-    n
+    Ok(n)
 }
 
 // The next byte of the input, and byte 10 at its end.
-fn next() -> u8 {
+fn next<R: Read>(input: &mut R) -> io::Result<u8>
+    ensures { IfOk result (λ b. TakesByte (R.remaining input.old) (R.remaining input.new) b) }
+{
     let mut one = [0u8; 1];
-    if io::read_full(STDIN_FILENO, &mut one) == 0 {
-        return b'\n';
+    if program_input::read_up_to(input, &mut one)? == 0 {
+        return Ok(b'\n');
     }
-    one[0]
+    Ok(one[0])
 }

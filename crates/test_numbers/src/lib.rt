@@ -1,4 +1,6 @@
 // Numbers of a case's text.
+#![tactic(auto)]
+
 ghost use Rattle.std.specs.Prelude.{◌≡◌, min};
 ghost use Rattle.test_numbers.specs.Numbers.{largest, number_of};
 ghost use Rattle.test_numbers.specs.Numbers.{longer as Numbers·longer};

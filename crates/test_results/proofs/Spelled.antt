@@ -2,23 +2,17 @@
 use mathlib.Core.Path.{◌≡◌, refl, sym, ap, ◌∙◌}
 use mathlib.Core.Bool.{Bool, true, false}
 use mathlib.Core.List.{List, [], ◌∷◌, ◌++◌, append_assoc, append-nil}
-use Prim.Native.Nat.{ℕ, zero, suc, ◌+◌, ◌-◌, ◌*◌, ◌/◌, ◌%◌, ◌^◌, ◌≤◌, ◌<◌}
-use native.Mathlib.Numerals.{add-one, unary_clauses}
+use mathlib.Core.Logic.{⊎_elim}
+use Prim.Native.Nat.{ℕ, zero, suc, ◌+◌, ◌/◌, ◌%◌, ◌≤◌, ◌<◌}
+use native.Mathlib.Numerals.{add-one}
 use native.Mathlib.Omega.{arith}
 use lib.IntN.{ℤ, pos, negsuc}
 use lib.Signed.{lt_z}
 use lib.ListN.{length, get_or, take}
 use lib.Seq.{take-suc, length-take-le}
 use borrow.Author.Tests.{lt-ltb, le-ltb, eq-eqb, ne_eqb, ltb-true}
-use Rattle.io.specs.Digits.{hex_digit_ascii, last_digits, IsDigitCount}
+use Rattle.list_laws.proofs.Order.{less?}
 use Rattle.test_results.specs.Results.{trailing_digits, decimal_digits, sign, word_decimal, closing, words_bytes, mark_byte}
-
-small_glyph : (d : ℕ) → d < 10 → hex_digit_ascii d ≡ 48 + d
-small_glyph d h = rw (lt-ltb d 10 h)
-
--- the last digit
-last_glyph : (n : ℕ) → hex_digit_ascii (n % 10) ≡ 48 + n % 10
-last_glyph n = small_glyph (n % 10) (omega arith)
 
 one-digit : (k n : ℕ) → n < 10 → trailing_digits k n ≡ (48 + n) ∷ []
 unfolding trailing_digits
@@ -29,42 +23,27 @@ more-digits : (k n : ℕ) → 10 ≤ n → trailing_digits (suc k) n ≡ trailin
 unfolding trailing_digits
 more-digits k n h = rw (le-ltb n 10 h)
 
-ten : (k : ℕ) → 10 ^ suc k ≡ 10 ^ k * 10
-ten k = simp unary_clauses
+-- digits that there is room for are the same with any room
+enough : (k j n : ℕ) → n ≤ k → n ≤ j → trailing_digits k n ≡ trailing_digits j n
+enough zero j n h f = one-digit zero n (omega arith) ∙ sym (one-digit j n (omega arith))
+enough (suc k) zero n h f = one-digit (suc k) n (omega arith) ∙ sym (one-digit zero n (omega arith))
+enough (suc k) (suc j) n h f =
+    ⊎_elim
+    (λ lt. one-digit (suc k) n lt ∙ sym (one-digit (suc j) n lt))
+    (λ le. more-digits k n le ∙ ap (λ s. s ++ ((48 + n % 10) ∷ [])) (enough k j (n / 10) (omega arith) (omega arith)) ∙ sym (more-digits j n le))
+    (less? n 10)
 
-above : (k : ℕ) → k < 10 ^ k
-above zero = omega arith
-above (suc k) = let h = above k in let e = ten k in omega arith
-
--- digits as the library has them
-spelled_in : (k r n : ℕ) → r ≤ k → IsDigitCount 10 1 n (suc r) → last_digits 10 (suc r) n ≡ trailing_digits k n
-spelled_in k zero n h f =
-    let e = ten 0 in
-    let lt : n < 10 = omega (arith, f.1) in
-    let m : n % 10 ≡ n = omega arith in
-    rw (one-digit k n lt, last_glyph n, m)
-spelled_in zero (suc r) n h f = absurd (omega arith)
-spelled_in (suc k) (suc r) n h f =
-    let a = ten (suc r) in
-    let b = ten r in
-    let p = above r in
-    let lt : n < 10 ^ suc r * 10 = omega (arith, f.1) in
-    let g : suc (suc r) - 1 ≡ suc r = omega arith in
-    let le : 10 ^ suc r ≤ n = rw g at (f.2 (omega arith)) in
-    let big : 10 ≤ n = omega arith in
-    let q : (1 < suc r → 10 ^ (suc r - 1) ≤ n / 10) = λ o. (let s : suc r - 1 ≡ r = omega arith in rw s (omega arith)) in
-    let few : IsDigitCount 10 1 (n / 10) (suc r) = (omega arith, omega arith, q) in
-    rw (more-digits k n big, ← spelled_in k r (n / 10) (omega arith) few, last_glyph n)
-
-pub spelled : (r n : ℕ) → IsDigitCount 10 1 n r → last_digits 10 r n ≡ decimal_digits n
+-- a number of one digit, and of more: the digits of a tenth of it, and its last
+pub decimal-one : (n : ℕ) → n < 10 → (48 + n) ∷ [] ≡ decimal_digits n
 unfolding decimal_digits
-spelled zero n f = absurd (omega (arith, f.0))
-spelled (suc zero) n f = spelled_in n 0 n (omega arith) f
-spelled (suc (suc r)) n f =
-    let g : suc (suc r) - 1 ≡ suc r = omega arith in
-    let le : 10 ^ suc r ≤ n = rw g at (f.2 (omega arith)) in
-    let a = above (suc r) in
-    spelled_in n (suc r) n (omega arith) f
+decimal-one n h = sym (one-digit n n h)
+
+pub decimal-more : (n : ℕ) → 10 ≤ n → decimal_digits (n / 10) ++ ((48 + n % 10) ∷ []) ≡ decimal_digits n
+unfolding decimal_digits
+decimal-more zero h = absurd (omega arith)
+decimal-more (suc m) h =
+    let n : ℕ = suc m in
+    ap (λ s. s ++ ((48 + n % 10) ∷ [])) (enough (n / 10) m (n / 10) (omega arith) (omega arith)) ∙ sym (more-digits m n h)
 
 -- "=" or "!"
 pub marked-true : {t : Bool} → t ≡ true → 61 ≡ mark_byte t

@@ -1,5 +1,7 @@
 // Numbers, marks and words of a case's result, put at a place of a buffer. The result is the place after them; what does not fit is left
 // out.
+#![tactic(auto)]
+
 ghost use Rattle.std.specs.Prelude.{◌≡◌, [], ◌∷◌, ◌++◌, ◌+◌, ◌<◌, nat_abs};
 ghost use Rattle.text_buffer.specs.Puts.{Put};
 ghost use Rattle.test_results.specs.Results.{decimal_digits, sign, word_decimal, closing, words_bytes, mark_byte};
@@ -12,12 +14,15 @@ pub fn put_number(out: &mut [u8], at: usize, n: usize, after: u8) -> usize
     text_buffer::put_byte(out, end, after)
 }
 
+// A number's digits: those of a tenth of it, and its last.
 fn put_decimal(out: &mut [u8], at: usize, n: u64) -> usize
     ensures { Put out.old out.new at (decimal_digits n) result }
 {
-    let mut text = [0u8; 20];
-    let k = io::decimal(n, &mut text);
-    text_buffer::put(out, at, &text[..k])
+    if n < 10 {
+        return text_buffer::put_byte(out, at, b'0' + n as u8);
+    }
+    let end = put_decimal(out, at, n / 10);
+    text_buffer::put_byte(out, end, b'0' + (n % 10) as u8)
 }
 
 // "=" where a test holds, and "!" where it does not.

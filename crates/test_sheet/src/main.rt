@@ -15,12 +15,15 @@
 //
 // What is printed of reading and of writing: the number, the line and the count; "=" where the lent words or bytes after the count are as
 // they were lent, and "!" where they are not; a bar; the words or bytes written. Of a line: its length, a bar, its bytes.
+#![tactic(auto)]
+
 mod result;
 
 ghost use Rattle.std.specs.Prelude.{◌≤◌};
 
-use libc::STDOUT_FILENO;
 use sheet_format::{Ending, LINE_WORDS, MOST_BYTES, MOST_WORDS};
+use std::io;
+use std::io::Read;
 
 // The words and bytes that are lent, at most.
 const WORDS: usize = MOST_WORDS + 64;
@@ -33,33 +36,40 @@ const TABLE: usize = 2048;
 // No result is longer: it has words of twelve bytes each and bytes of three, and two answers.
 const ROOM: usize = WORDS * 12 + BYTES * 3 + 512;
 
-// Runs every case: the count is one that no input reaches.
-fn main() {
-    let mut turns: usize = 1000000;
-    while 0 < turns && run_next() {
-        turns -= 1;
+// Cases, more than any input has.
+const CASES: usize = 1000000;
+
+// Runs every case.
+fn main(rt: HostRuntime) -> io::Result<()> {
+    let mut input = rt.stdin();
+    for _ in 0..CASES {
+        if !run_next(&mut input, &rt)? {
+            break;
+        }
     }
+    Ok(())
 }
 
 // Runs the next case, and returns false where there is none.
-fn run_next() -> bool {
+fn run_next<R: Read>(input: &mut R, rt: &impl Print) -> io::Result<bool> {
     let mut line = [0u8; 4096];
-    let n = test_lines::line(&mut line);
+    let n = test_lines::line(input, &mut line)?;
     if n == 0 {
-        return false;
+        return Ok(false);
     }
     let mut out = [0u8; ROOM];
     let end = run(&line[0..n], &mut out);
     let after = text_buffer::put_byte(&mut out, end, b'\n');
-    print(&out, after);
-    true
+    print(rt, &out, after)?;
+    Ok(true)
 }
 
 // Prints the first n bytes.
-fn print(s: &[u8], n: usize) {
+fn print(rt: &impl Print, s: &[u8], n: usize) -> io::Result<()> {
     if n <= s.len() {
-        io::write_all(STDOUT_FILENO, &s[0..n]);
+        rt.write_all(&s[0..n])?;
     }
+    Ok(())
 }
 
 // Runs a case, puts its result at the start of out, and returns its length. A line without a bar is a heading.

@@ -9,39 +9,49 @@
 //
 // What is printed: the number, the line and how many relations there are; "=" where the numbers after theirs are 0, and "!" where they are
 // not; a bar; columns, key and parent of each relation, "/" after each.
-use libc::STDOUT_FILENO;
+#![tactic(auto)]
+
 use sheet_format::{MOST_RELATIONS, RELATION_NUMBERS, TABLE_NUMBERS};
+use std::io;
+use std::io::Read;
 
 // No result is longer.
 const ROOM: usize = 8192;
 
-// Runs every case: the count is one that no input reaches.
-fn main() {
-    let mut turns: usize = 1000000;
-    while 0 < turns && run_next() {
-        turns -= 1;
+// Cases, more than any input has.
+const CASES: usize = 1000000;
+
+// Runs every case.
+fn main(rt: HostRuntime) -> io::Result<()> {
+    let mut input = rt.stdin();
+    for _ in 0..CASES {
+        if !run_next(&mut input, &rt)? {
+            break;
+        }
     }
+    Ok(())
 }
 
 // Runs the next case, and returns false where there is none.
-fn run_next() -> bool {
+fn run_next<R: Read>(input: &mut R, rt: &impl Print) -> io::Result<bool> {
     let mut line = [0u8; 4096];
-    let n = test_lines::line(&mut line);
+    let n = test_lines::line(input, &mut line)?;
     if n == 0 {
-        return false;
+        return Ok(false);
     }
     let mut out = [0u8; ROOM];
     let end = run(&line[0..n], &mut out);
     let after = text_buffer::put_byte(&mut out, end, b'\n');
-    print(&out, after);
-    true
+    print(rt, &out, after)?;
+    Ok(true)
 }
 
 // Prints the first n bytes.
-fn print(s: &[u8], n: usize) {
+fn print(rt: &impl Print, s: &[u8], n: usize) -> io::Result<()> {
     if n <= s.len() {
-        io::write_all(STDOUT_FILENO, &s[0..n]);
+        rt.write_all(&s[0..n])?;
     }
+    Ok(())
 }
 
 // Runs a case, puts its result at the start of out, and returns its length. A line without a bar is a heading.

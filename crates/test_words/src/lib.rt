@@ -1,4 +1,6 @@
 // Parts and words of a case's text.
+#![tactic(auto)]
+
 ghost use Rattle.std.specs.Prelude.{◌≡◌, ◌≤◌, ◌+◌, min, length, get_or, drop};
 ghost use Rattle.test_words.specs.Words.{before_either, Stores, word_below_zero, rounded_by, whole_of, word_of, words_read};
 

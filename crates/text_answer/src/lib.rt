@@ -1,4 +1,6 @@
 // What comes of a sheet or a text, in words, by the library's own table of relations or by a club's.
+#![tactic(auto)]
+
 ghost use Rattle.std.specs.Prelude.{◌≡◌, List, ℕ};
 ghost use Rattle.sheet_format.specs.Table.{ten};
 ghost use Rattle.sheet_table.specs.Tables.{table_refusal, table_of};

@@ -1,4 +1,6 @@
 // What a text begins with, and the letters of its blocks.
+#![tactic(auto)]
+
 ghost use Rattle.std.specs.Prelude.{◌≡◌, ◌≤◌, length};
 ghost use Rattle.text_begins.specs.Begins.{letter_of, is_blank_byte, begins_text, is_text_bytes, leading_blanks};
 

@@ -1,4 +1,6 @@
 // Bytes put at a place of a buffer; what does not fit is left out. The result is the place after them.
+#![tactic(auto)]
+
 ghost use Rattle.text_buffer.specs.Puts.{Put};
 ghost use Rattle.std.specs.Prelude.{[], ◌∷◌};
 

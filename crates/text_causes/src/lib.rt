@@ -1,4 +1,6 @@
 // What causes say, in words, put at a place of a buffer.
+#![tactic(auto)]
+
 ghost use Rattle.text_buffer.specs.Puts.{Put};
 ghost use Rattle.text_writer.specs.Texts.{cause_bytes};
 

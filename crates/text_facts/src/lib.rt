@@ -1,4 +1,6 @@
 // Facts as bytes, put at a place of a buffer, by a table of relations in plain numbers.
+#![tactic(auto)]
+
 ghost use Rattle.std.specs.Prelude.{◌≡◌, cond, ◌++◌, min, eqb, length};
 ghost use Rattle.sheet_format.specs.Table.{table_in};
 ghost use Rattle.text_buffer.specs.Puts.{Put};

@@ -1,4 +1,6 @@
 // A sheet as a plain text, by the library's own table of relations or by a club's.
+#![tactic(auto)]
+
 ghost use Rattle.std.specs.Prelude.{◌≡◌, length};
 ghost use Rattle.sheet_format.specs.Table.{table_in, ten};
 ghost use Rattle.text_from_sheet.specs.Shown.{text_ending, text_lent, text_ending_by, text_lent_by};

@@ -1,4 +1,6 @@
 // Judgements in words, by a table of relations in plain numbers.
+#![tactic(auto)]
+
 ghost use Rattle.std.specs.Prelude.{◌≡◌, ◌-◌, ◌/◌, min, length};
 ghost use Rattle.sheet_format.specs.Limits.{field-bytes};
 ghost use Rattle.sheet_format.specs.Table.{table_in};

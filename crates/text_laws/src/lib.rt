@@ -1,1 +1,2 @@
 // Laws of what texts mean: proofs only.
+#![tactic(auto)]

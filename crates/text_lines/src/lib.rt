@@ -1,4 +1,6 @@
 // The lines of a number form as bytes, put at a place of a buffer, by a table of relations in plain numbers.
+#![tactic(auto)]
+
 ghost use Rattle.std.specs.Prelude.{◌≡◌, cond, ◌≤◌, ◌-◌, ◌/◌, ◌*◌, ltb, length, take, drop};
 ghost use Rattle.sheet_format.specs.Limits.{most-fields, line-words};
 ghost use Rattle.sheet_format.specs.Table.{table_in};

@@ -1,4 +1,5 @@
 // What the definition of a text's meaning (specs/) and its reader share: where reading stands, what is expected there, and a token's mark.
+#![tactic(auto)]
 
 // The places: at the start of a line; in a comment; before a head's or an atom's bracket; behind it, where a head or a row may close at once;
 // before a term; behind a term; behind a head; before a relation; behind an atom; behind "="; before a row; behind a row.
@@ -65,7 +66,7 @@ pub const NAMED_RELATIONS: usize = 10;
 
 // A token as the machine sees it: the kind of its first byte, that byte where the token has no other (else 0), and its number: a number's
 // value, or the relation that a word in capitals names, 0 where there is none.
-#[derive(Drop)]
+#[derive(Clone, Copy)]
 pub struct Mark {
     pub kind: u8,
     pub letter: u8,
@@ -75,7 +76,7 @@ pub struct Mark {
 // Where reading stands: the place; the kind of the block, and of the last line of the number form; that line's relation and how many columns
 // may still come; whether it is a row without brackets; what was expected, 0 where the last token fitted; and what that token did: it began a
 // line, and it put a field into it.
-#[derive(Drop)]
+#[derive(Clone, Copy)]
 pub struct Control {
     pub place: usize,
     pub block: usize,

@@ -1,4 +1,6 @@
 // Why a text has no sheet, in words.
+#![tactic(auto)]
+
 ghost use Rattle.text_writer.specs.Says.{SaysWords};
 ghost use Rattle.text_message.specs.Message.{message_bytes};
 

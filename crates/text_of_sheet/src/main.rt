@@ -1,34 +1,38 @@
 // Prints the text of the sheet of standard input; where it is refused, standard error says why.
-use libc::{STDERR_FILENO, STDIN_FILENO, STDOUT_FILENO};
+#![tactic(auto)]
+
 use sheet_format::{Ending, MOST_SHEET_BYTES};
+use std::io;
 use text_to_sheet::Made;
 use text_writer::TEXT_ROOM;
 
 // What is read: one byte more than a sheet may have, so that a longer one is refused.
 const READ: usize = MOST_SHEET_BYTES + 1;
 
-fn main() {
+fn main(rt: HostRuntime) -> io::Result<()> {
     let mut given = [0u8; READ];
-    let n = io::read_full(STDIN_FILENO, &mut given);
-    print(&given[..n]);
+    let n = program_input::read_up_to(&mut rt.stdin(), &mut given)?;
+    print(&rt, &rt.stderr(), &given[..n])
 }
 
-fn print(given: &[u8]) {
+fn print(rt: &impl Print, errors: &impl Print, given: &[u8]) -> io::Result<()> {
     let mut text = [0u8; TEXT_ROOM];
     match text_from_sheet::text_of(given, &mut text) {
         Ending::Done(n) => {
             if n <= text.len() {
-                io::write_all(STDOUT_FILENO, &text[0..n]);
+                rt.write_all(&text[0..n])?;
             }
+            Ok(())
         }
-        Ending::Refused(number, line) => complain(number, line),
+        Ending::Refused(number, line) => complain(errors, number, line),
     }
 }
 
-fn complain(number: usize, line: usize) {
+fn complain(errors: &impl Print, number: usize, line: usize) -> io::Result<()> {
     let mut words = [0u8; TEXT_ROOM];
     let n = text_message::message(Made::Refused(number, line, 0), &mut words);
     if n <= words.len() {
-        io::write_all(STDERR_FILENO, &words[0..n]);
+        errors.write_all(&words[0..n])?;
     }
+    Ok(())
 }

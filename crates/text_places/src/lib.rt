@@ -1,4 +1,6 @@
 // Where reading a text stands after a token: a machine over marks. Each place has its function, as its definition has.
+#![tactic(auto)]
+
 ghost use Rattle.std.specs.Prelude.{◌≡◌, ◌-◌};
 ghost use Rattle.text_meaning.specs.Places.{goes, fails, headed, atomed, rowed, bared, termed, after_list, next_block, headed_at, start_at, comment_at, open_at, term_expected, is_counted, columns_in, more_at, closed_by, close_at, first_at, row_end_at, next_at, colon_at, relation_at, atom_end_at, row_expected, rows_at, step};
 

@@ -1,4 +1,6 @@
 // Reading a text token by token: its number form, or where and what was expected.
+#![tactic(auto)]
+
 ghost use Rattle.std.specs.Prelude.{◌≡◌, ◌+◌, ◌≤◌, ◌<◌, length, replicate, pos, negsuc};
 ghost use Rattle.text_begins.specs.Begins.{most-text};
 ghost use Rattle.text_meaning.specs.Names.{are_same_bytes, place_in};
@@ -16,7 +18,7 @@ const NAMED: usize = VARIABLES as usize;
 
 // How much was read: the line of the text; the block's variables; the lines of the number form, one more than a sheet can have standing for any
 // more, and the fields of the last.
-#[derive(Drop)]
+#[derive(Clone, Copy)]
 pub struct Counts {
     pub line: usize,
     pub names: usize,
@@ -25,7 +27,7 @@ pub struct Counts {
 }
 
 // Where reading stands.
-#[derive(Drop)]
+#[derive(Clone, Copy)]
 pub struct ReadTo {
     pub control: Control,
     pub counts: Counts,

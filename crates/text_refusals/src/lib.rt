@@ -1,4 +1,6 @@
 // Refusals in words, put at a place of a buffer.
+#![tactic(auto)]
+
 ghost use Rattle.std.specs.Prelude.{◌++◌};
 ghost use Rattle.text_buffer.specs.Puts.{Put};
 ghost use Rattle.text_writer.specs.Texts.{unless0, number_bytes, place_bytes, refusal_bytes, expected_bytes};

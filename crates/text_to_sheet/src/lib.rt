@@ -1,4 +1,6 @@
 // A plain text as a sheet, by the library's own table of relations or by a club's.
+#![tactic(auto)]
+
 ghost use Rattle.std.specs.Prelude.{◌≡◌, length};
 ghost use Rattle.sheet_format.specs.Table.{table_in, ten};
 ghost use Rattle.text_to_sheet.specs.Texts.{begun_line, MadeAs, MadeByTable};
@@ -10,7 +12,7 @@ use text_reader::run;
 
 // A text as a sheet: how many bytes it has; or the line, what was expected there and in which relation; or the library's refusal, its number
 // and line, and the line of the text.
-#[derive(Drop)]
+#[derive(Clone, Copy)]
 pub enum Made {
     Sheet(usize),
     Expected(usize, usize, usize),

@@ -1,4 +1,6 @@
 // A text's tokens one after the other, and what each stands for.
+#![tactic(auto)]
+
 ghost use Rattle.std.specs.Prelude.{◌≡◌, ◌≤◌, length, drop};
 ghost use Rattle.text_writer.specs.Texts.{relation_bytes, relation_names};
 ghost use Rattle.sheet_format.specs.Limits.{field_end};

@@ -1,4 +1,6 @@
 // What was expected, in words, put at a place of a buffer.
+#![tactic(auto)]
+
 ghost use Rattle.text_buffer.specs.Puts.{Put};
 ghost use Rattle.text_writer.specs.Texts.{count_bytes, columns_bytes, length_bytes, what_bytes};
 

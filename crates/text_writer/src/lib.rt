@@ -1,5 +1,7 @@
 // Numbers, terms and names of relations, as bytes, and what the bytes of texts are. Each function puts bytes at a place of a buffer, and returns
 // the place after them; what does not fit is left out.
+#![tactic(auto)]
+
 ghost use Rattle.std.specs.Prelude.{◌≡◌, cond, [], ◌∷◌, ◌++◌, eqb};
 ghost use Rattle.sheet_format.specs.Line.{natural};
 ghost use Rattle.text_buffer.specs.Puts.{Put};

@@ -1,0 +1,15 @@
+use lib.ListN.{get_or}
+use mathlib.Core.Path.{refl}
+use Rattle.list_laws.proofs.Ranges.{filled_none, filled_more}
+use Rattle.list_laws.specs.Kept.{Filled}
+use Rattle.case_minimization.proofs.Laws.{patched_all}
+use Prim.Native.Nat.{◌≤◌, ◌-◌, ◌*◌}
+use native.Mathlib.Omega.{arith}
+use borrow.Author.Rules.{rules}
+use Rattle.case_minimization.proofs.put_back.Given as goal
+
+abbrev pub invariant-loop-y : goal.invariant-loop-y
+invariant-loop-y l = (l.y ≤ l.end) × (l.i * 5 ≤ l.y) × Filled 0 l.initial.room l.room (l.i * 5) l.y (λ z. get_or l.facts z 0)
+
+abbrev pub decreases-loop-y : goal.decreases-loop-y
+decreases-loop-y l = l.end - l.y

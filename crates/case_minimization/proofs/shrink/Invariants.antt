@@ -1,0 +1,17 @@
+use lib.ListN.{take, length}
+use lib.Seq.{length-take-le}
+use Rattle.tableau_parts.specs.Walks.{FormedPlan}
+use Rattle.case_minimization.specs.Minimization.{IsCase}
+use Rattle.case_minimization.specs.Parts.{TriedFact}
+use Rattle.case_minimization.proofs.Laws.{tried-start, tried_again, shrunk}
+use mathlib.Core.Path.{◌≡◌, refl, ◌∙◌}
+use Prim.Native.Nat.{◌≤◌, ◌+◌, ◌*◌}
+use native.Mathlib.Omega.{arith}
+use borrow.Author.Rules.{rules}
+use Rattle.case_minimization.proofs.shrink.Given as goal
+
+abbrev pub invariant-loop-m : goal.invariant-loop-m
+invariant-loop-m l = (l.m ≤ l.n) × (l.m ≤ l.before) × (length l.facts ≡ length l.initial.facts) × (FormedPlan l.p → IsCase l.p (take (l.n * 5) l.initial.facts) → TriedFact l.p (take (l.n * 5) l.initial.facts) l.n (take (l.m * 5) l.facts) l.m l.before l.m)
+
+abbrev pub decreases-loop-m : goal.decreases-loop-m
+decreases-loop-m l = l.before

@@ -1,0 +1,26 @@
+-- One total after the other, and byte 10.
+use mathlib.Core.Path.{ap}
+use lib.IntN.{pos}
+use lib.ListN.{take}
+use native.Mathlib.Omega.{arith}
+use mathlib.Core.List.{[], ◌∷◌}
+use borrow.Author.Rules.{rules}
+use Rattle.sheet_format.specs.Field.{field_bytes}
+use Rattle.text_buffer.proofs.Laws.{said}
+use Rattle.day_page.specs.Page.{tally, sum_of_facts, closing_line}
+use Rattle.day_page.proofs.Laws.{first_field, next_field, line-end}
+use Rattle.day_page.proofs.put_closing.Goals as goal
+
+pub returns : goal.returns
+returns c = let a = c.args in
+    let js = take a.count a.sheets in
+    let t0 = pos (tally 0 js) in
+    let t1 = pos (tally 1 js) in
+    let t2 = pos (tally 2 js) in
+    let t9 = pos (tally 9 js) in
+    let one = first_field t0 (said (ap (λ n. field_bytes (pos n)) c.tally.ensures.0) c.put_number-a.ensures) in
+    let two = next_field (t0 ∷ []) t1 one (said (ap (λ n. field_bytes (pos n)) c.tally-2.ensures.0) c.put_number-b.ensures) in
+    let three = next_field (t0 ∷ t1 ∷ []) t2 two (said (ap (λ n. field_bytes (pos n)) c.tally-3.ensures.0) c.put_number-c.ensures) in
+    let four = next_field (t0 ∷ t1 ∷ t2 ∷ []) t9 three (said (ap (λ n. field_bytes (pos n)) c.tally-4.ensures.0) c.put_number-d.ensures) in
+    let five = next_field (t0 ∷ t1 ∷ t2 ∷ t9 ∷ []) (pos (sum_of_facts js)) four (said (ap (λ n. field_bytes (pos n)) c.fact_sum.ensures.0) c.put_number-e.ensures) in
+    line-end (closing_line js) five c.put_byte.ensures

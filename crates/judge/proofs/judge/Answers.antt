@@ -1,0 +1,8 @@
+use borrow.Author.Rules.{rules}
+use Rattle.sheet_own_table.specs.Own.{own_bytes}
+use Rattle.judge.proofs.Ways.{own-judged}
+use Rattle.judge.proofs.judge.Goals as goal
+
+pub returns : goal.returns
+returns c = let j = c.judge_loaded in
+    own-judged _ _ _ j.result (j.ensures own_bytes c.own.ensures)

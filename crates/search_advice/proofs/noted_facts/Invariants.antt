@@ -1,0 +1,13 @@
+-- `noted_facts` is safe and ends.
+use borrow.Author.Rules.{rules}
+use Prim.Native.Nat.{◌≤◌, ◌-◌}
+use mathlib.Core.Path.{◌≡◌}
+use lib.ListN.{length}
+use Rattle.sheet_format.specs.Limits.{most-atoms}
+use Rattle.search_advice.proofs.noted_facts.Given as goal
+
+abbrev pub invariant-loop-j : goal.invariant-loop-j
+invariant-loop-j l = (l.j ≤ most-atoms) × (length l.at ≡ most-atoms)
+
+abbrev pub decreases-loop-j : goal.decreases-loop-j
+decreases-loop-j l = most-atoms - l.j

@@ -1,0 +1,13 @@
+-- `either` is safe and ends.
+use borrow.Author.Rules.{rules}
+use mathlib.Core.Path.{◌≡◌}
+use Prim.Native.Nat.{◌≤◌, ◌-◌}
+use lib.ListN.{length}
+use Rattle.search_board.specs.Sizes.{fact-set-words}
+use Rattle.search_board.proofs.either.Given as goal
+
+abbrev pub invariant-loop-w : goal.invariant-loop-w
+invariant-loop-w l = (l.w ≤ fact-set-words) × (length l.set ≡ fact-set-words)
+
+abbrev pub decreases-loop-w : goal.decreases-loop-w
+decreases-loop-w l = fact-set-words - l.w

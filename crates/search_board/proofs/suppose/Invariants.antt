@@ -1,0 +1,11 @@
+-- `suppose` is safe and ends.
+use borrow.Author.Rules.{rules}
+use Prim.Native.Nat.{◌≤◌, ◌-◌}
+use Rattle.search_board.specs.Sizes.{fact-end}
+use Rattle.search_board.proofs.suppose.Given as goal
+
+abbrev pub invariant-loop-i : goal.invariant-loop-i
+invariant-loop-i l = l.i ≤ fact-end
+
+abbrev pub decreases-loop-i : goal.decreases-loop-i
+decreases-loop-i l = fact-end - l.i

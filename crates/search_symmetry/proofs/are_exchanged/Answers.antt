@@ -1,0 +1,20 @@
+use Rattle.std.proofs.Common.{arith, ◌≡◌, refl}
+use Rattle.tableau_plan.specs.Plan.{row_count, row_values, view_count}
+use Rattle.search_symmetry.proofs.Laws.{all_found}
+use Rattle.search_symmetry.proofs.are_exchanged.Goals as goal
+
+pub returns : goal.returns
+returns c e =
+    let l = c.if-not-are_listed.ensures refl in
+    let few = l.few-rows in
+    let one_in = l.one_inside in
+    let other_in = l.other-inside in
+    all_found c.args.p.now c.args.ws.now c.args.set.now c.args.u.now c.args.one c.args.other _ _ _
+    (c.values_at-a.ensures (omega arith))
+    (c.values_at-b.ensures (omega arith))
+    l
+    (c.if-not-is_unmoved.ensures refl)
+    (c.if-not-agrees.ensures refl)
+    (c.if-not-is_swapped.ensures refl)
+    (c.if-not-is_sheet_turned.ensures refl)
+    (c.are_slots_turned.ensures e)

@@ -1,0 +1,5 @@
+-- A tenth of a number of more digits than one is less.
+use Rattle.test_results.proofs.+put_decimal.Given as goal
+
+abbrev pub decreases-put_decimal : goal.decreases-put_decimal
+decreases-put_decimal l = l.n

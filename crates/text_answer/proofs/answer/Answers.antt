@@ -1,0 +1,6 @@
+use Rattle.sheet_own_table.specs.Own.{own_bytes}
+use Rattle.text_answer.proofs.Calls.{own-answered}
+use Rattle.text_answer.proofs.answer.Goals as goal
+
+pub returns : goal.returns
+returns c = own-answered c.args.given.now c.args.out.now c.reply.new.out c.reply.result (c.reply.ensures own_bytes c.own.ensures)

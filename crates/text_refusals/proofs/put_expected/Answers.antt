@@ -1,0 +1,10 @@
+-- One part after the other.
+use borrow.Author.Rules.{rules}
+use Rattle.text_buffer.proofs.Laws.{followed}
+use Rattle.text_writer.specs.Texts.{expected_bytes}
+use Rattle.text_refusals.proofs.put_expected.Goals as goal
+
+pub returns : goal.returns
+unfolding expected_bytes
+returns c = let a = followed (followed c.put-a.ensures c.put_number-b.ensures) c.put-c.ensures in
+    followed (followed a c.put_what-d.ensures) c.put_byte.ensures

@@ -1,0 +1,8 @@
+-- A number that fits a field is a word.
+use borrow.Author.Rules.{rules}
+use Rattle.text_writer.proofs.Parts.{word_of, no_number}
+use Rattle.text_buffer.proofs.Laws.{nothing, said}
+use Rattle.text_writer.proofs.put_number.Goals as goal
+
+pub returns : goal.returns
+returns c = said (no_number c.if-n.false) (nothing c.args.out.now c.args.at)
