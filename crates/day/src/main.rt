@@ -3,7 +3,7 @@
 //     day FILE FILE ..               by the library's own table of relations
 //     day -t TABLE FILE FILE ..      by the table of the file TABLE
 //
-// What cannot be opened or read is said on standard error by its name, and stands in the set as a sheet without bytes. Of a text that has no sheet
+// What cannot be opened is said on standard error by its name, and stands in the set as a sheet without bytes. Of a text that has no sheet
 // standard error says why, and it stands there as it is, so that it is refused. More files than a set may have are refused: 9, number and
 // line are printed.
 #![tactic(auto)]

@@ -45,6 +45,20 @@ pub fn read_up_to<R: Read>(reader: &mut R, out: &mut [u8]) -> io::Result<usize>
     Ok(done)
 }
 
+// Reads as far as the reader goes without a failure, which is taken for its end; returns how many bytes stand at the start of `out`.
+fn read_until_failure<R: Read>(reader: &mut R, out: &mut [u8]) -> usize
+    ensures { result ≤ length out.new }
+{
+    let mut at = 0;
+    while at < out.len() {
+        match read_some(reader, &mut out[at..]) {
+            Ok(n) if 0 < n => at += n,
+            _ => return at,
+        }
+    }
+    at
+}
+
 // One read, tried again where a signal interrupts it.
 fn read_some<R: Read>(reader: &mut R, out: &mut [u8]) -> io::Result<usize>
     ensures within { ReadsAtMost result out.new }
@@ -70,8 +84,8 @@ pub fn has_argument(env: &impl Env, number: usize) -> bool {
 }
 
 // Reads the file that an argument names: puts its name at the start of `name`, and its bytes, as many as there is room for, at the start of
-// `out`. Where it cannot be opened or read there is none, and `errors` is told why, by its name, as far as it can be told. A name that is not
-// UTF-8 cannot be opened.
+// `out`. Where it cannot be opened there is none, and `errors` is told why, by its name, as far as it can be told. A name that is not UTF-8
+// cannot be opened. A read that fails is taken for the file's end.
 pub fn read_named<R: Env + Files>(
     rt: &R,
     errors: &impl Print,
@@ -110,7 +124,7 @@ fn read_file<R: Files>(files: &R, name: &[u8], out: &mut [u8]) -> io::Result<usi
     ensures { IfOk result (λ n. n ≤ length out.new) }
 {
     match std::str::from_utf8(name) {
-        Ok(path) => read_up_to(&mut fs::open(files, path)?, out),
+        Ok(path) => Ok(read_until_failure(&mut fs::open(files, path)?, out)),
         Err(_) => Err(Error::from(ErrorKind::InvalidFilename)),
     }
 }
@@ -191,6 +205,13 @@ mod tests {
             Err(e) => assert!(rt; e.kind() == ErrorKind::BrokenPipe),
         }
         assert_eq!(rt; read_up_to(&mut reader(true), &mut out[..3]).ok(), Some(3));
+    }
+
+    #[test]
+    fn takes_a_failure_for_the_end(rt: HostRuntime) {
+        let mut out = [9u8; 5];
+        assert_eq!(rt; read_until_failure(&mut reader(true), &mut out), 3);
+        assert_eq!(rt; out, [1, 2, 3, 9, 9]);
     }
 
     #[test]

@@ -28,7 +28,7 @@ fn put_own(out: &mut [u8]) -> usize
     least(n, out.len())
 }
 
-// The bytes of the file that an argument names, none where it cannot be opened or read, which `errors` is told; how many they are.
+// The bytes of the file that an argument names, none where it cannot be opened, which `errors` is told; how many they are.
 fn put_named<R: Env + Files>(rt: &R, errors: &impl Print, number: usize, out: &mut [u8]) -> usize
     ensures { result ≤ length out.new }
 {
