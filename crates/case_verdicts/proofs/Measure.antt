@@ -1,4 +1,4 @@
--- A replacement leaves fewer made_up values in the slots, so a search comes to its end.
+-- A replacement leaves fewer made-up values in the slots, so a search comes to its end.
 use mathlib.Core.Path.{◌≡◌, refl, sym, ap, ◌∙◌, subst}
 use mathlib.Core.Bool.{Bool, true, false, cond}
 use mathlib.Core.List.{List, [], ◌∷◌, map}
@@ -38,12 +38,12 @@ in-made top k (n ∷ l) (inr m) h = go (ltb n top) (in-made top k l m h)
     go true i = i
     go false i = inr i
 
--- the number of different made_up values in the slots
+-- the number of different made-up values in the slots
 unfoldable pub measure : ℕ → List ℕ → State → ℕ
 measure top slots s = length (once same? (made top (map s slots)))
 
 module _ (top : ℕ) (slots : List ℕ) (s : State) (m n : ℕ) (made_up : top ≤ m) (there : In m (map s slots)) (other : m ≡ n → ⊥) (known : (n < top) ⊎ In n (map s slots)) where
-  -- after the replacement there are no new made_up values, and m is gone
+  -- after the replacement there are no new made-up values, and m is gone
   left_over : (k : ℕ) → In k (map (after (replace m n) s) slots) → top ≤ k → In k (map s slots) × (k ≡ m → ⊥)
   left_over k i h =
       let (j, w, e) = from-map (after (replace m n) s) slots k i in

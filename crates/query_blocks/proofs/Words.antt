@@ -15,7 +15,7 @@ use Rattle.sheet_format.specs.Cause.{kind_of, kind, rest, second, terms}
 
 -- ---- a line's fields, the unused ones 0, are its words after the first
 
--- field f of a well_formed_parts line i is word 7 i + 1 + f
+-- field f of a well-formed line i is word 7 i + 1 + f
 pub field-word : (ws : List ℤ) (i : ℕ) → i < length ws / 7 → null (get_or (word_lines ws) i []) ≡ false → (f : ℕ) → f < 6
     → get_or (get_or (word_lines ws) i []) f (pos 0) ≡ get_or ws (7 * i + 1 + f) (pos 0)
 field-word ws i lt h f few =

@@ -25,7 +25,7 @@ fn line_at(ws: &[i32], i: usize) -> [i32; LINE_WORDS]
     l
 }
 
-// The field count of a well_formed_parts line: its first word.
+// The field count of a well-formed line: its first word.
 fn count(l: [i32; LINE_WORDS]) -> usize
     requires { null (word_line l) ≡ false }
     ensures { (result ≡ length (word_line l)) × (result ≤ 6) }
@@ -33,7 +33,7 @@ fn count(l: [i32; LINE_WORDS]) -> usize
     l[0] as usize
 }
 
-// Whether a well_formed_parts line is a head: its first field is 1, 2 or 3.
+// Whether a well-formed line is a head: its first field is 1, 2 or 3.
 fn is_head(l: [i32; LINE_WORDS]) -> bool
     requires { null (word_line l) ≡ false }
     ensures { result ≡ is_head (kind (word_line l)) }
@@ -47,7 +47,7 @@ fn is_head(l: [i32; LINE_WORDS]) -> bool
     }
 }
 
-// Whether a well_formed_parts line is an atom: its first field is 4.
+// Whether a well-formed line is an atom: its first field is 4.
 fn is_atom(l: [i32; LINE_WORDS]) -> bool
     requires { null (word_line l) ≡ false }
     ensures { result ≡ is_atom (kind (word_line l)) }

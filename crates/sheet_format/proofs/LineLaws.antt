@@ -105,7 +105,7 @@ all_shown (suc k) s e h =
     ∙ ap (λ x. take field-bytes s ++ x) (all_shown k (drop field-bytes s) (simp length-drop (omega arith)) (and_right (is_number f) (all is_number r) h))
     ∙ take-append-drop field-bytes s
 
--- what a well_formed_parts line has
+-- what a well-formed line has
 pub record WellFormed (s : List ℕ) : Type 0 where
   pub whole : length s ≡ length s / field-bytes * 8
   pub some : 1 ≤ length s / field-bytes
@@ -214,7 +214,7 @@ word_back (z ∷ l) g =
     (and_both (all fits (take n ((z ∷ l) ++ r))) (all is_zero (drop n ((z ∷ l) ++ r))) ft zs)) in
     ap (λ b. cond b (take n ((z ∷ l) ++ r)) []) w ∙ t
 
--- what well_formed_parts words have
+-- what well-formed words have
 pub record FormedWords (ws : List ℤ) : Type 0 where
   pub some : 1 ≤ count ws
   pub few : count ws ≤ most-fields
