@@ -1,7 +1,7 @@
 /* Figdawesa from C: sheets read and written, their lines, evaluation, the verdict on cover, the verdicts of a page's whole set, and the
  * page to print for it; sheets as texts, and what comes of them in words. All go by the library's own table of relations, or by a club's.
  *
- * Link target/staticlib/libfigdawesa.a, which `rt staticlib figdawesa` writes, for x86-64 Linux. Of the C library it needs memcpy,
+ * Link crates/figdawesa/out/libfigdawesa.a, which `rt lib` in crates/figdawesa writes, for x86-64 Linux. Of the C library it needs memcpy,
  * memmove and memset, and nothing else. README.md says what a sheet is, docs/PROMISES.md what each call promises.
  *
  * For every call:
@@ -15,7 +15,7 @@
  *     has a stretch of `out`, of which this holds.)
  *   - Nothing is kept between calls, and nothing is allocated. Threads can call at the same time, each with an `out` (and `page`) of its own.
  *   - Stack: give the thread that calls figdawesa_judge, figdawesa_judge_set, figdawesa_judge_day or figdawesa_answer, or one of these by a table,
- *     256 KiB or more. No proof speaks of the stack; it is measured.
+ *     256 KiB or more. No proof speaks of the stack; it was measured, under the older toolchain (README.md, "How fast").
  */
 #ifndef FIGDAWESA_H
 #define FIGDAWESA_H
