@@ -11,7 +11,7 @@ use Rattle.text_buffer.specs.Words.{bytes}
 use Rattle.text_writer.specs.Texts.{without_blanks, word_bytes, relation_bytes}
 use Rattle.text_meaning.specs.Tokens.{token_kind, joins, word_goes_on, behind, tokens}
 use Rattle.text_meaning.specs.Names.{are_same_bytes, number_longer, number_from, among, relation_named, place_in, noted, token_mark}
-use Rattle.text_meaning.specs.Places.{columns_in, next_block, start_at, comment_at, open_at, term_expected, more_at, closed_by, close_at, first_at, row_end_at, next_at, colon_at, relation_at, atom_end_at, row_expected, rows_at, step_from, step}
+use Rattle.text_meaning.specs.Places.{columns_in, next_block, start_at, comment_at, open_at, term_expected, more_at, closed_by, close_at, first_at, row_end_at, next_at, colon_at, relation_at, atom_end_at, row_expected, any_rows_at, step_from, step}
 use Rattle.text_meaning.specs.Reading.{Reading, grown, read, read_all, reading_of}
 use Rattle.text_laws.specs.Numbered.{place_among, known, numbered_terms, known_behind, numbered_lines}
 
@@ -22,12 +22,12 @@ question-tokens = refl
 
 -- a head and its atom, of which the first term is a variable
 pub block-lines : reverse (reading_of (bytes "q(s): Sig(s,7)")).lines ≡ (pos 1 ∷ negsuc 0 ∷ []) ∷ (pos 4 ∷ pos 4 ∷ negsuc 0 ∷ pos 7 ∷ []) ∷ []
-unfolding behind word_goes_on joins token_kind are_same_bytes number_longer number_from among relation_named place_in noted token_mark columns_of relation columns_in next_block start_at comment_at open_at term_expected more_at closed_by close_at first_at row_end_at next_at colon_at relation_at atom_end_at row_expected rows_at step_from step grown read read_all reading_of
+unfolding behind word_goes_on joins token_kind are_same_bytes number_longer number_from among relation_named place_in noted token_mark columns_of relation columns_in next_block start_at comment_at open_at term_expected more_at closed_by close_at first_at row_end_at next_at colon_at relation_at atom_end_at row_expected any_rows_at step_from step grown read read_all reading_of
 block-lines = refl
 
 -- a bracket that is not closed: in line 2 a comma or a bracket (7) was expected
 pub open_bracket : ((reading_of (bytes "#\nq(s")).control.expected ≡ 7) × ((reading_of (bytes "#\nq(s")).line ≡ 2)
-unfolding behind word_goes_on joins token_kind are_same_bytes number_longer number_from among relation_named place_in noted token_mark columns_of relation columns_in next_block start_at comment_at open_at term_expected more_at closed_by close_at first_at row_end_at next_at colon_at relation_at atom_end_at row_expected rows_at step_from step grown read read_all reading_of
+unfolding behind word_goes_on joins token_kind are_same_bytes number_longer number_from among relation_named place_in noted token_mark columns_of relation columns_in next_block start_at comment_at open_at term_expected more_at closed_by close_at first_at row_end_at next_at colon_at relation_at atom_end_at row_expected any_rows_at step_from step grown read read_all reading_of
 open_bracket = (refl, refl)
 
 -- a head's variables -3 and -1 are the first and the second of their block, also where its atom has them the other way round

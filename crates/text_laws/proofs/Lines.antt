@@ -23,7 +23,7 @@ use Rattle.text_writer.specs.Texts.{word_bytes, term_bytes, separated, terms_byt
 use Rattle.text_writer.proofs.Parts.{far-relation}
 use Rattle.text_meaning.specs.Tokens.{token_kind, is_in_word, joins, word_goes_on, behind, tokens}
 use Rattle.text_meaning.specs.Names.{token_mark, relation_named}
-use Rattle.text_meaning.specs.Places.{columns_in, next_block, start_at, open_at, term_expected, first_at, closed_by, close_at, colon_at, relation_at, atom_end_at, row_expected, rows_at, row_end_at, next_at, step_from, step}
+use Rattle.text_meaning.specs.Places.{columns_in, next_block, start_at, open_at, term_expected, first_at, closed_by, close_at, colon_at, relation_at, atom_end_at, row_expected, any_rows_at, row_end_at, next_at, step_from, step}
 use Rattle.text_meaning.specs.Reading.{Reading, field_for, grown, read, read_all}
 use Rattle.text_meaning.specs.declared.Control.{Control}
 use Rattle.text_laws.specs.Numbered.{numbered_term, numbered_terms, known_behind}
@@ -203,7 +203,7 @@ module _ (block relation left line : ℕ) (ns : List (List ℕ)) (l : Line) (ls 
 
   -- the end of the line, of a view without rows
   pub no_rows : (s : List ℕ) → reads (behind_atom 9 line) (10 ∷ s) ≡ reads (behind_atom 0 (suc line)) s
-  unfolding joins token_kind read step step_from rows_at token_mark
+  unfolding joins token_kind read step step_from any_rows_at token_mark
   no_rows s = sign-on (behind_atom 9 line) (behind_atom 0 (suc line)) 10 s refl (λ n. refl) refl refl
 
   -- or of any other block
@@ -286,7 +286,7 @@ module _ (block place : ℕ) (due : (place ≡ 9) ⊎ (place ≡ 10)) (c : Contr
   }
 
   row_open_read : (ns : List (List ℕ)) → read (due_here ns) (40 ∷ []) ≡ row_begun ns
-  unfolding read step step_from rows_at row_expected token_mark token_kind
+  unfolding read step step_from any_rows_at row_expected token_mark token_kind
   row_open_read ns = ⊎_elim (λ e. rw e) (λ e. rw e) due
 
   row-alike : (ns : List (List ℕ)) (w : List ℕ) → read (row_begun ns) w ≡ read (within 3 block 5 0 4 false line ns (pos 5 ∷ []) ls (line ∷ starts)) w
@@ -337,7 +337,7 @@ module _ (block place : ℕ) (due : (place ≡ 9) ⊎ (place ≡ 10)) (c : Contr
   bare_control = record { place = 5; block = block; kind = 5; relation = 0; left = 3; bare = true; expected = 0; begins = false; puts = false }
 
   value_read : (ns : List (List ℕ)) (w : List ℕ) → (token_mark w).kind ≡ 48 → read (due_here ns) w ≡ bare ns (field_for (token_mark w) w ns)
-  unfolding read step step_from rows_at row_expected grown
+  unfolding read step step_from any_rows_at row_expected grown
   value_read ns w k = ⊎_elim (λ e. ap at e ∙ first) (λ e. ap at e ∙ next) due
     where
       at : ℕ → Reading

@@ -14,7 +14,7 @@ use Rattle.sheet_format.specs.Line.{Line}
 use Rattle.sheet_format.specs.Table.{columns_of, relation, ten}
 use Rattle.text_begins.specs.Begins.{letter_of}
 use Rattle.text_meaning.specs.Names.{token_mark}
-use Rattle.text_meaning.specs.Places.{goes, fails, columns_in, next_block, start_at, comment_at, open_at, term_expected, is_counted, more_at, closed_by, close_at, first_at, row_end_at, next_at, colon_at, relation_at, atom_end_at, row_expected, rows_at, step_from, step}
+use Rattle.text_meaning.specs.Places.{goes, fails, columns_in, next_block, start_at, comment_at, open_at, term_expected, is_counted, more_at, closed_by, close_at, first_at, row_end_at, next_at, colon_at, relation_at, atom_end_at, row_expected, any_rows_at, step_from, step}
 use Rattle.text_meaning.specs.Tokens.{tokens}
 use Rattle.text_meaning.specs.Reading.{Reading, field_for, names_in, lines_in, grown, read, read_all, unread, reading_of}
 use Rattle.text_meaning.specs.declared.Control.{Control}
@@ -114,7 +114,7 @@ module _ (c : Control) (m : Mark) (n : ℕ) (r : Room c n) where
       (fails-room 9)
 
   from-room : (p : ℕ) → p ≡ c.place → Leaves (step_from p c m)
-  unfolding step_from comment_at open_at first_at next_at colon_at atom_end_at rows_at
+  unfolding step_from comment_at open_at first_at next_at colon_at atom_end_at any_rows_at
   from-room p i =
       either Leaves (eqb p 0) start-room
       (either Leaves (eqb p 1) (either Leaves (eqb m.kind 10) (goes-room 0 (omega arith)) (goes-room 1 (omega arith)))

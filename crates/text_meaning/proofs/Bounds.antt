@@ -12,7 +12,7 @@ use Rattle.text_writer.specs.Texts.{relation_names}
 use Rattle.text_begins.specs.Begins.{letter_of}
 use Rattle.text_meaning.specs.Names.{are_same_bytes, number_from, among, beyond, relation_named, token_mark}
 use Rattle.text_meaning.specs.Tokens.{token_kind}
-use Rattle.text_meaning.specs.Places.{next_block, start_at, comment_at, open_at, term_expected, is_counted, more_at, closed_by, close_at, first_at, row_end_at, next_at, colon_at, relation_at, atom_end_at, row_expected, rows_at, step_from, step}
+use Rattle.text_meaning.specs.Places.{next_block, start_at, comment_at, open_at, term_expected, is_counted, more_at, closed_by, close_at, first_at, row_end_at, next_at, colon_at, relation_at, atom_end_at, row_expected, any_rows_at, step_from, step}
 use Rattle.text_meaning.specs.declared.Control.{Control}
 use Rattle.text_meaning.specs.declared.Mark.{Mark}
 
@@ -98,7 +98,7 @@ module _ (c : Control) (h : Small c) (m : Mark) where
   row_small what = either Small (eqb m.kind 40) (omega arith) (either Small (eqb m.kind 48) (omega arith) h)
 
   from-small : (p : ℕ) → Small (step_from p c m)
-  unfolding step_from comment_at open_at first_at next_at colon_at relation_at atom_end_at rows_at
+  unfolding step_from comment_at open_at first_at next_at colon_at relation_at atom_end_at any_rows_at
   from-small p =
       either Small (eqb p 0) start_small
       (either Small (eqb p 1) (either Small (eqb m.kind 10) h h)

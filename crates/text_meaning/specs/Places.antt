@@ -117,8 +117,8 @@ unfoldable pub row_expected : Control → Mark → ℕ → Control
 row_expected c m what = cond (eqb m.kind 40) (rowed c) (cond (eqb m.kind 48) (bared c) (fails c what))
 
 -- behind "=" (9): a row, or none
-unfoldable pub rows_at : Control → Mark → Control
-rows_at c m = cond (eqb m.kind 10) (goes c 0) (row_expected c m 14)
+unfoldable pub any_rows_at : Control → Mark → Control
+any_rows_at c m = cond (eqb m.kind 10) (goes c 0) (row_expected c m 14)
 
 -- ---- by the place
 
@@ -133,7 +133,7 @@ step_from place c m =
     (cond (eqb place 6) (colon_at c m)
     (cond (eqb place 7) (relation_at c m)
     (cond (eqb place 8) (atom_end_at c m)
-    (cond (eqb place 9) (rows_at c m)
+    (cond (eqb place 9) (any_rows_at c m)
     (cond (eqb place 10) (row_expected c m 15)
     (row_end_at c m 17)))))))))))
 

@@ -2,7 +2,7 @@
 #![tactic(auto)]
 
 ghost use Rattle.std.specs.Prelude.{◌≡◌, ◌-◌};
-ghost use Rattle.text_meaning.specs.Places.{goes, fails, headed, atomed, rowed, bared, termed, after_list, next_block, headed_at, start_at, comment_at, open_at, term_expected, is_counted, columns_in, more_at, closed_by, close_at, first_at, row_end_at, next_at, colon_at, relation_at, atom_end_at, row_expected, rows_at, step};
+ghost use Rattle.text_meaning.specs.Places.{goes, fails, headed, atomed, rowed, bared, termed, after_list, next_block, headed_at, start_at, comment_at, open_at, term_expected, is_counted, columns_in, more_at, closed_by, close_at, first_at, row_end_at, next_at, colon_at, relation_at, atom_end_at, row_expected, any_rows_at, step};
 
 use sheet_format::{ATOM_KIND, QUESTION_KIND, ROW_KIND, SAVED_KIND, VIEW_KIND};
 use text_begins::letter;
@@ -368,7 +368,7 @@ fn row(c: Control, m: Mark, what: usize) -> Control
 
 // Behind "=": a row, or none.
 fn rows(c: Control, m: Mark) -> Control
-    ensures { result ≡ rows_at c m }
+    ensures { result ≡ any_rows_at c m }
 {
     if m.kind == b'\n' {
         return go(c, START);
