@@ -11,8 +11,8 @@ use borrow.Author.Tests.{lt-ltb, le-ltb}
 use lib.Dec.{ltb}
 use lib.ListN.{length, get_or, take, drop, length-append, length-drop, get_or-append, get_or-eq_default}
 use lib.Seq.{ext_get_or, get_or-take, get_or-drop, get_or-append-add, length-take-le}
-use Rattle.tableau_layout.specs.Layout.{plan-numbers, table_at, view-block}
-use Rattle.sheet_format.specs.Limits.{most-atoms, most-relations}
+use Rattle.tableau_layout.specs.Layout.{plan_numbers, table_at, view_block}
+use Rattle.sheet_format.specs.Limits.{most_atoms, most_relations}
 use Rattle.list_laws.specs.Kept.{Filled}
 use Rattle.query_join.specs.Joins.{AtomMet, Given}
 use Rattle.tableau_plan.specs.Plan.{parent_in, row_count, block_numbers, block_size}
@@ -131,7 +131,7 @@ given-part blk k ns n ms m w l l' q g = record { val = g.val; met = λ j lt. mov
 pub no-stray-without : (p ns : List ℕ) (n i : ℕ) → length ns ≡ n * 5 → i < n → NoStray p ns → NoStray p (without ns i)
 no-stray-without p ns n i l lt s v h u g =
     s v h u
-    (given-part (block_numbers p (view-block v)) (min (block_size p (view-block v)) most-atoms) ns n (without ns i) (n - 1) u l (length_without ns n i l lt) (part_without ns n i l lt) g)
+    (given-part (block_numbers p (view_block v)) (min (block_size p (view_block v)) most_atoms) ns n (without ns i) (n - 1) u l (length_without ns n i l lt) (part_without ns n i l lt) g)
 
 -- ---- rows that are owed
 
@@ -162,12 +162,12 @@ owed-by p true ns i rest lt s f = λ _ _. f
 owed-by p false ns i rest lt s f = (lt, s, f)
 
 -- a relation that is no parent of those that a table can have is owed nothing
-pub no-parent : (p : List ℕ) (k relation : ℕ) → length p ≡ plan-numbers → most-relations ≤ k → ((j : ℕ) → j < k → parent_in p (j + 1) ≡ relation → ⊥) → (n : ℕ) → parent_in p n ≡ relation → relation ≡ 0
+pub no-parent : (p : List ℕ) (k relation : ℕ) → length p ≡ plan_numbers → most_relations ≤ k → ((j : ℕ) → j < k → parent_in p (j + 1) ≡ relation → ⊥) → (n : ℕ) → parent_in p n ≡ relation → relation ≡ 0
 unfolding relation
 no-parent p k r long all none zero e = sym e
-no-parent p k r long all none (suc n) e = go (dec_lt n most-relations)
+no-parent p k r long all none (suc n) e = go (dec_lt n most_relations)
   where
-    go : Dec (n < most-relations) → r ≡ 0
+    go : Dec (n < most_relations) → r ≡ 0
     go (yes b) = absurd (none n (omega arith) (ap (parent_in p) (add-one n) ∙ e))
     go (no b) = sym e ∙ get_or-eq_default (drop table_at p) 0 (let d = length-drop table_at p in omega arith)
 

@@ -2,8 +2,8 @@
 #![tactic(auto)]
 
 ghost use Rattle.std.specs.Prelude.{◌≡◌, true, false, ℕ, ◌+◌, ◌-◌, ◌*◌, ◌<◌, ◌≤◌, length, take};
-ghost use Rattle.tableau_layout.specs.Layout.{plan-numbers, tableau_atoms};
-ghost use Rattle.sheet_format.specs.Limits.{most-rows};
+ghost use Rattle.tableau_layout.specs.Layout.{plan_numbers, tableau_atoms};
+ghost use Rattle.sheet_format.specs.Limits.{most_rows};
 ghost use Rattle.tableau_plan.specs.Plan.{parent_in, row_count};
 ghost use Rattle.tableau_parts.specs.Walks as walks;
 ghost use Rattle.tableau_parts.specs.Views.{NoStray, Missing};
@@ -20,7 +20,7 @@ const MOST_PLACES: usize = MOST_ROWS * MOST_ATOMS;
 
 // The places kept for listed row r.
 fn kept(by: &[usize; MOST_PLACES], r: usize) -> [usize; MOST_ATOMS]
-    requires { r < most-rows }
+    requires { r < most_rows }
 {
     let at = r * MOST_ATOMS;
     [
@@ -35,7 +35,7 @@ fn kept(by: &[usize; MOST_PLACES], r: usize) -> [usize; MOST_ATOMS]
 
 // Keeps places for listed row r.
 fn keep(by: &mut [usize; MOST_PLACES], r: usize, at: [usize; MOST_ATOMS])
-    requires { r < most-rows }
+    requires { r < most_rows }
 {
     let mut j = 0;
     while j < MOST_ATOMS {
@@ -229,7 +229,7 @@ fn finds(
 
 // Whether a relation is the parent of another.
 fn is_parent(p: &[usize; PLAN_NUMBERS], relation: usize) -> bool
-    ensures { length p.now ≡ plan-numbers → result ≡ false → (n : ℕ) → parent_in p.now n ≡ relation → relation ≡ 0 }
+    ensures { length p.now ≡ plan_numbers → result ≡ false → (n : ℕ) → parent_in p.now n ≡ relation → relation ≡ 0 }
 {
     let mut k = 0;
     while k < MOST_RELATIONS {
@@ -244,7 +244,7 @@ fn is_parent(p: &[usize; PLAN_NUMBERS], relation: usize) -> bool
 // Whether one of the rest owes fact i, and none of them is that fact.
 fn is_owed(p: &[usize; PLAN_NUMBERS], facts: &[usize], i: usize, rest: &[usize]) -> bool
     requires { i * 5 + 5 ≤ length facts.now }
-    ensures { length p.now ≡ plan-numbers → OwedBy p.now result facts.now i rest.now }
+    ensures { length p.now ≡ plan_numbers → OwedBy p.now result facts.now i rest.now }
 {
     let relation = facts[i * FACT_NUMBERS];
     if relation == 0 {

@@ -8,8 +8,8 @@ use native.Mathlib.Omega.{arith}
 use native.Mathlib.Decide.{dec_lt}
 use lib.ListN.{length, get_or, set, length-set}
 use lib.Seq.{get_or-set_same, get_or-set_other}
-use Rattle.sheet_format.specs.Limits.{most-atoms}
-use Rattle.tableau_layout.specs.Layout.{question-block}
+use Rattle.sheet_format.specs.Limits.{most_atoms}
+use Rattle.tableau_layout.specs.Layout.{question_block}
 use Rattle.list_laws.specs.Order.{◌⊏◌, SameBefore}
 use Rattle.list_laws.proofs.Order.{FirstDifference, differ, order, agree-sym, agree_trans, agree_less, not-below}
 use Rattle.query_answers.proofs.Rows.{given-length}
@@ -28,14 +28,14 @@ pub onward-end : (p facts row far : List ℕ) (k end : ℕ) → k < 4 → length
     → GivenBelow p facts row → Onward p facts row far
 onward-end p facts row far k end in-k long long' a last upto lt below = record { passed = λ w g. ⊎_elim (λ e. inl (same w g e)) (λ x. side w g (differ row w x)) }
   where
-    same : (w : List ℕ) → GivenAt p question-block facts w → w ≡ row → GivenToList p facts w
-    same w g e = subst (λ x. GivenAt p question-block facts x → GivenToList p facts x) (sym e) (λ h. upto.each below row h (record { same = λ q _. refl }) (omega arith) lt) g
+    same : (w : List ℕ) → GivenAt p question_block facts w → w ≡ row → GivenToList p facts w
+    same w g e = subst (λ x. GivenAt p question_block facts x → GivenToList p facts x) (sym e) (λ h. upto.each below row h (record { same = λ q _. refl }) (omega arith) lt) g
 
-    side : (w : List ℕ) → GivenAt p question-block facts w → FirstDifference row w → GivenToList p facts w ⊎ (far ⊏ w)
+    side : (w : List ℕ) → GivenAt p question_block facts w → FirstDifference row w → GivenToList p facts w ⊎ (far ⊏ w)
     side w g d = at (dec_lt d.at k)
       where
         size : length w ≡ 4
-        size = given-length (block_numbers p question-block) (min (block_size p question-block) most-atoms) facts w g
+        size = given-length (block_numbers p question_block) (min (block_size p question_block) most_atoms) facts w g
 
         begins : k ≤ d.at → SameBefore k row w
         begins le = agree_less k le d.agree

@@ -2,8 +2,8 @@
 #![tactic(auto)]
 
 ghost use Rattle.std.specs.Prelude.{◌≡◌, true, false, ◌≤◌, ◌<◌, min};
-ghost use Rattle.tableau_layout.specs.Layout.{list-block};
-ghost use Rattle.sheet_format.specs.Limits.{most-atoms, most-lists};
+ghost use Rattle.tableau_layout.specs.Layout.{list_block};
+ghost use Rattle.sheet_format.specs.Limits.{most_atoms, most_lists};
 ghost use Rattle.query_join.specs.Joins.{SafeBlock, NextBy};
 ghost use Rattle.list_laws.specs.Order.{SameBefore};
 ghost use Rattle.tableau_plan.specs.Plan.{list_count};
@@ -47,7 +47,7 @@ fn follow(
     facts: &[usize],
     after: query_rows::Row,
 ) -> query_rows::Row
-    ensures next_by { SafeBlock blk.now (min n most-atoms) → NextBy result.some blk.now (min n most-atoms) facts.now after.some after.values result.values }
+    ensures next_by { SafeBlock blk.now (min n most_atoms) → NextBy result.some blk.now (min n most_atoms) facts.now after.some after.values result.values }
     ensures values_bound { after.some ≡ true → room result.some result.values < room after.some after.values }
 {
     let r = query_rows::next(blk, n, facts, after);
@@ -63,7 +63,7 @@ fn follow(
 
 // A column before which a row's values say that list i is given what the question is given; 4 if none is found.
 fn covered_from(p: &[usize; PLAN_NUMBERS], i: usize, facts: &[usize], row: [usize; 4]) -> usize
-    requires { i < most-lists }
+    requires { i < most_lists }
     ensures upper_bound { result ≤ 4 }
     ensures covered_at { FormedPlan p.now → result < 4 → CoveredAt p.now i facts.now row result }
 {
@@ -89,8 +89,8 @@ fn last_from(row: [usize; 4], k: usize) -> [usize; 4]
 
 // The last row that begins as a row does where list i is given all that do; the row itself if none is known.
 fn covered_to(p: &[usize; PLAN_NUMBERS], i: usize, facts: &[usize], row: [usize; 4]) -> [usize; 4]
-    requires { i < most-lists }
-    ensures { FormedPlan p.now → i < list_count p.now → GivenAt p.now (list-block i) facts.now row → Onward p.now facts.now row result }
+    requires { i < most_lists }
+    ensures { FormedPlan p.now → i < list_count p.now → GivenAt p.now (list_block i) facts.now row → Onward p.now facts.now row result }
 {
     let k = covered_from(p, i, facts, row);
     let far = last_from(row, k);
@@ -184,8 +184,8 @@ fn onward_dominated(
 // Where a walk goes on from a row that list i is given: from that row; or, after some rows that were passed one by one, from the last that begins
 // as it does where list i is given them all, or where values of the column that changed are dominated.
 fn onward(p: &[usize; PLAN_NUMBERS], i: usize, facts: &[usize], row: [usize; 4], pace: Pace) -> Pace
-    requires { i < most-lists }
-    ensures onward { FormedPlan p.now → i < list_count p.now → GivenAt p.now (list-block i) facts.now row → GivenBelow p.now facts.now row → Onward p.now facts.now row result.values }
+    requires { i < most_lists }
+    ensures onward { FormedPlan p.now → i < list_count p.now → GivenAt p.now (list_block i) facts.now row → GivenBelow p.now facts.now row → Onward p.now facts.now row result.values }
     ensures values_bound { room true result.values ≤ room true row }
 {
     let passed = pace.passed;

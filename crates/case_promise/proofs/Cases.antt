@@ -7,8 +7,8 @@ use Prim.Native.Nat.{ℕ, ◌+◌, ◌<◌, min}
 use native.Mathlib.Omega.{arith}
 use lib.IntN.{pos}
 use lib.ListN.{length}
-use Rattle.tableau_layout.specs.Layout.{question-block, list-block, view-block}
-use Rattle.sheet_format.specs.Limits.{most-atoms}
+use Rattle.tableau_layout.specs.Layout.{question_block, list_block, view_block}
+use Rattle.sheet_format.specs.Limits.{most_atoms}
 use Rattle.list_laws.specs.Order.{◌⊏◌}
 use Rattle.sheet_format.specs.Table.{columns_of}
 use Rattle.query_meaning.specs.Meaning.{Fact, Log, Block, In, Answer}
@@ -42,7 +42,7 @@ KeyedLog table log = (f g : Fact) → In f log → In g log → SameKey table f 
 -- ---- a block's answers and the rows that it is given
 
 module _ (p : List ℕ) (b : ℕ) {table : Table} {blk : Block} (bn : BlockNumbers (block_numbers p b) (block_size p b) blk) (sb : Shaped table blk) {ns : List ℕ} {log : Log} (fn : FactNumbers ns log) where
-  six : min (block_size p b) most-atoms ≡ block_size p b
+  six : min (block_size p b) most_atoms ≡ block_size p b
   six = let f = bn.few in omega arith
 
   given-at : (t : List ℕ) → Answer log blk t → GivenAt p b ns (padded t)
@@ -69,14 +69,14 @@ module _ (p : List ℕ) (x : Sheet) (r : ReadyPlan p x) {ns : List ℕ} {log : L
       all-given i lt =
           let o = r.plan.rows i lt in
           let v = row_at p i 0 in
-          subst (GivenAt p (view-block v) ns) (sym o.values)
-          (given-at p (view-block v) (r.plan.view v o.view) (r.views v o.view) fn o.row
-          ((a.agrees (nth x.views v) (view_in v o.view)).none-missing o.row o.listed))
+          subst (GivenAt p (view_block v) ns) (sym o.values)
+          (given-at p (view_block v) (r.plan.view v o.view) (r.views v o.view) fn o.row
+          ((a.agrees (nth x.views v) (view_in v o.view)).none_missing o.row o.listed))
 
       no_stray : NoStray p ns
       no_stray v lt u g =
-          let (t, e, b) = answer_at p (view-block v) (r.plan.view v lt) (r.views v lt) fn sh u g in
-          let (i, li, f, q) = r.plan.every-row v lt t ((a.agrees (nth x.views v) (view_in v lt)).none_more t b) in
+          let (t, e, b) = answer_at p (view_block v) (r.plan.view v lt) (r.views v lt) fn sh u g in
+          let (i, li, f, q) = r.plan.every_row v lt t ((a.agrees (nth x.views v) (view_in v lt)).none_more t b) in
           (i, li, f, q ∙ sym e)
 
   lawful : KnownLog x.table log → KeyedLog x.table log → Parented p ns → Lawful x.table log
@@ -90,7 +90,7 @@ module _ (p : List ℕ) (x : Sheet) (r : ReadyPlan p x) {ns : List ℕ} {log : L
   agreeing : KnownLog x.table log → KeyedLog x.table log → Parented p ns → Agree p ns → Agreeing x log
   agreeing known keyed owed (all, none) = record {
     lawful = lawful known keyed owed;
-    agrees = λ w m. record { none_more = none-stray p x x r.plan (ready_task p x r Counterexample) log ns fn none w m; none-missing = given w m };
+    agrees = λ w m. record { none_more = none-stray p x x r.plan (ready_task p x r Counterexample) log ns fn none w m; none_missing = given w m };
   }
     where
       given : (w : View) → In w x.views → (t : List ℕ) → In t w.rows → Answer log w.block t
@@ -98,10 +98,10 @@ module _ (p : List ℕ) (x : Sheet) (r : ReadyPlan p x) {ns : List ℕ} {log : L
           let (v, lt, e) = in-nth x.views w m in
           let c = r.plan.views in
           let k : v < view_count p = omega arith in
-          let (j, lj, f, q) = r.plan.every-row v k t (subst (λ (u : View). In t u.rows) e i) in
-          let g = subst (λ n. GivenAt p (view-block n) ns (row_values p j)) f (all j lj) in
+          let (j, lj, f, q) = r.plan.every_row v k t (subst (λ (u : View). In t u.rows) e i) in
+          let g = subst (λ n. GivenAt p (view_block n) ns (row_values p j)) f (all j lj) in
           subst (λ (u : View). Answer log u.block t) (sym e)
-          (answer_of p (view-block v) (r.plan.view v k) (r.views v k) fn sh t (r.accepted.lengths w m t i ∙ ap (λ (u : View). length u.block.head) e) (subst (GivenAt p (view-block v) ns) q g))
+          (answer_of p (view_block v) (r.plan.view v k) (r.views v k) fn sh t (r.accepted.lengths w m t i ∙ ap (λ (u : View). length u.block.head) e) (subst (GivenAt p (view_block v) ns) q g))
 
   -- ---- missing
 
@@ -110,11 +110,11 @@ module _ (p : List ℕ) (x : Sheet) (r : ReadyPlan p x) {ns : List ℕ} {log : L
 
   missing : (a : List ℕ) → Case x log a → Missing p ns (padded a)
   missing a c = record {
-    asked = given-at p question-block r.plan.question r.question fn a c.asked;
+    asked = given-at p question_block r.plan.question r.question fn a c.asked;
     lacked = λ o.
         let (i, lt, g) = o in
         let m = list_in p x r i lt in
-        c.missing (saved_list_at x i) m (answer_of p (list-block i) (r.plan.list i lt) (list-shaped p x r i lt) fn sh a (case-length a c ∙ sym (r.lists (saved_list_at x i) m).1) g);
+        c.missing (saved_list_at x i) m (answer_of p (list_block i) (r.plan.list i lt) (list-shaped p x r i lt) fn sh a (case-length a c ∙ sym (r.lists (saved_list_at x i) m).1) g);
   }
 
   -- the numbers of a case
@@ -132,7 +132,7 @@ module _ (p : List ℕ) (x : Sheet) (r : ReadyPlan p x) {ns : List ℕ} {log : L
             asked = b;
             missing = λ l i c.
                 let (j, lt, f) = list_index p x r l i in
-                m.lacked (j, lt, subst (GivenAt p (list-block j) ns) (sym e) (given-at p (list-block j) (r.plan.list j lt) (list-shaped p x r j lt) fn a (subst (λ k. Answer log k a) (sym f) c)));
+                m.lacked (j, lt, subst (GivenAt p (list_block j) ns) (sym e) (given-at p (list_block j) (r.plan.list j lt) (list-shaped p x r j lt) fn a (subst (λ k. Answer log k a) (sym f) c)));
           },
         )
 

@@ -8,15 +8,15 @@ use native.Mathlib.Omega.{arith}
 use lib.IntN.{pos}
 use lib.ListN.{length, get_or, take, drop, length-drop, get_or-eq_default}
 use lib.Seq.{get_or-take, length-take-le}
-use Rattle.tableau_layout.specs.Layout.{plan-numbers, table_at, tableau_atoms}
+use Rattle.tableau_layout.specs.Layout.{plan_numbers, table_at, tableau_atoms}
 use Rattle.list_laws.specs.Order.{◌⊏◌}
 use Rattle.list_laws.proofs.Order.{less?}
-use Rattle.sheet_format.specs.Limits.{most-relations}
+use Rattle.sheet_format.specs.Limits.{most_relations}
 use Rattle.sheet_format.specs.Table.{Table, relation, columns_of}
 use Rattle.sheet_terms.proofs.Laws.{columns-most}
 use Rattle.sheet_format.proofs.TableLaws.{Narrow}
 use Rattle.query_meaning.specs.Meaning.{Fact, Log, In, fact}
-use Rattle.query_meaning.specs.Facts.{facts_refusal, log_of, value-end, most-facts}
+use Rattle.query_meaning.specs.Facts.{facts_refusal, log_of, value_end, most_facts}
 use Rattle.query_encoding.specs.Encoding as numbers
 use Rattle.query_encoding.specs.Encoding.{FactNumbers, ShapedLog, padded}
 use Rattle.query_encoding.proofs.Lists.{at_in, in-at}
@@ -39,7 +39,7 @@ use Rattle.case_promise.proofs.Cases.{KnownLog, KeyedLog, case-numbers, least-ca
 
 -- a case and its missing answer, in plain numbers: k facts and a row
 pub record HandedNumbers (x : Sheet) (ks : List ℕ) (k : ℕ) (u : List ℕ) : Type 0 where
-  pub handed : Handed top value-end x
+  pub handed : Handed top value_end x
   pub log_is : handed.log ≡ log_of x.table (map pos ks)
   pub accepted : (facts_refusal x.table (map pos ks)).number ≡ 0
   pub count : length ks ≡ k * 5
@@ -112,14 +112,14 @@ picked-part {ns} {n} {ms} {m} {ks} {k} q t size = record {
 -- ---- numbers that fit words
 
 -- a relation that a plan's table has has one of the numbers that a table can have
-known_small : (p : List ℕ) → length p ≡ plan-numbers → (n : ℕ) → 0 < columns_of (plan_table p) (pos n) → n ≤ most-relations
+known_small : (p : List ℕ) → length p ≡ plan_numbers → (n : ℕ) → 0 < columns_of (plan_table p) (pos n) → n ≤ most_relations
 unfolding columns_of relation
 known_small p long zero h = omega arith
 known_small p long (suc n) h = ⊎_elim (λ l. omega arith)
     (λ l. let d = length-drop table_at p in let z : get_or (drop table_at p) (n * 3) 0 ≡ 0 = get_or-eq_default (drop table_at p) 0 (omega arith) in absurd (omega arith))
-    (less? n most-relations)
+    (less? n most_relations)
 
-fine-small : (table : Table) → ((n : ℕ) → 0 < columns_of table (pos n) → n ≤ most-relations) → (ks : List ℕ) (k : ℕ) → length ks ≡ k * 5 → ((i : ℕ) → i < k → FineFact table ks i) → (j : ℕ) → j < length ks → get_or ks j 0 < 2147483648
+fine-small : (table : Table) → ((n : ℕ) → 0 < columns_of table (pos n) → n ≤ most_relations) → (ks : List ℕ) (k : ℕ) → length ks ≡ k * 5 → ((i : ℕ) → i < k → FineFact table ks i) → (j : ℕ) → j < length ks → get_or ks j 0 < 2147483648
 fine-small table short ks k size fine j h = go (j / 5) (j % 5) (omega arith) (omega arith) (omega arith)
   where
     go : (i c : ℕ) → j ≡ i * 5 + c → c < 5 → i < k → get_or ks j 0 < 2147483648
@@ -133,7 +133,7 @@ module _ (table : Table) (narrow : Narrow table) {ns : List ℕ} {log : Log} (fn
   picked-fine : (i : ℕ) → i < k → FineFact table ks i
   picked-fine i h = let (j, lt, e) = q.only i h in fine-same table ns ks j i e (fine j lt)
 
-  most : k ≤ most-facts
+  most : k ≤ most_facts
   most = let f = q.few in omega arith
 
   picked-accepted : (facts_refusal table (map pos ks)).number ≡ 0
@@ -200,7 +200,7 @@ spare_free_places x l d none f m rest z t c =
 -- ---- in order, and shrunk
 
 module _ (p : List ℕ) (x : Sheet) (r : ReadyPlan p x) {ns : List ℕ} {log : Log} (fn : FactNumbers ns log) (sh : ShapedLog x.table log) (known : KnownLog x.table log) (keyed : KeyedLog x.table log)
-    (few : length log ≤ tableau_atoms) (made : MadeUp top value-end x log) {ms : List ℕ} {m : ℕ} (o : Ordered ns (length log) ms m) (room : m * 5 ≤ length ms) where
+    (few : length log ≤ tableau_atoms) (made : MadeUp top value_end x log) {ms : List ℕ} {m : ℕ} (o : Ordered ns (length log) ms m) (room : m * 5 ≤ length ms) where
   narrow : Narrow x.table
   narrow = subst Narrow (sym r.plan.table) (columns-most (drop table_at p))
 

@@ -21,12 +21,12 @@ use Rattle.sheet_format.specs.Line.{all, is_zero, natural, null}
 use Rattle.sheet_format.specs.Table.{Table, columns_of}
 use Rattle.sheet_format.specs.declared.Refusal.{Refusal}
 use Rattle.query_meaning.specs.Meaning.{Fact, Log, In, fact}
-use Rattle.query_meaning.specs.Facts.{fact_by_fact, facts_in, facts_refusal, is_value, log_of, value-end, wrong_fact, most-facts}
+use Rattle.query_meaning.specs.Facts.{fact_by_fact, facts_in, facts_refusal, is_value, log_of, value_end, wrong_fact, most_facts}
 use Rattle.query_encoding.specs.Encoding as numbers
 use Rattle.query_encoding.specs.Encoding.{FactNumbers, ShapedLog}
 use Rattle.query_encoding.proofs.Lists.{at_in, in-at}
 use Rattle.query_facts.proofs.Words.{not-either}
-use Rattle.query_facts.proofs.Laws.{count-right, fact-words, facts-length, log_of-length, numbers-read}
+use Rattle.query_facts.proofs.Laws.{count-right, fact_words, facts-length, log_of-length, numbers-read}
 use Rattle.case_verdicts.specs.Handed.{Distinct}
 use Rattle.case_order.specs.Order.{five_at}
 use Rattle.case_minimization.specs.Minimization.{without}
@@ -34,7 +34,7 @@ use Rattle.case_minimization.specs.Minimization.{without}
 -- a fact that words can hold
 pub record FineFact (table : Table) (ns : List ℕ) (i : ℕ) : Type 0 where
   pub known : 0 < columns_of table (pos (get_or ns (i * 5) 0))
-  pub small : (c : ℕ) → c < 4 → get_or ns (i * 5 + 1 + c) 0 < value-end
+  pub small : (c : ℕ) → c < 4 → get_or ns (i * 5 + 1 + c) 0 < value_end
   pub rest : (c : ℕ) → columns_of table (pos (get_or ns (i * 5) 0)) ≤ c → c < 4 → get_or ns (i * 5 + 1 + c) 0 ≡ 0
 
 -- ---- the five numbers by their places
@@ -92,7 +92,7 @@ module _ (table : Table) {ns ms : List ℕ} {l k : Log} (a : FactNumbers ns l) (
 
 -- shaped facts of known relations and small values have fine numbers
 pub fine-fact : (table : Table) {ns : List ℕ} {l : Log} → FactNumbers ns l → ShapedLog table l → ((f : Fact) → In f l → 0 < columns_of table (pos f.rel))
-    → ((f : Fact) → In f l → (n : ℕ) → In n f.row → n < value-end) → (i : ℕ) → i < length l → FineFact table ns i
+    → ((f : Fact) → In f l → (n : ℕ) → In n f.row → n < value_end) → (i : ℕ) → i < length l → FineFact table ns i
 fine-fact table {ns} {l} a s known small i h = record {
   known = rw (a.relation i h) (known f m);
   small = λ c o. rw (a.values i h c o) (go c (ltb c (length f.row)) refl);
@@ -105,7 +105,7 @@ fine-fact table {ns} {l} a s known small i h = record {
     m : In f l
     m = at_in (fact 0 []) l i h
 
-    go : (c : ℕ) (t : Bool) → ltb c (length f.row) ≡ t → get_or f.row c 0 < value-end
+    go : (c : ℕ) (t : Bool) → ltb c (length f.row) ≡ t → get_or f.row c 0 < value_end
     go c true q = small f m (get_or f.row c 0) (at_in 0 f.row c (ltb-true c (length f.row) q))
     go c false q = rw (get_or-eq_default f.row 0 (ltb-false c (length f.row) q)) (omega arith)
 
@@ -113,7 +113,7 @@ fine-fact table {ns} {l} a s known small i h = record {
 pub fine-same : (table : Table) (ns ms : List ℕ) (i j : ℕ) → five_at ns i ≡ five_at ms j → FineFact table ns i → FineFact table ms j
 fine-same table ns ms i j e f = record {
   known = subst (λ n. 0 < columns_of table (pos n)) rel f.known;
-  small = λ c o. subst (λ n. n < value-end) (value c o) (f.small c o);
+  small = λ c o. subst (λ n. n < value_end) (value c o) (f.small c o);
   rest = λ c h o. sym (value c o) ∙ f.rest c (subst (λ n. columns_of table (pos n) ≤ c) (sym rel) h) o;
 }
   where
@@ -218,7 +218,7 @@ numbers-back (n ∷ ms) = ap (λ l. n ∷ l) (numbers-back ms)
 
 -- the words of fact i are its numbers
 words-at : (ms : List ℕ) (i : ℕ) → i < length (map pos ms) / 5 → get_or (facts_in (map pos ms)) i [] ≡ map pos (five_at ms i)
-words-at ms i h = fact-words (map pos ms) i h ∙ ext_get_or (pos 0) (slice (5 * i) (5 * i + 5) (map pos ms)) (map pos (five_at ms i)) size at
+words-at ms i h = fact_words (map pos ms) i h ∙ ext_get_or (pos 0) (slice (5 * i) (5 * i + 5) (map pos ms)) (map pos (five_at ms i)) size at
   where
     size : length (slice (5 * i) (5 * i + 5) (map pos ms)) ≡ 5
     size = length-slice (5 * i) (5 * i + 5) (map pos ms) (omega arith) ∙ (omega arith)
@@ -252,7 +252,7 @@ fine-right table ms i f = rw (ne_eqb n 0 (λ e. let k = f.known in omega arith),
     values = all_index is_value (pos 0) (take n (drop 1 ws)) (λ c lt.
         let e = length-take n (drop 1 ws) in
         let o : c < 4 = omega arith in
-        ap is_value (get_or-take n (drop 1 ws) c (pos 0) (omega arith) ∙ column c o) ∙ lt-ltb (get_or ms (i * 5 + 1 + c) 0) value-end (f.small c o))
+        ap is_value (get_or-take n (drop 1 ws) c (pos 0) (omega arith) ∙ column c o) ∙ lt-ltb (get_or ms (i * 5 + 1 + c) 0) value_end (f.small c o))
 
     zeros : all is_zero (drop n (drop 1 ws)) ≡ true
     zeros = all_index is_zero (pos 0) (drop n (drop 1 ws)) (λ c lt.
@@ -305,7 +305,7 @@ module _ (ms : List ℕ) (m : ℕ) (rising : (i : ℕ) → suc i < m → five_at
           let e : j ≡ i = omega arith in
           subst (λ n. five_at ms n ⊏ five_at ms (suc j)) e (rising j k)
 
-module _ (table : Table) (ms : List ℕ) (m : ℕ) (count : length ms ≡ m * 5) (few : m ≤ most-facts) (fine : (i : ℕ) → i < m → FineFact table ms i)
+module _ (table : Table) (ms : List ℕ) (m : ℕ) (count : length ms ≡ m * 5) (few : m ≤ most_facts) (fine : (i : ℕ) → i < m → FineFact table ms i)
     (rising : (i : ℕ) → suc i < m → five_at ms i ⊏ five_at ms (suc i)) where
   words-length : length (map pos ms) ≡ m * 5
   words-length = length-map ms pos ∙ count

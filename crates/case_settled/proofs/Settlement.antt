@@ -19,7 +19,7 @@ use Rattle.case_settled.proofs.Searches.{beyond-case, beyond-agrees, beyond-out,
 -- ---- at most one verdict
 
 never_both : {x : Sheet} {rs : List (List ℕ)} {first second : Log} {r : List ℕ} → Settled x rs → ToldApart x first second r → ⊥
-never_both {r = r} s p = p.lacked ((s.same _ p.second-agrees).only r ((s.same _ p.first-agrees).every r p.given))
+never_both {r = r} s p = p.lacked ((s.same _ p.second_agrees).only r ((s.same _ p.first_agrees).every r p.given))
 
 pub exclusive : (x : Sheet) (m n : ℕ) → HasSettlement x m → HasSettlement x n → m ≡ n
 exclusive x zero n p q = absurd p
@@ -28,7 +28,7 @@ exclusive x (suc (suc zero)) zero p q = absurd q
 exclusive x (suc (suc zero)) (suc zero) p q = absurd q
 exclusive x (suc (suc zero)) (suc (suc zero)) p q = refl
 exclusive x (suc (suc zero)) (suc (suc (suc zero))) p (rs, s) = absurd (p s.some.0 s.some.1)
-exclusive x (suc (suc zero)) (suc (suc (suc (suc zero)))) p (a, b, r, q) = absurd (p a q.first-agrees)
+exclusive x (suc (suc zero)) (suc (suc (suc (suc zero)))) p (a, b, r, q) = absurd (p a q.first_agrees)
 exclusive x (suc (suc zero)) (suc (suc (suc (suc (suc n))))) p q = absurd q
 exclusive x (suc (suc (suc zero))) zero p q = absurd q
 exclusive x (suc (suc (suc zero))) (suc zero) p q = absurd q
@@ -38,7 +38,7 @@ exclusive x (suc (suc (suc zero))) (suc (suc (suc (suc zero)))) (rs, s) (a, b, r
 exclusive x (suc (suc (suc zero))) (suc (suc (suc (suc (suc n))))) p q = absurd q
 exclusive x (suc (suc (suc (suc zero)))) zero p q = absurd q
 exclusive x (suc (suc (suc (suc zero)))) (suc zero) p q = absurd q
-exclusive x (suc (suc (suc (suc zero)))) (suc (suc zero)) (a, b, r, p) q = absurd (q a p.first-agrees)
+exclusive x (suc (suc (suc (suc zero)))) (suc (suc zero)) (a, b, r, p) q = absurd (q a p.first_agrees)
 exclusive x (suc (suc (suc (suc zero)))) (suc (suc (suc zero))) (a, b, r, p) (rs, s) = absurd (never_both s p)
 exclusive x (suc (suc (suc (suc zero)))) (suc (suc (suc (suc zero)))) p q = refl
 exclusive x (suc (suc (suc (suc zero)))) (suc (suc (suc (suc (suc n))))) p q = absurd q
@@ -68,11 +68,11 @@ settled-by x ok safe some a rs up small none each =
 
 -- a log with an answer beyond the rows, where the fixed log's answers are among them if they are that one
 pub apart-beyond : (x : Sheet) (rs : List (List ℕ)) {first second : Log} {r : List ℕ} → Agreeing x second → Case (beyond_rows x rs) first r → (Answer second x.question r → In r rs) → ToldApart x first second r
-apart-beyond x rs b c known = record { first-agrees = beyond-agrees x rs c; second-agrees = b; given = c.asked; lacked = λ q. beyond-out x rs c (known q) }
+apart-beyond x rs b c known = record { first_agrees = beyond-agrees x rs c; second_agrees = b; given = c.asked; lacked = λ q. beyond-out x rs c (known q) }
 
 -- a log that lacks an answer of the fixed one
 pub apart_lacking : (x : Sheet) {first second : Log} {r t : List ℕ} → Agreeing x first → Answer first x.question r → Case (lacking_row x r) second t → ToldApart x first second r
-apart_lacking x {r = r} a q c = record { first-agrees = a; second-agrees = lacking_agrees x r c; given = q; lacked = lacking_out x r c }
+apart_lacking x {r = r} a q c = record { first_agrees = a; second_agrees = lacking_agrees x r c; given = q; lacked = lacking_out x r c }
 
 -- ---- a question that one of the views asks too
 
@@ -81,7 +81,7 @@ pub settled-by-view : (x : Sheet) (w : View) → In w x.views → x.question ≡
 settled-by-view x w m e up some a = record {
   some = (some, a);
   same = λ log b. record {
-    only = λ r i. subst (λ (z : Block). Answer log z r) (sym e) ((b.agrees w m).none-missing r i);
+    only = λ r i. subst (λ (z : Block). Answer log z r) (sym e) ((b.agrees w m).none_missing r i);
     every = λ r q. (b.agrees w m).none_more r (subst (λ (z : Block). Answer log z r) e q);
     ascending = up;
   };

@@ -20,20 +20,20 @@ module _ (x : Sheet) (first second : Log) where
   -- the first log, as one that has an answer beyond the second's
   pub spare_free_beyond : (rs : List (List ℕ)) → ((r : List ℕ) → In r rs → Answer second x.question r) → SpareFree (beyond_rows x rs) first → SpareFree (bare x) second → PairSpareFree x first second
   spare_free_beyond rs only one two = record {
-    first-needed = λ f m rest d r p. one f m rest d r (beyond-case x rs rest p.first-agrees r p.given (λ i. p.lacked (only r i)));
-    second-needed = λ f m rest d r p. two f m rest d [] (bare-case x p.second-agrees);
+    first_needed = λ f m rest d r p. one f m rest d r (beyond-case x rs rest p.first_agrees r p.given (λ i. p.lacked (only r i)));
+    second_needed = λ f m rest d r p. two f m rest d [] (bare-case x p.second_agrees);
   }
 
   -- both as logs that agree
   pub spare_free_lacking : SpareFree (bare x) first → SpareFree (bare x) second → PairSpareFree x first second
   spare_free_lacking one two = record {
-    first-needed = λ f m rest d r p. one f m rest d [] (bare-case x p.first-agrees);
-    second-needed = λ f m rest d r p. two f m rest d [] (bare-case x p.second-agrees);
+    first_needed = λ f m rest d r p. one f m rest d [] (bare-case x p.first_agrees);
+    second_needed = λ f m rest d r p. two f m rest d [] (bare-case x p.second_agrees);
   }
 
 -- the second log may lose facts as long as it agrees
 pub apart-still : {x : Sheet} {first second rest : Log} {r : List ℕ} → ToldApart x first second r → SubLog rest second → Agreeing x rest → ToldApart x first rest r
-apart-still p sub a = record { first-agrees = p.first-agrees; second-agrees = a; given = p.given; lacked = λ q. p.lacked (monotone sub q) }
+apart-still p sub a = record { first_agrees = p.first_agrees; second_agrees = a; given = p.given; lacked = λ q. p.lacked (monotone sub q) }
 
 -- ---- how many facts there can be
 

@@ -12,8 +12,8 @@ pub record Settled (x : Sheet) (rs : List (List ℕ)) : Type 0 where
 
 -- request 9, of the two logs: both agree, and the first gives the question an answer that the second does not
 pub record ToldApart (x : Sheet) (first second : Log) (r : List ℕ) : Type 0 where
-  pub first-agrees : Agreeing x first
-  pub second-agrees : Agreeing x second
+  pub first_agrees : Agreeing x first
+  pub second_agrees : Agreeing x second
   pub given : Answer first x.question r
   pub lacked : Answer second x.question r → ⊥
 
@@ -32,8 +32,8 @@ HasSettlement x (suc (suc (suc (suc (suc n))))) = ⊥
 
 -- request 9, of the two logs: drop any one fact of either, and what is left no longer agrees, or no answer is left by which the two are told apart
 pub record PairSpareFree (x : Sheet) (first second : Log) : Type 0 where
-  pub first-needed : (f : Fact) → In f first → (rest : Log) → Dropped f first rest → (r : List ℕ) → ToldApart x rest second r → ⊥
-  pub second-needed : (f : Fact) → In f second → (rest : Log) → Dropped f second rest → (r : List ℕ) → ToldApart x first rest r → ⊥
+  pub first_needed : (f : Fact) → In f first → (rest : Log) → Dropped f first rest → (r : List ℕ) → ToldApart x rest second r → ⊥
+  pub second_needed : (f : Fact) → In f second → (rest : Log) → Dropped f second rest → (r : List ℕ) → ToldApart x first rest r → ⊥
 
 -- request 9, of what is handed over with verdict 4: two logs without a fact to spare, and the least answer that the first gives and the second does
 -- not; each is as a case is, with each fact once, no more of them than a case can have, and values that stand in the sheet or are made up

@@ -9,7 +9,7 @@ use lib.Dec.{eqb, ltb}
 use lib.IntN.{ℤ, pos, negsuc}
 use lib.ListN.{length, length-map, drop}
 use borrow.Author.Tests.{eqb-true, eqb-false, ltb-true, not-true, not-false}
-use Rattle.sheet_format.specs.Limits.{constant-end, most-variables}
+use Rattle.sheet_format.specs.Limits.{constant_end, most_variables}
 use Rattle.sheet_format.specs.Table.{Table, columns_of}
 use Rattle.sheet_format.specs.Line.{Line, all, null, natural}
 use Rattle.sheet_format.specs.Cause.{Kind, question, saved, view, atom, row, other, kind, rest, second, terms, or_out, term_of, is_term, is_constant, term, constant, in_place, misplaced, wrong_columns, out_of_range, too_many_blocks, wrong_length, cause, start, next_by, next, refusal, scan, is_head, is_atom, atoms, same, occurs, bound, unsafe, heads, refusal_of}
@@ -36,8 +36,8 @@ in-range false u e = e
 
 fine-word : (z : ℤ) → term z ≡ true → FineTerm top (as_term z)
 unfolding term_of width
-fine-word (pos n) e = ltb-true n constant-end (in-range (ltb n constant-end) (Constant n) e)
-fine-word (negsuc n) e = let h = ltb-true n most-variables (in-range (ltb n most-variables) (Variable (suc n)) e) in omega arith
+fine-word (pos n) e = ltb-true n constant_end (in-range (ltb n constant_end) (Constant n) e)
+fine-word (negsuc n) e = let h = ltb-true n most_variables (in-range (ltb n most_variables) (Variable (suc n)) e) in omega arith
 
 fine-words : (zs : List ℤ) → all term zs ≡ true → Fine top (map as_term zs)
 fine-words zs h t m = let (z, i, e) = from-map as_term zs t m in subst (FineTerm top) (sym e) (fine-word z (all_in term zs z h i))

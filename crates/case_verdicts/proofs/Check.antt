@@ -47,8 +47,8 @@ lawful? table log = by_parts
 module _ (x : Sheet) (question : Safe x.question) (safe : Evaluable x) (log : Log) where
   abbrev agrees? : (w : View) → In w x.views → Agrees log w ⊎ (Agrees log w → ⊥)
   agrees? w m = by_parts
-      (λ p. record { none_more = p.0; none-missing = p.1 })
-      (λ a. (a.none_more, a.none-missing))
+      (λ p. record { none_more = p.0; none_missing = p.1 })
+      (λ a. (a.none_more, a.none_missing))
       (both_or more (each_or (λ r. Answer log w.block r) w.rows (λ r i. answer? log w.block (safe.views w m) r)))
     where
       more : ((r : List ℕ) → Answer log w.block r → In r w.rows) ⊎ (((r : List ℕ) → Answer log w.block r → In r w.rows) → ⊥)

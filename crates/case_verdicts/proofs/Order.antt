@@ -8,7 +8,7 @@ use native.Mathlib.Omega.{arith}
 use lib.ListN.{length, get_or, length-append, length-map}
 use lib.Dec.{leb}
 use borrow.Author.Tests.{eqb-true, leb-true, leb-false}
-use Rattle.sheet_format.specs.Limits.{most-lists}
+use Rattle.sheet_format.specs.Limits.{most_lists}
 use Rattle.sheet_format.specs.Table.{Table}
 use Rattle.sheet_format.specs.Line.{Line}
 use Rattle.sheet_format.specs.Cause.{Kind, question, saved, view, atom, row, other, kind, rest, in_place, too_many_blocks, start, next_by, next, scan, is_head, refusal_of}
@@ -97,10 +97,10 @@ ordered-from table (l ∷ ls) s =
     order-by (kind l) (length (rest l)) (view_of l ls) _ _ _ _ c.placed (λ i. lists-left table ls (next start l) l 2 i r)
 
 -- as many lists as have been read and are left
-few-by : (g : Seen) (k : Kind) (n m : ℕ) → g.lists ≤ most-lists → in_place g k ≡ true → too_many_blocks g k ≡ false
-    → ((next_by g k n).lists ≤ most-lists → m + (next_by g k n).lists ≤ most-lists) → cond (is_saved k) (suc m) m + g.lists ≤ most-lists
+few-by : (g : Seen) (k : Kind) (n m : ℕ) → g.lists ≤ most_lists → in_place g k ≡ true → too_many_blocks g k ≡ false
+    → ((next_by g k n).lists ≤ most_lists → m + (next_by g k n).lists ≤ most_lists) → cond (is_saved k) (suc m) m + g.lists ≤ most_lists
 few-by g question n m h p r ih = ih h
-few-by g saved n m h p r ih = let f = leb-false most-lists g.lists r in let e = ih (omega arith) in omega arith
+few-by g saved n m h p r ih = let f = leb-false most_lists g.lists r in let e = ih (omega arith) in omega arith
 few-by g view n m h p r ih = ih h
 few-by g atom n m h p r ih = ih h
 few-by g row n m h p r ih = ih h
@@ -114,7 +114,7 @@ length-cond atom v ls = refl
 length-cond row v ls = refl
 length-cond other v ls = refl
 
-few-left : (table : Table) (ls : List Line) (g : Seen) (b : Line) (n : ℕ) → g.lists ≤ most-lists → (scan table g b n ls).number ≡ 0 → length (blocks is_saved ls) + g.lists ≤ most-lists
+few-left : (table : Table) (ls : List Line) (g : Seen) (b : Line) (n : ℕ) → g.lists ≤ most_lists → (scan table g b n ls).number ≡ 0 → length (blocks is_saved ls) + g.lists ≤ most_lists
 unfolding blocks next
 few-left table [] g b n h s = omega arith
 few-left table (l ∷ ls) g b n h s =
@@ -145,8 +145,8 @@ module _ (table : Table) (ls : List Line) (ok : (refusal_of table ls).number ≡
   lists_length : length (sheet_of table ls).lists ≡ length (blocks is_saved ls)
   lists_length = length-map (blocks is_saved ls) (λ (w : View). w.block)
 
-  pub lists-few : length (sheet_of table ls).lists ≤ most-lists
-  lists-few = let e = lists_length in let f = few-left table ls start [] 1 (omega arith) (eqb-true _ 0 (accepted-scan table ls ok)) in omega arith
+  pub lists_few : length (sheet_of table ls).lists ≤ most_lists
+  lists_few = let e = lists_length in let f = few-left table ls start [] 1 (omega arith) (eqb-true _ 0 (accepted-scan table ls ok)) in omega arith
 
   pub block-list : (i : ℕ) → i < length (sheet_of table ls).lists → block_at ls (suc (suc i)) ≡ get_or (sheet_of table ls).lists i nowhere.block
   block-list i lt = ap (λ ws. (nth ws (suc i)).block) ordered.all ∙ nth_left (blocks is_saved ls) (blocks is_view_kind ls) i (let e = lists_length in omega arith)

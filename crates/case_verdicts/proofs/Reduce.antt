@@ -34,7 +34,7 @@ module _ (x : Sheet) {top : ℕ} (ok : FineSheet top x) where
   good-case t good = record {
     agreeing = record {
       lawful = record { formed = log-formed x ok t; parented = log-parented x t ok.table; keyed = good.keyed };
-      agrees = λ w m. record { none_more = good.none_more w m; none-missing = rows-given t good.meets w m };
+      agrees = λ w m. record { none_more = good.none_more w m; none_missing = rows-given t good.meets w m };
     };
     asked = record { val = copy t 0; holds = copy_holds x t _ (inl refl); differ = (good.meets _ (inl refl)).differ; gives = refl };
     missing = good.missing;
@@ -134,5 +134,5 @@ module _ (x : Sheet) {top : ℕ} (ok : FineSheet top x) where
       of_rows : (j : Job) → In j (gather listed x.views) → (v : ℕ → ℕ) × Serves log v j
       of_rows j m =
           let (w, r, n, i, e) = of_listed x j m in
-          let b = (k.agreeing.agrees w n).none-missing r i in
+          let b = (k.agreeing.agrees w n).none_missing r i in
           (b.val, subst (Serves log b.val) (sym e) (record { holds = b.holds; meets = record { gives = b.gives ∙ sym (row-con b.val r); differ = b.differ } }))

@@ -9,13 +9,13 @@ use lib.Dec.{eqb}
 use Rattle.sheet_format.specs.Cause.{kind_of, atoms}
 use Rattle.query_meaning.specs.Meaning.{Fact, Log, In, fact, Answer}
 use Rattle.query_meaning.specs.Blocks.{rows, blocks}
-use Rattle.query_meaning.specs.Facts.{value-end}
+use Rattle.query_meaning.specs.Facts.{value_end}
 use Rattle.query_meaning.specs.Evaluate.{◌≺◌}
 use Rattle.case_verdicts.specs.Table.{relation, parents}
 use Rattle.case_verdicts.specs.Verdict.{Sheet, Agrees, Case}
 use Rattle.case_verdicts.specs.Handed.{Distinct, Handed}
 use Rattle.case_verdicts.specs.Sheets.{ten, top, sheet_of}
-use Rattle.case_verdicts.specs.Examples.{Shows, sheet, whole, view, all-sig, all-beat, sig_straps, seven, beat-and-noise, one-pause, same_tick}
+use Rattle.case_verdicts.specs.Examples.{Shows, sheet, whole, view, all_sig, all_beat, sig_straps, seven, beat_and_noise, one_pause, same_tick}
 use Rattle.case_verdicts.proofs.Laws.{monotone}
 use Rattle.case_verdicts.proofs.Tables.{ten-sound}
 use Rattle.case_verdicts.proofs.Distinct.{once-distinct}
@@ -48,25 +48,25 @@ abbrev two_signals : List (List ℕ)
 two_signals = (7 ∷ 1 ∷ []) ∷ (7 ∷ 2 ∷ []) ∷ []
 
 abbrev signals_sheet : Sheet
-signals_sheet = sheet all-sig (all-beat ∷ []) (view all-sig two_signals ∷ [])
+signals_sheet = sheet all_sig (all_beat ∷ []) (view all_sig two_signals ∷ [])
 
 abbrev both_signals : Log
 both_signals = signal 7 1 ∷ signal 7 2 ∷ []
 
-module _ (h : Handed top value-end signals_sheet) where
-  signals_agree : Agrees h.log (view all-sig two_signals)
+module _ (h : Handed top value_end signals_sheet) where
+  signals_agree : Agrees h.log (view all_sig two_signals)
   signals_agree = h.is.agreeing.agrees _ (inl refl)
 
   -- what is listed is a fact
   signal_in : (r : List ℕ) → In r two_signals → In (fact 4 r) h.log
-  signal_in r m = let a = signals_agree.none-missing r m in subst (λ q. In (fact 4 q) h.log) a.gives (a.holds _ (inl refl))
+  signal_in r m = let a = signals_agree.none_missing r m in subst (λ q. In (fact 4 q) h.log) a.gives (a.holds _ (inl refl))
 
   -- what is asked for is listed
   signal-asked : In h.answer two_signals
   signal-asked = signals_agree.none_more _ h.is.asked
 
-  signals_given : (r : List ℕ) → In r two_signals → Answer both_signals all-sig r
-  signals_given = (of_passed (answers? all-sig both_signals two_signals) refl).only
+  signals_given : (r : List ℕ) → In r two_signals → Answer both_signals all_sig r
+  signals_given = (of_passed (answers? all_sig both_signals two_signals) refl).only
 
   signals_only : Exactly h.log both_signals
   signals_only = needed ten-sound h both_signals both_signals
@@ -80,8 +80,8 @@ module _ (h : Handed top value-end signals_sheet) where
   first-missing : Case signals_sheet h.log (7 ∷ 1 ∷ [])
   first-missing = record {
     agreeing = h.is.agreeing;
-    asked = signals_agree.none-missing _ (inl refl);
-    missing = sole (λ l. Answer h.log l (7 ∷ 1 ∷ []) → ⊥) _ (λ a. (of_passed (answers? all-beat both_signals []) refl).every _ (monotone signals_only.no_more a));
+    asked = signals_agree.none_missing _ (inl refl);
+    missing = sole (λ l. Answer h.log l (7 ∷ 1 ∷ []) → ⊥) _ (λ a. (of_passed (answers? all_beat both_signals []) refl).every _ (monotone signals_only.no_more a));
   }
 
   first-least : h.answer ≡ 7 ∷ 1 ∷ []
@@ -92,7 +92,7 @@ module _ (h : Handed top value-end signals_sheet) where
   signals_show = record { answer = first-least; count = signals_only.count; facts = signals_only.has.at }
 
 -- it is the sheet of the lines
-pub whole_shows : (h : Handed top value-end (sheet_of ten whole)) → Shows (sheet_of ten whole) (7 ∷ 1 ∷ []) 2 both_signals h
+pub whole_shows : (h : Handed top value_end (sheet_of ten whole)) → Shows (sheet_of ten whole) (7 ∷ 1 ∷ []) 2 both_signals h
 unfolding kind_of atoms rows blocks
 whole_shows h = signals_show h
 
@@ -104,13 +104,13 @@ two_straps = (7 ∷ []) ∷ (8 ∷ []) ∷ []
 abbrev straps_sheet : Sheet
 straps_sheet = sheet sig_straps (seven ∷ []) (view sig_straps two_straps ∷ [])
 
-module _ (h : Handed top value-end straps_sheet) where
+module _ (h : Handed top value_end straps_sheet) where
   straps_agree : Agrees h.log (view sig_straps two_straps)
   straps_agree = h.is.agreeing.agrees _ (inl refl)
 
   -- what is listed has a signal, at some tick
   strap_in : (s : ℕ) → In (s ∷ []) two_straps → (t : ℕ) × In (signal s t) h.log
-  strap_in s m = let a = straps_agree.none-missing (s ∷ []) m in (a.val 2, subst (λ n. In (signal n (a.val 2)) h.log) (head_eq a.gives) (a.holds _ (inl refl)))
+  strap_in s m = let a = straps_agree.none_missing (s ∷ []) m in (a.val 2, subst (λ n. In (signal n (a.val 2)) h.log) (head_eq a.gives) (a.holds _ (inl refl)))
 
   -- what is asked for is listed, and 7 is not missing
   eight-missing : h.answer ≡ 8 ∷ []
@@ -141,7 +141,7 @@ module _ (h : Handed top value-end straps_sheet) where
 -- ---- a beat and noise at two ticks, where no tick may have both
 
 abbrev ticks_sheet : Sheet
-ticks_sheet = sheet (beat-and-noise 2) (one-pause ∷ []) (view same_tick [] ∷ [])
+ticks_sheet = sheet (beat_and_noise 2) (one_pause ∷ []) (view same_tick [] ∷ [])
 
 abbrev beat-noise : Log
 beat-noise = fact 5 (7 ∷ 1 ∷ []) ∷ fact 6 (7 ∷ 2 ∷ []) ∷ []
@@ -153,7 +153,7 @@ with_signals = signal 7 1 ∷ signal 7 2 ∷ beat-noise
 four-distinct : Distinct with_signals
 four-distinct = once-distinct fact? with_signals
 
-module _ (h : Handed top value-end ticks_sheet) where
+module _ (h : Handed top value_end ticks_sheet) where
   -- what is asked for are facts
   beat_noise_in : (f : Fact) → In f beat-noise → In f h.log
   beat_noise_in = both (λ f. In f h.log) _ _ (h.is.asked.holds _ (inl refl)) (h.is.asked.holds _ (inr (inl refl)))
@@ -180,7 +180,7 @@ module _ (h : Handed top value-end ticks_sheet) where
       signals_owed
       (record {
         given = one-view beat-noise _ (λ r m. absurd m);
-        asked = subst (Answer beat-noise (beat-and-noise 2)) h.is.asked.gives ((of_passed (answers? (beat-and-noise 2) beat-noise ([] ∷ [])) refl).only _ (inl refl));
+        asked = subst (Answer beat-noise (beat_and_noise 2)) h.is.asked.gives ((of_passed (answers? (beat_and_noise 2) beat-noise ([] ∷ [])) refl).only _ (inl refl));
       })
 
   pub ticks_show : Shows ticks_sheet [] 4 with_signals h

@@ -36,7 +36,7 @@ part-case x log rest a k high parented given asked = record {
       parented = parented.at;
       keyed = λ f g m n. k.agreeing.lawful.keyed f g (high.at f m) (high.at g n);
     };
-    agrees = λ w m. record { none_more = λ r b. (k.agreeing.agrees w m).none_more r (monotone high b); none-missing = given w m };
+    agrees = λ w m. record { none_more = λ r b. (k.agreeing.agrees w m).none_more r (monotone high b); none_missing = given w m };
   };
   asked = asked;
   missing = λ l m b. k.missing l m (monotone high b);
@@ -56,7 +56,7 @@ between x log rest small a k e low high parented =
 pub same-facts : (x : Sheet) (log log' : Log) (a : List ℕ) → SubLog log log' → SubLog log' log → Case x log a → Case x log' a
 same-facts x log log' a up down k =
     part-case x log log' a k down (record { at = λ f m g n. up.at g (k.agreeing.lawful.parented f (down.at f m) g n) })
-    (λ w m r n. monotone up ((k.agreeing.agrees w m).none-missing r n)) (monotone up k.asked)
+    (λ w m r n. monotone up ((k.agreeing.agrees w m).none_missing r n)) (monotone up k.asked)
 
 -- ---- without a fact to spare a case has only the facts of the good state's log
 
@@ -82,7 +82,7 @@ module _ (x : Sheet) {top : ℕ} (ok : FineSheet top x) (log : Log) (a : List �
   small = tableau_log x i.state
 
   small-enough : Enough x small a
-  small-enough = let c = good-case x ok i.state i.good in record { given = λ w m. (c.agreeing.agrees w m).none-missing; asked = subst (Answer small x.question) i.head c.asked }
+  small-enough = let c = good-case x ok i.state i.good in record { given = λ w m. (c.agreeing.agrees w m).none_missing; asked = subst (Answer small x.question) i.head c.asked }
 
   outside : (f : Fact) → In f log → (In f small → ⊥) → ((g : Fact) → In g log → In f (parents x.table g) → ⊥) → ⊥
   outside = drops x log small a k spare_free i.within small-enough

@@ -9,7 +9,7 @@ use native.Mathlib.Omega.{arith}
 use lib.Dec.{eqb}
 use lib.ListN.{length, length-map, drop}
 use borrow.Author.Tests.{eqb-true, leb-false}
-use Rattle.tableau_layout.specs.Layout.{most-copies, copied-atoms}
+use Rattle.tableau_layout.specs.Layout.{most_copies, copied_atoms}
 use Rattle.sheet_format.specs.Table.{Table}
 use Rattle.sheet_format.specs.Line.{Line, natural}
 use Rattle.sheet_format.specs.Cause.{Kind, question, saved, view, atom, row, other, kind, rest, too_many_blocks, start, next_by, next, scan, is_atom, atoms, refusal_of}
@@ -18,7 +18,7 @@ use Rattle.sheet_format.proofs.Lists.{no_way}
 use Rattle.sheet_format.proofs.ScanLaws.{accepted-scan}
 use Rattle.query_meaning.specs.Meaning.{In}
 use Rattle.query_meaning.specs.Blocks.{View, is_row, rows, view_of, atom_of, blocks}
-use Rattle.query_meaning.specs.Facts.{value-end}
+use Rattle.query_meaning.specs.Facts.{value_end}
 use Rattle.query_blocks.proofs.Accepted.{scan-first, no-atoms, front-atoms}
 use Rattle.case_verdicts.specs.Handed.{row_atoms, size}
 use Rattle.case_verdicts.specs.Accepted.{width}
@@ -101,13 +101,13 @@ next-rows g atom n h e = (omega arith, h)
 next-rows g row n h e = let r = leb-false 40 g.rows e in (omega arith, omega arith)
 next-rows g other n h e = (omega arith, h)
 
-few-rows : (table : Table) (ls : List Line) (g : Seen) (b : Line) (n : ℕ) → g.rows ≤ 40 → (scan table g b n ls).number ≡ 0 → g.rows + row_lines ls ≤ 40
+few_rows : (table : Table) (ls : List Line) (g : Seen) (b : Line) (n : ℕ) → g.rows ≤ 40 → (scan table g b n ls).number ≡ 0 → g.rows + row_lines ls ≤ 40
 unfolding next
-few-rows table [] g b n h s = omega arith
-few-rows table (l ∷ ls) g b n h s =
+few_rows table [] g b n h s = omega arith
+few_rows table (l ∷ ls) g b n h s =
     let (c, r) = scan-first table l ls g b n s in
     let (e, k) = next-rows g (kind l) (length (rest l)) h c.room in
-    let i = few-rows table ls (next g l) l (n + 1) k r in
+    let i = few_rows table ls (next g l) l (n + 1) k r in
     omega arith
 
 -- ---- atoms
@@ -136,11 +136,11 @@ few-atoms table (l ∷ ls) g b n v h s =
 module _ (table : Table) (ls : List Line) (ok : (refusal_of table ls).number ≡ 0) where
   rows_few : rows_of (blocks is_view_kind ls) ≤ 40
   rows_few =
-      let s = few-rows table ls start [] 1 (omega arith) (eqb-true _ 0 (accepted-scan table ls ok)) in
+      let s = few_rows table ls start [] 1 (omega arith) (eqb-true _ 0 (accepted-scan table ls ok)) in
       let l = listed-lines ls in
       omega arith
 
-  pub accepted-jobs : length (jobs (sheet_of table ls)) ≤ most-copies
+  pub accepted-jobs : length (jobs (sheet_of table ls)) ≤ most_copies
   accepted-jobs =
       let e = gather-length listed (blocks is_view_kind ls) ∙ total-same (λ w. length (listed w)) (λ w. length w.rows) (λ w. length-map w.rows _) (blocks is_view_kind ls) in
       let r = rows_few in
@@ -179,7 +179,7 @@ module _ (table : Table) (ls : List Line) (ok : (refusal_of table ls).number ≡
       let r = rows-most ws (λ v m. few v (inr m)) in
       omega arith
 
-  pub accepted-size : size (sheet_of table ls) ≤ copied-atoms
+  pub accepted-size : size (sheet_of table ls) ≤ copied_atoms
   accepted-size =
       let q = question-atoms in
       let r = rows_few in
@@ -187,6 +187,6 @@ module _ (table : Table) (ls : List Line) (ok : (refusal_of table ls).number ≡
       omega arith
 
   -- made-up values for all slots lie below the end of the values
-  pub accepted-room : top + length (jobs (sheet_of table ls)) * width ≤ value-end
+  pub accepted-room : top + length (jobs (sheet_of table ls)) * width ≤ value_end
   unfolding width
   accepted-room = let j = accepted-jobs in omega arith

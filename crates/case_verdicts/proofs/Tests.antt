@@ -9,7 +9,7 @@ use lib.ListN.{length}
 use Rattle.sheet_format.proofs.Lists.{no_way, both}
 use Rattle.query_meaning.specs.Meaning.{Term, con, var, Log, Atom, Block, In, Answer}
 use Rattle.query_meaning.specs.Blocks.{View, nowhere}
-use Rattle.query_meaning.specs.Facts.{value-end}
+use Rattle.query_meaning.specs.Facts.{value_end}
 use Rattle.query_meaning.specs.Evaluate.{◌≺◌, Ascending, Answers}
 use Rattle.case_verdicts.specs.Table.{Table, relation, Sound}
 use Rattle.case_verdicts.specs.Verdict.{Sheet, Covered, NoLog}
@@ -17,7 +17,7 @@ use Rattle.case_verdicts.specs.Handed.{Handed}
 use Rattle.case_verdicts.specs.Accepted.{width, FineTerm, FineAtom, FineBlock, FineSheet, variables, Bound, Safe, Evaluable}
 use Rattle.case_verdicts.specs.Tableau.{jobs}
 use Rattle.case_verdicts.specs.Sheets.{top}
-use Rattle.case_verdicts.specs.Examples.{Shown, covered, case, no-log, Shows, Entry, judge, judge_any, evaluate, evaluate_any, sheet, SaysOf, Says}
+use Rattle.case_verdicts.specs.Examples.{Shown, covered, case, no_log, Shows, Entry, judge, judge_any, evaluate, evaluate_any, sheet, SaysOf, Says}
 use Rattle.case_verdicts.proofs.Tables.{ten-sound}
 use Rattle.case_verdicts.proofs.Decide.{same?, less?, in?, first-all, all_or, answer?, inside_or}
 use Rattle.case_verdicts.proofs.Check.{judged}
@@ -86,30 +86,30 @@ accept top x sound =
 -- ---- judged sheets
 
 abbrev pub SheetJudgement : Sheet → Type 0
-SheetJudgement x = Covered x ⊎ (Handed top value-end x ⊎ NoLog x)
+SheetJudgement x = Covered x ⊎ (Handed top value_end x ⊎ NoLog x)
 
 abbrev pub verdict? : (x : Sheet) → Sound x.table → Or (SheetJudgement x)
 verdict? x sound =
     then (accept top x sound) (λ a.
     then (safe? x.question) (λ q.
-    ⊎_elim (λ l. inr tt) (λ r. inl (judged x r a.0 q a.1)) (less? value-end (top + length (jobs x) * width))))
+    ⊎_elim (λ l. inr tt) (λ r. inl (judged x r a.0 q a.1)) (less? value_end (top + length (jobs x) * width))))
 
 -- what no test can show: with 1 every case that may be handed over is as shown
 abbrev pub OnlyOf : Sheet → Shown → Type 0
 OnlyOf x covered = Unit {0}
-OnlyOf x (case a n fs) = (h : Handed top value-end x) → Shows x a n fs h
-OnlyOf x no-log = Unit {0}
+OnlyOf x (case a n fs) = (h : Handed top value_end x) → Shows x a n fs h
+OnlyOf x no_log = Unit {0}
 
 abbrev pub shown? : (x : Sheet) → SheetJudgement x → (r : Shown) → Or (OnlyOf x r → SaysOf x r)
 shown? x (inl c) covered = inl (λ o. c)
 shown? x (inl c) (case a n fs) = inr tt
-shown? x (inl c) no-log = inr tt
+shown? x (inl c) no_log = inr tt
 shown? x (inr (inl h)) covered = inr tt
 shown? x (inr (inl h)) (case a n fs) = inl (λ o. (h, o))
-shown? x (inr (inl h)) no-log = inr tt
+shown? x (inr (inl h)) no_log = inr tt
 shown? x (inr (inr z)) covered = inr tt
 shown? x (inr (inr z)) (case a n fs) = inr tt
-shown? x (inr (inr z)) no-log = inl (λ o. z)
+shown? x (inr (inr z)) no_log = inl (λ o. z)
 
 -- agreeing does not look at the question and the lists
 pub unasked : (ws : List View) → NoLog (sheet nowhere.block [] ws) → (q : Block) (ls : List Block) → NoLog (sheet q ls ws)

@@ -10,7 +10,7 @@ use Rattle.sheet_format.specs.Table.{Table, Sound}
 use Rattle.sheet_format.specs.Line.{Line}
 use Rattle.sheet_format.specs.Cause.{refusal_of}
 use Rattle.query_meaning.specs.Meaning.{Fact, In}
-use Rattle.query_meaning.specs.Facts.{value-end}
+use Rattle.query_meaning.specs.Facts.{value_end}
 use Rattle.case_verdicts.specs.Verdict.{Sheet, Covered, NoLog, HasVerdict}
 use Rattle.case_verdicts.specs.Handed.{Handed}
 use Rattle.case_verdicts.specs.Sheets.{top, sheet_of}
@@ -37,7 +37,7 @@ exclusive x (suc (suc (suc m))) n p q = absurd p
 
 module _ (table : Table) (sound : Sound table) (ls : List Line) (ok : (refusal_of table ls).number ≡ 0) where
   -- a verdict, with a case to hand over where it is 1
-  pub accepted-judged : Covered (sheet_of table ls) ⊎ (Handed top value-end (sheet_of table ls) ⊎ NoLog (sheet_of table ls))
+  pub accepted-judged : Covered (sheet_of table ls) ⊎ (Handed top value_end (sheet_of table ls) ⊎ NoLog (sheet_of table ls))
   accepted-judged = judged (sheet_of table ls) (accepted-room table ls ok) (accepted-sheet table ls ok sound) (accepted-question table ls ok) (accepted_evaluable table ls ok)
 
   -- exactly one verdict
@@ -49,8 +49,8 @@ module _ (table : Table) (sound : Sound table) (ls : List Line) (ok : (refusal_o
 
   -- ---- what is handed over: at most 252 facts, with values that a fact can have
 
-  pub handed-few : (h : Handed top value-end (sheet_of table ls)) → length h.log ≤ tableau_atoms
+  pub handed-few : (h : Handed top value_end (sheet_of table ls)) → length h.log ≤ tableau_atoms
   handed-few h = let s = accepted-size table ls ok in let m = h.most_with_parents in omega arith
 
-  pub handed-small : (h : Handed top value-end (sheet_of table ls)) (f : Fact) → In f h.log → (n : ℕ) → In n f.row → n < value-end
+  pub handed-small : (h : Handed top value_end (sheet_of table ls)) (f : Fact) → In f h.log → (n : ℕ) → In n f.row → n < value_end
   handed-small h f m n i = ⊎_elim (λ s. let l = stands-small (sheet_of table ls) (accepted-sheet table ls ok sound) n s in omega arith) (λ r. r.1) (h.values f m n i)

@@ -1,6 +1,6 @@
 -- The sheet that accepted lines mean.
 use Rattle.std.specs.Prelude.{Bool, true, false, List, map, ℕ}
-use Rattle.sheet_format.specs.Limits.{constant-end}
+use Rattle.sheet_format.specs.Limits.{constant_end}
 pub use Rattle.sheet_format.specs.Table.{Table, ten}
 use Rattle.sheet_format.specs.Line.{Line}
 use Rattle.sheet_format.specs.Cause.{Kind, question, saved, view, atom, row, other}
@@ -10,7 +10,7 @@ use Rattle.case_verdicts.specs.Verdict.{Sheet}
 
 -- constants lie below it, and made-up values from it on (Meaning, of the case handed over)
 abbrev pub top : ℕ
-top = constant-end
+top = constant_end
 
 -- heads of kind 1, 2 and 3
 abbrev pub is_question : Kind → Bool

@@ -14,7 +14,7 @@ pub record Sheet : Type 0 where
 -- Meaning, of agreeing, for one view: the answers that the log gives it are its listed rows, none more and none missing
 pub record Agrees (log : Log) (w : View) : Type 0 where
   pub none_more : (t : List ℕ) → Answer log w.block t → In t w.rows
-  pub none-missing : (t : List ℕ) → In t w.rows → Answer log w.block t
+  pub none_missing : (t : List ℕ) → In t w.rows → Answer log w.block t
 
 -- Meaning, of agreeing: a log that agrees in every view
 pub record Agreeing (x : Sheet) (log : Log) : Type 0 where

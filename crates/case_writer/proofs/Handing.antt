@@ -9,12 +9,12 @@ use lib.IntN.{ℤ, pos}
 use lib.ListN.{length, get_or, take, drop, length-map}
 use lib.Seq.{length-take-le}
 use Rattle.query_layout.specs.Layout.{names}
-use Rattle.tableau_layout.specs.Layout.{plan-numbers, slot-end, tableau_atoms, tableau_numbers}
+use Rattle.tableau_layout.specs.Layout.{plan_numbers, slot_end, tableau_atoms, tableau_numbers}
 use Rattle.list_laws.proofs.Lists.{inside}
 use Rattle.sheet_format.specs.Table.{columns_of}
 use Rattle.query_meaning.specs.Meaning.{Fact, Log, In}
 use Rattle.query_meaning.specs.Facts as facts
-use Rattle.query_meaning.specs.Facts.{value-end}
+use Rattle.query_meaning.specs.Facts.{value_end}
 use Rattle.query_encoding.specs.Encoding.{FactNumbers, ShapedLog}
 use Rattle.query_blocks.proofs.Shape.{from-map}
 use Rattle.list_laws.specs.Wrote.{Wrote}
@@ -67,11 +67,11 @@ module _ (p : List ℕ) (x : Sheet) (r : ReadyPlan p x) (st : List ℕ) (f : Sta
   known g m = (log-formed x r.accepted s g m).known
 
   -- each value stands in the sheet, or was made up
-  made : MadeUp top value-end x log
+  made : MadeUp top value_end x log
   unfolding width
   made g m n i = ⊎_elim (λ k. inl k) slot (known-log x r.accepted s g m n i)
     where
-      slot : In n (map s (slots x)) → Stands x n ⊎ ((top ≤ n) × (n < value-end))
+      slot : In n (map s (slots x)) → Stands x n ⊎ ((top ≤ n) × (n < value_end))
       slot j =
           let (k, w, e) = from-map s (slots x) n j in
           let h = of_upto (length (jobs x) * names) k w in
@@ -126,7 +126,7 @@ module _ (p : List ℕ) (x : Sheet) (r : ReadyPlan p x) (st : List ℕ) (f : Sta
 
 -- what state::facts, order::arrange and shrink::shrink ensure, together
 pub spare_free_in : (p : List ℕ) (x : Sheet) (r : ReadyPlan p x) (st : List ℕ) (f : StateFound x x st) (none one two three : List ℕ) (n m k : ℕ) → length none ≡ tableau_numbers → length one ≡ length none → length two ≡ length one
-    → (length p ≡ plan-numbers → 0 ≤ tableau_size p → tableau_size p ≤ tableau_atoms → slot-end ≤ length st → tableau_numbers ≤ length none → (n ≡ tableau_size p - 0) × (take (n * 5) one ≡ tableau_facts p (state_of top st) 0 n))
+    → (length p ≡ plan_numbers → 0 ≤ tableau_size p → tableau_size p ≤ tableau_atoms → slot_end ≤ length st → tableau_numbers ≤ length none → (n ≡ tableau_size p - 0) × (take (n * 5) one ≡ tableau_facts p (state_of top st) 0 n))
     → (n * 5 ≤ length one → Ordered one n two m × (length two ≡ length one))
     → (walks.FormedPlan p → m ≤ tableau_atoms → m * 5 ≤ length two → IsCase p (take (m * 5) two) → Shrunk p (take (m * 5) two) m (take (k * 5) three) k)
     → (k ≤ tableau_atoms) × SpareFreeIn p x (take (k * 5) three) k

@@ -11,7 +11,7 @@
 #![tactic(auto)]
 
 ghost use Rattle.std.specs.Prelude.{◌≡◌, ◌+◌, ◌*◌, ◌≤◌, length};
-ghost use Rattle.judge_result.specs.Judged.{least-room};
+ghost use Rattle.judge_result.specs.Judged.{least_room};
 
 use judge_result::{Judgement, LEAST_ROOM};
 use query_meaning::FACT_WORDS;
@@ -57,8 +57,8 @@ fn cover(rt: &impl Print, table: &[u8], sheet: &[u8]) -> io::Result<()> {
 
 // Judges a sheet into the words that a verdict wants: the facts of its case are among them.
 fn judged(table: &[u8], sheet: &[u8], facts: &mut [i32]) -> Judgement
-    requires { length facts.old ≡ least-room }
-    ensures { result.count * 5 ≤ least-room }
+    requires { length facts.old ≡ least_room }
+    ensures { result.count * 5 ≤ least_room }
 {
     judge::judge_by_table(table, sheet, facts)
 }

@@ -20,7 +20,7 @@ use Rattle.sheet_format.proofs.LineLaws.{bytes-length, bytes_cons, bytes_back, g
 use Rattle.text_buffer.specs.Puts.{Put}
 use Rattle.text_buffer.proofs.Laws.{said, followed}
 use Rattle.judge_result.specs.declared.Judgement.{Judgement}
-use Rattle.judge_result.specs.Judged.{least-room}
+use Rattle.judge_result.specs.Judged.{least_room}
 use Rattle.judge_ends.specs.Sets.{most_sheets}
 use Rattle.day_page.specs.Page.{page_room, sheet_line, sheet_lines, tally, sum_of_facts, closing_line, page_lines, page_of, Printable, AllShown}
 use Rattle.day_page.specs.Totals.{having, counted, totals_of}
@@ -90,7 +90,7 @@ unfolding tally
 tally-few v [] = omega arith
 tally-few v (j ∷ js) = let a = at_most_one (eqb j.verdict v) in let b = tally-few v js in omega arith
 
-pub sum_few : (js : List Judgement) → AllShown js → sum_of_facts js * 5 ≤ length js * least-room
+pub sum_few : (js : List Judgement) → AllShown js → sum_of_facts js * 5 ≤ length js * least_room
 unfolding sum_of_facts
 sum_few [] s = omega arith
 sum_few (j ∷ js) s = let a = s.0.count in let b = sum_few js s.1 in omega arith

@@ -2,8 +2,8 @@
 use Rattle.std.specs.Prelude.{cond, List, [], ◌∷◌, ◌++◌, ℕ, suc, ◌+◌, ◌*◌, ◌<◌, ◌≤◌, eqb, pos}
 use Rattle.sheet_format.specs.Limits.{field_end}
 use Rattle.sheet_format.specs.Line.{Line, bytes_of}
-use Rattle.query_meaning.specs.Facts.{fact-words}
-use Rattle.judge_result.specs.Judged.{least-room}
+use Rattle.query_meaning.specs.Facts.{fact_words}
+use Rattle.judge_result.specs.Judged.{least_room}
 use Rattle.judge_result.specs.declared.Judgement.{Judgement}
 
 -- so many bytes must be lent, whatever the set needs: the most sheets have a page of so many
@@ -45,7 +45,7 @@ page_of js = bytes_of (page_lines js)
 pub record Printable (j : Judgement) : Type 0 where
   pub verdict : j.verdict < field_end
   pub number : j.number < field_end
-  pub count : j.count * fact-words ≤ least-room
+  pub count : j.count * fact_words ≤ least_room
 
 abbrev pub AllShown : List Judgement → Type 0
 AllShown [] = Unit {0}

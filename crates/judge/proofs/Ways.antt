@@ -9,7 +9,7 @@ use borrow.Author.Tests.{ne_eqb, le-ltb}
 use lib.Dec.{eqb, ltb}
 use lib.IntN.{ℤ}
 use lib.ListN.{length}
-use Rattle.sheet_format.specs.Limits.{most-words}
+use Rattle.sheet_format.specs.Limits.{most_words}
 use Rattle.sheet_format.specs.Table.{Table, Sound, ten, table_in}
 use Rattle.sheet_format.specs.Line.{Line, byte_lines}
 use Rattle.sheet_format.specs.Cause.{refusal, refusal_of}
@@ -40,7 +40,7 @@ use Rattle.search_task.specs.Task.{ReadyPlan}
 use Rattle.search_node.specs.Node.{StateFound}
 use Rattle.search_step.specs.Run.{FoundBy}
 use Rattle.case_writer.specs.Over.{HandsOver}
-use Rattle.judge_result.specs.Judged.{judgement, SheetSent, Short, Said, HandedOver, Decided, Judged, TableSent, JudgedBy, least-room}
+use Rattle.judge_result.specs.Judged.{judgement, SheetSent, Short, Said, HandedOver, Decided, Judged, TableSent, JudgedBy, least_room}
 use Rattle.judge_result.specs.declared.Judgement.{Judgement}
 
 -- ---- a plan of accepted lines is ready for a search
@@ -63,7 +63,7 @@ module _ (table : Table) (ls : List Line) (ok : (refusal_of table ls).number ≡
 
 -- ---- the verdict from the two searches
 
-module _ (p : List ℕ) (x : Sheet) (r : ReadyPlan p x) (out : List ℤ) (room : least-room ≤ length out) where
+module _ (p : List ℕ) (x : Sheet) (r : ReadyPlan p x) (out : List ℤ) (room : least_room ≤ length out) where
   pub found-case : (b : Bool) (ws : List ℕ) → b ≡ true → FoundBy b x x ws → StateFound x x ws
   found-case true ws e f = f
   found-case false ws e f = absurd (true≢false (sym e))
@@ -93,16 +93,16 @@ module _ (p : List ℕ) (x : Sheet) (r : ReadyPlan p x) (out : List ℤ) (room :
 
 -- ---- refusals
 
-pub decided-short : (x : Sheet) (out : List ℤ) → length out < least-room → (q : Judgement) → q ≡ judgement 9 13 0 0 [] → Decided x out out q
+pub decided-short : (x : Sheet) (out : List ℤ) → length out < least_room → (q : Judgement) → q ≡ judgement 9 13 0 0 [] → Decided x out out q
 decided-short x out few q is = inl (record { few = few; result = is; lent = refl })
 
 module _ (table : Table) where
-  pub judged-sent : (s : List ℕ) (out : List ℤ) (c l : ℕ) (r : Ending) → r ≡ read_ending table s most-words → r ≡ Refused c l → (q : Judgement) → q ≡ judgement 9 c l 0 [] → Judged table s out out q
+  pub judged-sent : (s : List ℕ) (out : List ℤ) (c l : ℕ) (r : Ending) → r ≡ read_ending table s most_words → r ≡ Refused c l → (q : Judgement) → q ≡ judgement 9 c l 0 [] → Judged table s out out q
   judged-sent s out c l r is e q b =
       let (h, k) = refused-by table s c l r is e in
       inl (record { cause = h; result = b ∙ sym (ap (λ (z : Refusal). judgement 9 z.number z.line 0 []) k); lent = refl })
 
-  pub judged-read : (s : List ℕ) (out after : List ℤ) (n : ℕ) (ls : List Line) (q : Judgement) → read_ending table s most-words ≡ Done n → ls ≡ byte_lines s → Decided (sheet_of table ls) out after q → Judged table s out after q
+  pub judged-read : (s : List ℕ) (out after : List ℤ) (n : ℕ) (ls : List Line) (q : Judgement) → read_ending table s most_words ≡ Done n → ls ≡ byte_lines s → Decided (sheet_of table ls) out after q → Judged table s out after q
   judged-read s out after n ls q done e d = inr (clean-sheet table s n done, subst (λ l. Decided (sheet_of table l) out after q) e d)
 
 -- ---- by the bytes of a table

@@ -8,7 +8,7 @@ ghost use Rattle.sheet_format.specs.Cause.{refusal_of};
 ghost use Rattle.case_verdicts.specs.Verdict.{Sheet};
 ghost use Rattle.case_verdicts.specs.Sheets.{sheet_of};
 ghost use Rattle.search_task.specs.Task.{ReadyPlan};
-ghost use Rattle.judge_result.specs.Judged.{Decided, Judged, JudgedBy, least-room};
+ghost use Rattle.judge_result.specs.Judged.{Decided, Judged, JudgedBy, least_room};
 ghost use Rattle.sheet_table.specs.Loads.{Loads};
 
 use judge_result::{COVERED, Judgement, LEAST_ROOM, NO_LOG, NOT_COVERED, REFUSED, plain};
@@ -19,7 +19,7 @@ use tableau_layout::{PLAN_NUMBERS, SLOTS};
 
 // The verdict of an accepted sheet: a case, else an agreeing log, else neither.
 fn decide(p: &[usize; PLAN_NUMBERS], out: &mut [i32]) -> Judgement
-    requires { least-room ≤ length out.old }
+    requires { least_room ≤ length out.old }
     ensures { (x : Sheet) → ReadyPlan p.now x → Decided x out.old out.new result }
 {
     let mut words = [0usize; SLOTS];

@@ -9,7 +9,7 @@ use borrow.Author.Tests.{ltb-false, eqb-true, eqb-false}
 use lib.Dec.{eqb, ltb}
 use lib.IntN.{ℤ}
 use lib.ListN.{length, get_or, take, drop, length-take, length-drop}
-use Rattle.sheet_format.specs.Limits.{field_end, most-relations, most-sheet-bytes}
+use Rattle.sheet_format.specs.Limits.{field_end, most_relations, most_sheet_bytes}
 use Rattle.sheet_format.specs.Table.{Relation, Table}
 use Rattle.sheet_format.specs.Line.{Line, byte_lines, null}
 use Rattle.sheet_format.specs.Cause.{cause, misplaced, wrong_columns, out_of_range, too_many_blocks, wrong_length, not_above, kind, next, start, refusal, none, missing, scan, heads, atoms, unsafe, refusal_of}
@@ -21,7 +21,7 @@ use Rattle.text_buffer.proofs.Laws.{reached-all, placed-all}
 use Rattle.sheet_table.specs.Tables.{relation_on_line, line_right, lines_refusal, table_refusal, table_of}
 use Rattle.case_verdicts.specs.Verdict.{Sheet}
 use Rattle.case_verdicts.specs.Sheets.{sheet_of}
-use Rattle.judge_result.specs.Judged.{least-room, judgement, Decided, Judged, JudgedBy}
+use Rattle.judge_result.specs.Judged.{least_room, judgement, Decided, Judged, JudgedBy}
 use Rattle.judge_result.specs.declared.Judgement.{Judgement}
 use Rattle.judge_result.proofs.Verdicts.{count_fits, count-fits-by}
 use Rattle.judge_ends.specs.declared.SetJudgement.{SetJudgement}
@@ -71,7 +71,7 @@ lines-few table ls = either (eqb (scan table start [] 1 ls).number 0) (heads 1 l
 
 pub refusal-few : (table : Table) (s : List ℕ) → (sheet_refusal table s).number ≤ 9
 unfolding sheet_refusal
-refusal-few table s = either (ltb most-sheet-bytes (length s)) (refusal 1 0) (refusal_of table (byte_lines s)) (omega arith) (lines-few table (byte_lines s))
+refusal-few table s = either (ltb most_sheet_bytes (length s)) (refusal 1 0) (refusal_of table (byte_lines s)) (omega arith) (lines-few table (byte_lines s))
 
 -- ---- a table by 15
 
@@ -83,7 +83,7 @@ relations-few : (rs : List Relation) (ls : List Line) → (lines_refusal rs ls).
 unfolding lines_refusal
 relations-few rs [] = omega arith
 relations-few rs (l ∷ ls) =
-    either-table (ltb (length rs) most-relations && line_right rs l) (lines_refusal (rs ++ (relation_on_line l ∷ [])) ls) (refusal 15 (length rs + 1)) (relations-few (rs ++ (relation_on_line l ∷ [])) ls) (omega arith)
+    either-table (ltb (length rs) most_relations && line_right rs l) (lines_refusal (rs ++ (relation_on_line l ∷ [])) ls) (refusal 15 (length rs + 1)) (relations-few (rs ++ (relation_on_line l ∷ [])) ls) (omega arith)
 
 table-few : (tb : List ℕ) → (table_refusal tb).number ≤ 15
 unfolding table_refusal
@@ -93,15 +93,15 @@ table-few tb = either-table (null (byte_lines tb)) (refusal 15 0) (lines_refusal
 
 -- what is promised of a sheet, and fits the fields where it has a stretch
 abbrev pub Showing : Promise → Type 0
-Showing J = (s : List ℕ) (out after : List ℤ) (r : Judgement) → J s out after r → length out ≡ least-room → Printable r
+Showing J = (s : List ℕ) (out after : List ℤ) (r : Judgement) → J s out after r → length out ≡ least_room → Printable r
 
-shown_as : (r : Judgement) → r.count * 5 ≤ least-room → (v n l k : ℕ) (t : List ℕ) → r ≡ judgement v n l k t → v ≤ 9 → n ≤ 15 → Printable r
+shown_as : (r : Judgement) → r.count * 5 ≤ least_room → (v n l k : ℕ) (t : List ℕ) → r ≡ judgement v n l k t → v ≤ 9 → n ≤ 15 → Printable r
 shown_as r fits v n l k t e small low =
     let a : r.verdict ≡ v = ap (λ (q : Judgement). q.verdict) e in
     let b : r.number ≡ n = ap (λ (q : Judgement). q.number) e in
     record { verdict = omega arith; number = omega arith; count = fits }
 
-shown-decided : (x : Sheet) (out after : List ℤ) (r : Judgement) → r.count * 5 ≤ least-room → Decided x out after r → Printable r
+shown-decided : (x : Sheet) (out after : List ℤ) (r : Judgement) → r.count * 5 ≤ least_room → Decided x out after r → Printable r
 shown-decided x out after r fits (inl d) = shown_as r fits 9 13 0 0 [] d.result (omega arith) (omega arith)
 shown-decided x out after r fits (inr (inl d)) = shown_as r fits 0 0 0 0 [] d.result (omega arith) (omega arith)
 shown-decided x out after r fits (inr (inr (inl d))) = shown_as r fits 1 0 0 (length d.handed.log) d.handed.answer d.result (omega arith) (omega arith)
@@ -110,7 +110,7 @@ shown-decided x out after r fits (inr (inr (inr d))) = shown_as r fits 2 0 0 0 [
 pub shown : (table : Table) → Showing (Judged table)
 shown table s out after r judged size = go judged
   where
-    fits : r.count * 5 ≤ least-room
+    fits : r.count * 5 ≤ least_room
     fits = count_fits table s out after r judged size
 
     go : Judged table s out after r → Printable r
@@ -127,8 +127,8 @@ all_shown [] (suc n) le each = absurd (omega arith)
 all_shown (j ∷ js) zero le each = tt
 all_shown (j ∷ js) (suc n) le each = (each 0 (omega arith), all_shown js n (omega arith) (λ k lt. each (suc k) (omega arith)))
 
-stretch_size : (n k : ℕ) (out : List ℤ) → k < n → n * least-room ≤ length out → length (stretch_at out k) ≡ least-room
-stretch_size n k out lt room = let a = length-take least-room (drop (k * least-room) out) in let b = length-drop (k * least-room) out in omega arith
+stretch_size : (n k : ℕ) (out : List ℤ) → k < n → n * least_room ≤ length out → length (stretch_at out k) ≡ least_room
+stretch_size n k out lt room = let a = length-take least_room (drop (k * least_room) out) in let b = length-drop (k * least_room) out in omega arith
 
 -- ---- the call's refusal
 

@@ -9,7 +9,7 @@ use lib.Dec.{ltb, eqb}
 use lib.IntN.{ℤ}
 use lib.ListN.{length, get_or, drop, set, drop_of_length-le}
 use Rattle.list_laws.proofs.Lists.{drop-next}
-use Rattle.judge_result.specs.Judged.{least-room}
+use Rattle.judge_result.specs.Judged.{least_room}
 use Rattle.judge_ends.specs.Sets.{most_sheets, ends_fall_back, start_of, has_wrong_ends, refusal_of_set}
 use Rattle.judge_ends.specs.Places.{Parted}
 
@@ -76,25 +76,25 @@ module _ (count : ℕ) (ends : List ℕ) where
 
 -- fewer words than so many stretches
 module _ (words sheets : ℕ) where
-  alike : (s t : Bool) → ltb (words / least-room) sheets ≡ s → ltb words (sheets * least-room) ≡ t → s ≡ t
+  alike : (s t : Bool) → ltb (words / least_room) sheets ≡ s → ltb words (sheets * least_room) ≡ t → s ≡ t
   alike true true e f = refl
-  alike true false e f = let h = ltb-true (words / least-room) sheets e in let g = ltb-false words (sheets * least-room) f in absurd (omega arith)
-  alike false true e f = let h = ltb-false (words / least-room) sheets e in let g = ltb-true words (sheets * least-room) f in absurd (omega arith)
+  alike true false e f = let h = ltb-true (words / least_room) sheets e in let g = ltb-false words (sheets * least_room) f in absurd (omega arith)
+  alike false true e f = let h = ltb-false (words / least_room) sheets e in let g = ltb-true words (sheets * least_room) f in absurd (omega arith)
   alike false false e f = refl
 
-  pub stretches : ltb (words / least-room) sheets ≡ ltb words (sheets * least-room)
-  stretches = alike (ltb (words / least-room) sheets) (ltb words (sheets * least-room)) refl refl
+  pub stretches : ltb (words / least_room) sheets ≡ ltb words (sheets * least_room)
+  stretches = alike (ltb (words / least_room) sheets) (ltb words (sheets * least_room)) refl refl
 
 module _ (bytes ends : List ℕ) (out : List ℤ) where
   pub by-ends : (w : Bool) → w ≡ has_wrong_ends (length bytes) ends → w ≡ true → 14 ≡ refusal_of_set bytes ends out
   unfolding refusal_of_set
   by-ends w is t = rw (sym is, t) refl
 
-  pub by-room : (w s : Bool) → w ≡ has_wrong_ends (length bytes) ends → s ≡ ltb (length out) (length ends * least-room) → w ≡ false → s ≡ true → 13 ≡ refusal_of_set bytes ends out
+  pub by-room : (w s : Bool) → w ≡ has_wrong_ends (length bytes) ends → s ≡ ltb (length out) (length ends * least_room) → w ≡ false → s ≡ true → 13 ≡ refusal_of_set bytes ends out
   unfolding refusal_of_set
   by-room w s is so f t = rw (sym is, sym so, f, t) refl
 
-  pub by-none : (w s : Bool) → w ≡ has_wrong_ends (length bytes) ends → s ≡ ltb (length out) (length ends * least-room) → w ≡ false → s ≡ false → 0 ≡ refusal_of_set bytes ends out
+  pub by-none : (w s : Bool) → w ≡ has_wrong_ends (length bytes) ends → s ≡ ltb (length out) (length ends * least_room) → w ≡ false → s ≡ false → 0 ≡ refusal_of_set bytes ends out
   unfolding refusal_of_set
   by-none w s is so f g = rw (sym is, sym so, f, g) refl
 
@@ -106,7 +106,7 @@ module _ (bytes ends : List ℕ) (out : List ℤ) where
   pub parted : refusal_of_set bytes ends out ≡ 0 → Parted bytes ends (length out)
   unfolding refusal_of_set
   parted e =
-      let (right, room) = both-passed (has_wrong_ends (length bytes) ends) (ltb (length out) (length ends * least-room)) e in
+      let (right, room) = both-passed (has_wrong_ends (length bytes) ends) (ltb (length out) (length ends * least_room)) e in
       let (few, order) = neither (ltb most_sheets (length ends)) (ends_fall_back 0 ends || not (eqb (start_of ends (length ends)) (length bytes))) right in
       let (goes, last) = neither (ends_fall_back 0 ends) (not (eqb (start_of ends (length ends)) (length bytes))) order in
       let whole = eqb-true (start_of ends (length ends)) (length bytes) (not-false _ last) in
@@ -114,5 +114,5 @@ module _ (bytes ends : List ℕ) (out : List ℤ) where
         few = ltb-false most_sheets (length ends) few;
         ordered = ends_ascend 0 ends goes;
         within = λ k lt. subst (λ n. get_or ends k 0 ≤ n) whole (ends-to-last 0 ends goes k lt);
-        room = ltb-false (length out) (length ends * least-room) room;
+        room = ltb-false (length out) (length ends * least_room) room;
       }

@@ -1,7 +1,7 @@
 -- What judging a page's set of sheets gives, for all input. `bytes` holds the sheets one after the other, and `ends` says where each ends;
 -- `out` is what was lent, `after` what it holds afterwards. Places are counted from 0.
 use Rattle.std.specs.Prelude.{◌≡◌, Bool, false, cond, not, ◌||◌, List, [], ◌∷◌, ◌⊎◌, ℕ, ◌-◌, ◌*◌, ◌<◌, ◌≤◌, eqb, ltb, ℤ, length, get_or, take, drop, replicate}
-use Rattle.judge_result.specs.Judged.{least-room, judgement}
+use Rattle.judge_result.specs.Judged.{least_room, judgement}
 use Rattle.judge_result.specs.declared.Judgement.{Judgement}
 use Rattle.judge_ends.specs.declared.SetJudgement.{SetJudgement}
 
@@ -19,7 +19,7 @@ abbrev pub sheet_at : List ℕ → List ℕ → ℕ → List ℕ
 sheet_at bytes ends k = take (get_or ends k 0 - start_of ends k) (drop (start_of ends k) bytes)
 
 abbrev pub stretch_at : List ℤ → ℕ → List ℤ
-stretch_at out k = take least-room (drop (k * least-room) out)
+stretch_at out k = take least_room (drop (k * least_room) out)
 
 -- ---- what a set is sent back for
 
@@ -36,7 +36,7 @@ has_wrong_ends count ends = ltb most_sheets (length ends) || (ends_fall_back 0 e
 unfoldable pub refusal_of_set : List ℕ → List ℕ → List ℤ → ℕ
 refusal_of_set bytes ends out =
     cond (has_wrong_ends (length bytes) ends) 14
-    (cond (ltb (length out) (length ends * least-room)) 13
+    (cond (ltb (length out) (length ends * least_room)) 13
     0)
 
 -- ---- what is returned
@@ -64,7 +64,7 @@ pub record JudgedTo (J : Promise) (n : ℕ) (bytes ends : List ℕ) (out after :
   pub each : (k : ℕ) → k < n → J (sheet_at bytes ends k) (stretch_at out k) (stretch_at after k) (get_or js k (unjudged 0))
   pub others : (k : ℕ) → n ≤ k → get_or js k (unjudged 0) ≡ unjudged 0
   pub places : length js ≡ most_sheets
-  pub rest : drop (n * least-room) after ≡ drop (n * least-room) out
+  pub rest : drop (n * least_room) after ≡ drop (n * least_room) out
   pub same : length after ≡ length out
 
 -- the set is taken: all its sheets are

@@ -2,7 +2,7 @@
 #![tactic(auto)]
 
 ghost use Rattle.std.specs.Prelude.{◌≡◌, ◌≤◌, ◌<◌, ◌*◌, ltb, length, replicate};
-ghost use Rattle.judge_result.specs.Judged.{least-room};
+ghost use Rattle.judge_result.specs.Judged.{least_room};
 ghost use Rattle.judge_ends.specs.Sets.{most_sheets, start_of, ends_fall_back, has_wrong_ends, refusal_of_set, unjudged, set_judgement};
 
 use judge_result::{Judgement, LEAST_ROOM, REFUSED};
@@ -66,7 +66,7 @@ fn wrong_ends(count: usize, ends: &[usize]) -> bool
 
 // Whether there are fewer words than a stretch for each sheet. There may be any number of sheets, so nothing is multiplied.
 fn too_short(words: usize, sheets: usize) -> bool
-    ensures { result ≡ ltb words (sheets * least-room) }
+    ensures { result ≡ ltb words (sheets * least_room) }
 {
     words / LEAST_ROOM < sheets
 }
@@ -89,7 +89,7 @@ pub fn set_refusal(bytes: &[u8], ends: &[usize], out: &[i32]) -> usize
 // Where the stretch of a place starts in the lent words.
 pub fn first_word(place: usize) -> usize
     requires { place < most_sheets }
-    ensures { result ≡ place * least-room }
+    ensures { result ≡ place * least_room }
 {
     place * LEAST_ROOM
 }

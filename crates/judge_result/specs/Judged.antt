@@ -4,20 +4,20 @@ use Rattle.sheet_format.specs.Table.{Table}
 use Rattle.sheet_format.specs.Line.{byte_lines}
 use Rattle.sheet_format.specs.Sheet.{sheet_refusal}
 use Rattle.sheet_table.specs.Tables.{table_refusal, table_of}
-use Rattle.query_meaning.specs.Facts.{fact-words, value-end, log_of, facts_refusal}
-use Rattle.query_meaning.specs.Evaluate.{answer-words}
+use Rattle.query_meaning.specs.Facts.{fact_words, value_end, log_of, facts_refusal}
+use Rattle.query_meaning.specs.Evaluate.{answer_word_count}
 use Rattle.case_verdicts.specs.Verdict.{Sheet, HasVerdict}
 use Rattle.case_verdicts.specs.Handed.{Handed}
 use Rattle.case_verdicts.specs.Sheets.{top, sheet_of}
 use Rattle.judge_result.specs.declared.Judgement.{Judgement}
 
 -- Causes, 13: so many words must be lent, whatever the verdict
-abbrev pub least-room : ℕ
-least-room = 1260
+abbrev pub least_room : ℕ
+least_room = 1260
 
 -- Meaning, of the missing answer: four numbers, unused ones 0
 abbrev pub answer_numbers : List ℕ → List ℕ
-answer_numbers t = t ++ replicate (answer-words - length t) 0
+answer_numbers t = t ++ replicate (answer_word_count - length t) 0
 
 -- what is returned: verdict, number, line, fact count, missing answer
 abbrev pub judgement : ℕ → ℕ → ℕ → ℕ → List ℕ → Judgement
@@ -31,13 +31,13 @@ pub record SheetSent (t : Table) (s : List ℕ) (out after : List ℤ) (r : Judg
 
 -- Causes, 13: too few words are lent
 pub record Short (out after : List ℤ) (r : Judgement) : Type 0 where
-  pub few : length out < least-room
+  pub few : length out < least_room
   pub result : r ≡ judgement 9 13 0 0 []
   pub lent : after ≡ out
 
 -- Meaning, of verdicts 0 and 2: what the verdict says holds over all logs, and nothing is written
 pub record Said (x : Sheet) (v : ℕ) (out after : List ℤ) (r : Judgement) : Type 0 where
-  pub room : least-room ≤ length out
+  pub room : least_room ≤ length out
   pub holds : HasVerdict x v
   pub result : r ≡ judgement v 0 0 0 []
   pub lent : after ≡ out
@@ -45,12 +45,12 @@ pub record Said (x : Sheet) (v : ℕ) (out after : List ℤ) (r : Judgement) : T
 -- Meaning, of verdict 1 and of the case handed over. Which case it is is free; what holds of it is `Handed`. It is read back from the words
 -- by the count that is returned: those words are facts as evaluation takes them, so each has its unused words 0 and they ascend strictly.
 pub record HandedOver (x : Sheet) (out after : List ℤ) (r : Judgement) : Type 0 where
-  pub room : least-room ≤ length out
-  pub handed : Handed top value-end x
+  pub room : least_room ≤ length out
+  pub handed : Handed top value_end x
   pub result : r ≡ judgement 1 0 0 (length handed.log) handed.answer
-  pub facts : (facts_refusal x.table (take (fact-words * r.count) after)).number ≡ 0
-  pub read : log_of x.table (take (fact-words * r.count) after) ≡ handed.log
-  pub rest : drop (fact-words * r.count) after ≡ drop (fact-words * r.count) out
+  pub facts : (facts_refusal x.table (take (fact_words * r.count) after)).number ≡ 0
+  pub read : log_of x.table (take (fact_words * r.count) after) ≡ handed.log
+  pub rest : drop (fact_words * r.count) after ≡ drop (fact_words * r.count) out
   pub same : length after ≡ length out
 
 -- an accepted sheet's judgement

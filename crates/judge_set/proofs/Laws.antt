@@ -10,7 +10,7 @@ use lib.IntN.{ℤ}
 use lib.ListN.{length, get_or, take, drop, set, replicate, length-set, length-replicate}
 use lib.Seq.{length-take-le, take_at, drop_at, drop-drop, take-take, get_or-set_same, get_or-set_other}
 use Rattle.list_laws.proofs.Lists.{zeros_get}
-use Rattle.judge_result.specs.Judged.{least-room}
+use Rattle.judge_result.specs.Judged.{least_room}
 use Rattle.judge_result.specs.declared.Judgement.{Judgement}
 use Rattle.judge_ends.specs.declared.SetJudgement.{SetJudgement}
 use Rattle.judge_ends.specs.Sets.{Promise, most_sheets, start_of, sheet_at, stretch_at, refusal_of_set, unjudged, set_judgement, JudgedTo, SetJudged}
@@ -25,28 +25,28 @@ judged_as J {s} {t} {a} {b} {c} {d} {i} {j} p q r e h =
 -- a part that was lent comes back to its own place
 module _ (J : Promise) (k : ℕ) (bytes ends : List ℕ) (out part : List ℤ) (start : ℕ) (j : Judgement) where
   abbrev Comes : ℕ → Type 0
-  Comes first = length part ≡ length (mid_of first (first + least-room - first) out) → J (take (get_or ends k 0 - start) (drop start bytes)) (mid_of first (first + least-room - first) out) part j → JudgedAt J k bytes ends out (put_mid first (first + least-room - first) out part) j
+  Comes first = length part ≡ length (mid_of first (first + least_room - first) out) → J (take (get_or ends k 0 - start) (drop start bytes)) (mid_of first (first + least_room - first) out) part j → JudgedAt J k bytes ends out (put_mid first (first + least_room - first) out part) j
 
-  module _ (room : k * least-room + least-room ≤ length out) (at : start ≡ start_of ends k) where
+  module _ (room : k * least_room + least_room ≤ length out) (at : start ≡ start_of ends k) where
     abbrev width : ℕ
-    width = k * least-room + least-room - k * least-room
+    width = k * least_room + least_room - k * least_room
 
-    is-width : width ≡ least-room
+    is-width : width ≡ least_room
     is-width = omega arith
 
-    own : Comes (k * least-room)
+    own : Comes (k * least_room)
     own same judged =
-        let full = same ∙ mid_len (k * least-room) (k * least-room + least-room) out room in
-        let behind = post_of (k * least-room) width out in
-        let front = length-take-le (k * least-room) out (omega arith) in
-        let back = ap (λ (l : List ℤ). take least-room l) (drop_at (take (k * least-room) out) (part ++ behind) (k * least-room) front) ∙ take_at part behind least-room (full ∙ is-width) in
+        let full = same ∙ mid_len (k * least_room) (k * least_room + least_room) out room in
+        let behind = post_of (k * least_room) width out in
+        let front = length-take-le (k * least_room) out (omega arith) in
+        let back = ap (λ (l : List ℤ). take least_room l) (drop_at (take (k * least_room) out) (part ++ behind) (k * least_room) front) ∙ take_at part behind least_room (full ∙ is-width) in
         record {
-          judged = judged_as J (ap (λ n. take (get_or ends k 0 - n) (drop n bytes)) at) (ap (λ n. take n (drop (k * least-room) out)) is-width) (sym back) refl judged;
-          before = take_put (k * least-room) width out part (omega arith);
-          behind = drop_put (k * least-room) (k * least-room + least-room) out part (omega arith) room full;
+          judged = judged_as J (ap (λ n. take (get_or ends k 0 - n) (drop n bytes)) at) (ap (λ n. take n (drop (k * least_room) out)) is-width) (sym back) refl judged;
+          before = take_put (k * least_room) width out part (omega arith);
+          behind = drop_put (k * least_room) (k * least_room + least_room) out part (omega arith) room full;
         }
 
-    pub placed : (first : ℕ) → first ≡ k * least-room → Comes first
+    pub placed : (first : ℕ) → first ≡ k * least_room → Comes first
     placed first e = subst Comes (sym e) own
 
 -- ---- one place more
@@ -59,11 +59,11 @@ front-part (suc a) b (suc m) [] le = refl
 front-part (suc a) b (suc m) (x ∷ xs) le = front-part a b m xs (omega arith)
 
 -- the stretches before a place are in front of its own
-stretch_before : (k n : ℕ) (xs ys : List ℤ) → k < n → take (n * least-room) xs ≡ take (n * least-room) ys → stretch_at xs k ≡ stretch_at ys k
+stretch_before : (k n : ℕ) (xs ys : List ℤ) → k < n → take (n * least_room) xs ≡ take (n * least_room) ys → stretch_at xs k ≡ stretch_at ys k
 stretch_before k n xs ys lt e =
-    sym (front-part (k * least-room) least-room (n * least-room) xs (omega arith))
-    ∙ ap (λ (l : List ℤ). take least-room (drop (k * least-room) l)) e
-    ∙ front-part (k * least-room) least-room (n * least-room) ys (omega arith)
+    sym (front-part (k * least_room) least_room (n * least_room) xs (omega arith))
+    ∙ ap (λ (l : List ℤ). take least_room (drop (k * least_room) l)) e
+    ∙ front-part (k * least_room) least_room (n * least_room) ys (omega arith)
 
 pub judged-none : (J : Promise) (bytes ends : List ℕ) (out : List ℤ) → JudgedTo J 0 bytes ends out out (replicate most_sheets (unjudged 0))
 judged-none J bytes ends out = record {
@@ -83,13 +83,13 @@ module _ (J : Promise) (n : ℕ) (bytes ends : List ℕ) (out mid after : List �
   here : J (sheet_at bytes ends n) (stretch_at out n) (stretch_at after n) (get_or (set js n j) n (unjudged 0))
   here =
       let l = t.places in
-      judged_as J refl (ap (λ (ws : List ℤ). take least-room ws) t.rest) refl (sym (get_or-set_same js n j (unjudged 0) (omega arith)))
+      judged_as J refl (ap (λ (ws : List ℤ). take least_room ws) t.rest) refl (sym (get_or-set_same js n j (unjudged 0) (omega arith)))
       p.judged
 
-  behind : drop ((n + 1) * least-room) after ≡ drop ((n + 1) * least-room) out
+  behind : drop ((n + 1) * least_room) after ≡ drop ((n + 1) * least_room) out
   behind =
-      let e : (n + 1) * least-room ≡ n * least-room + least-room = omega arith in
-      rw (e, p.behind, ← drop-drop least-room (n * least-room) mid, t.rest, drop-drop least-room (n * least-room) out) refl
+      let e : (n + 1) * least_room ≡ n * least_room + least_room = omega arith in
+      rw (e, p.behind, ← drop-drop least_room (n * least_room) mid, t.rest, drop-drop least_room (n * least_room) out) refl
 
   pub judged-more : length after ≡ length mid → JudgedTo J (n + 1) bytes ends out after (set js n j)
   judged-more same = record {

@@ -1,9 +1,9 @@
 // What programs read: the bytes that a reader has, as many as there is room for, and those of a file that an argument names.
 #![tactic(auto)]
 
-ghost use Rattle.std.specs.Prelude.{◌≡◌, ◌≤◌, ◌<◌, length, take, IfOk, IfSome};
+ghost use Rattle.std.specs.Prelude.{◌≡◌, ℕ, ◌≤◌, ◌<◌, length, take, IfOk, OnErr, IfSome};
 ghost use Rattle.std.specs.Io.{ReadsAtMost};
-ghost use Rattle.std.specs.Io.KnownBytes.{Consumes, IsAtEnd};
+ghost use Rattle.std.specs.Io.KnownBytes.{Consumes, IsAtEnd, Keeps};
 
 use std::env::{Env, FillError};
 use std::io::{Cursor, Error, ErrorKind, Read, Write};
@@ -29,10 +29,12 @@ pub struct NamedFile {
 }
 
 // Reads until `out` is full or the reader is at its end, however few bytes each read gives; returns how many bytes stand at the start of `out`.
+// Where a read fails, what was read before it stands there.
 pub fn read_up_to<R: Read>(reader: &mut R, out: &mut [u8]) -> io::Result<usize>
     ensures within { ReadsAtMost result out.new }
     ensures bytes { IfOk result (λ n. Consumes (R.remaining reader.old) (R.remaining reader.new) (take n out.new)) }
     ensures end { IfOk result (λ n. n < length out.new → IsAtEnd (R.remaining reader.new)) }
+    ensures failed { OnErr result ((n : ℕ) × (n < length out.new) × Consumes (R.remaining reader.old) (R.remaining reader.new) (take n out.new)) }
 {
     let mut done = 0;
     while done < out.len() {
@@ -64,6 +66,7 @@ fn read_some<R: Read>(reader: &mut R, out: &mut [u8]) -> io::Result<usize>
     ensures within { ReadsAtMost result out.new }
     ensures bytes { IfOk result (λ n. Consumes (R.remaining reader.old) (R.remaining reader.new) (take n out.new)) }
     ensures end { IfOk result (λ n. n ≡ 0 → 0 < length out.new → IsAtEnd (R.remaining reader.new)) }
+    ensures failed { OnErr result (Keeps (R.remaining reader.old) (R.remaining reader.new)) }
 {
     for _ in 0..u64::MAX {
         match reader.read(out) {

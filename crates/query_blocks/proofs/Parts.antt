@@ -8,8 +8,8 @@ use lib.IntN.{ℤ, pos}
 use lib.ListN.{length, drop, get_or, drop_of_length-le, length-drop, length-map, get_or-map}
 use lib.Seq.{get_or-drop}
 use borrow.Author.Tests.{lt-ltb, le-ltb, eq-eqb, ne_eqb}
-use Rattle.query_layout.specs.Layout.{block-head, block-width}
-use Rattle.sheet_format.specs.Limits.{most-atoms}
+use Rattle.query_layout.specs.Layout.{block_head, block_width}
+use Rattle.sheet_format.specs.Limits.{most_atoms}
 use Rattle.list_laws.proofs.Lists.{drop-next}
 use Rattle.sheet_format.proofs.WordLines.{lines-length}
 use Rattle.sheet_format.specs.Line.{Line, null, natural, word_lines}
@@ -26,17 +26,17 @@ use Rattle.query_blocks.specs.Parts.{AcceptedLines, HeadAt, term_number_at, entr
 -- ---- a number by its place
 
 module _ (ws : List ℤ) (h x : ℕ) where
-  pub entry-relation : x < block-head → x % 5 ≡ 0 → natural (get_or ws (7 * (h + 1 + x / 5) + 2) (pos 0)) ≡ entry_of ws h x
+  pub entry-relation : x < block_head → x % 5 ≡ 0 → natural (get_or ws (7 * (h + 1 + x / 5) + 2) (pos 0)) ≡ entry_of ws h x
   unfolding entry_of
-  entry-relation lt e = rw (lt-ltb x block-head lt, eq-eqb (x % 5) 0 e) refl
+  entry-relation lt e = rw (lt-ltb x block_head lt, eq-eqb (x % 5) 0 e) refl
 
-  pub entry-term : x < block-head → (x % 5 ≡ 0 → ⊥) → term_number_at ws (7 * (h + 1 + x / 5) + 2 + x % 5) ≡ entry_of ws h x
+  pub entry-term : x < block_head → (x % 5 ≡ 0 → ⊥) → term_number_at ws (7 * (h + 1 + x / 5) + 2 + x % 5) ≡ entry_of ws h x
   unfolding entry_of
-  entry-term lt e = rw (lt-ltb x block-head lt, ne_eqb (x % 5) 0 e) refl
+  entry-term lt e = rw (lt-ltb x block_head lt, ne_eqb (x % 5) 0 e) refl
 
-  pub entry-head : block-head ≤ x → term_number_at ws (7 * h + 2 + (x - block-head)) ≡ entry_of ws h x
+  pub entry-head : block_head ≤ x → term_number_at ws (7 * h + 2 + (x - block_head)) ≡ entry_of ws h x
   unfolding entry_of
-  entry-head le = rw (le-ltb x block-head le) refl
+  entry-head le = rw (le-ltb x block_head le) refl
 
 -- ---- lines
 
@@ -159,7 +159,7 @@ after ws h = atoms (drop (h + 1) (word_lines ws))
 term-at : (ts : List ℤ) (c : ℕ) → term_number (as_term (get_or ts c (pos 0))) ≡ term_number (term_at (map as_term ts) c)
 term-at ts c = ap term_number (sym (get_or-map as_term ts c (pos 0)))
 
-module _ (ws : List ℤ) (h : ℕ) (lt : h < length ws / 7) (a : AcceptedLines (word_lines ws)) (blk : List ℕ) (each : (x : ℕ) → x < block-width → get_or blk x 0 ≡ entry_of ws h x) where
+module _ (ws : List ℤ) (h : ℕ) (lt : h < length ws / 7) (a : AcceptedLines (word_lines ws)) (blk : List ℕ) (each : (x : ℕ) → x < block_width → get_or blk x 0 ≡ entry_of ws h x) where
   -- atom j is line h + 1 + j
   atom-inside : (j : ℕ) → j < length (after ws h) → h + 1 + j < length ws / 7
   unfolding after
@@ -175,7 +175,7 @@ module _ (ws : List ℤ) (h : ℕ) (lt : h < length ws / 7) (a : AcceptedLines (
       ap atom_of (sym ((atoms_get (drop (h + 1) (word_lines ws)) j k).1 ∙ get_or-drop (h + 1) (word_lines ws) j []))
       ∙ sym (get_or-map atom_of (after ws h) j [])
 
-  relation-word : (j : ℕ) → j < most-atoms → h + 1 + j < length ws / 7 → get_or blk (j * 5) 0 ≡ natural (second (get_or (word_lines ws) (h + 1 + j) []))
+  relation-word : (j : ℕ) → j < most_atoms → h + 1 + j < length ws / 7 → get_or blk (j * 5) 0 ≡ natural (second (get_or (word_lines ws) (h + 1 + j) []))
   relation-word j few p =
       let e : j * 5 / 5 ≡ j = omega arith in
       each (j * 5) (omega arith)
@@ -183,7 +183,7 @@ module _ (ws : List ℤ) (h : ℕ) (lt : h < length ws / 7) (a : AcceptedLines (
       ∙ ap (λ n. natural (get_or ws (7 * (h + 1 + n) + 2) (pos 0))) e
       ∙ ap natural (sym (second_word ws (h + 1 + j) p (formed ws (h + 1 + j) p a)))
 
-  term-place : (j : ℕ) → j < most-atoms → h + 1 + j < length ws / 7 → (c : ℕ) → c < 4 → get_or blk (j * 5 + 1 + c) 0 ≡ term_number (term_at (map as_term (terms (get_or (word_lines ws) (h + 1 + j) []))) c)
+  term-place : (j : ℕ) → j < most_atoms → h + 1 + j < length ws / 7 → (c : ℕ) → c < 4 → get_or blk (j * 5 + 1 + c) 0 ≡ term_number (term_at (map as_term (terms (get_or (word_lines ws) (h + 1 + j) []))) c)
   term-place j few p c four =
       let e : 7 * (h + 1 + (j * 5 + 1 + c) / 5) + 2 + (j * 5 + 1 + c) % 5 ≡ 7 * (h + 1 + j) + 3 + c = omega arith in
       each (j * 5 + 1 + c) (omega arith)
@@ -192,16 +192,16 @@ module _ (ws : List ℤ) (h : ℕ) (lt : h < length ws / 7) (a : AcceptedLines (
       ∙ ap (λ z. term_number (as_term z)) (sym (term-word ws (h + 1 + j) p (formed ws (h + 1 + j) p a) c four))
       ∙ term-at (terms (get_or (word_lines ws) (h + 1 + j) [])) c
 
-  head-place : (p : ℕ) → p < 4 → get_or blk (block-head + p) 0 ≡ term_number (term_at (map as_term (rest (get_or (word_lines ws) h []))) p)
+  head-place : (p : ℕ) → p < 4 → get_or blk (block_head + p) 0 ≡ term_number (term_at (map as_term (rest (get_or (word_lines ws) h []))) p)
   head-place p four =
-      let e : 7 * h + 2 + (block-head + p - block-head) ≡ 7 * h + 2 + p = omega arith in
-      each (block-head + p) (omega arith)
-      ∙ sym (entry-head ws h (block-head + p) (omega arith))
+      let e : 7 * h + 2 + (block_head + p - block_head) ≡ 7 * h + 2 + p = omega arith in
+      each (block_head + p) (omega arith)
+      ∙ sym (entry-head ws h (block_head + p) (omega arith))
       ∙ ap (term_number_at ws) e
       ∙ ap (λ z. term_number (as_term z)) (sym (rest-word ws h lt (formed ws h lt a) p (omega arith)))
       ∙ term-at (rest (get_or (word_lines ws) h [])) p
 
-  pub block-numbers : (n : ℕ) → length blk ≡ block-width → length (atoms (drop (h + 1) (word_lines ws))) ≤ most-atoms → n ≡ length (atoms (drop (h + 1) (word_lines ws)))
+  pub block-numbers : (n : ℕ) → length blk ≡ block_width → length (atoms (drop (h + 1) (word_lines ws))) ≤ most_atoms → n ≡ length (atoms (drop (h + 1) (word_lines ws)))
       → BlockNumbers blk n (block_of (get_or (word_lines ws) h []) (drop (h + 1) (word_lines ws)))
   unfolding after
   block-numbers n s few e =
@@ -214,12 +214,12 @@ module _ (ws : List ℤ) (h : ℕ) (lt : h < length ws / 7) (a : AcceptedLines (
         head = head-place;
       }
 
-pub found-block : (table : Table) (ws : List ℤ) (k h n : ℕ) (blk : List ℕ) → (refusal_of table (word_lines ws)).number ≡ 0 → h < length ws / 7 → HeadAt (word_lines ws) k h → length blk ≡ block-width → ((x : ℕ) → x < block-width → get_or blk x 0 ≡ entry_of ws h x)
-    → (length (atoms (drop (h + 1) (word_lines ws))) ≤ most-atoms → n ≡ length (atoms (drop (h + 1) (word_lines ws)))) → BlockFound table (word_lines ws) k true n blk
+pub found-block : (table : Table) (ws : List ℤ) (k h n : ℕ) (blk : List ℕ) → (refusal_of table (word_lines ws)).number ≡ 0 → h < length ws / 7 → HeadAt (word_lines ws) k h → length blk ≡ block_width → ((x : ℕ) → x < block_width → get_or blk x 0 ≡ entry_of ws h x)
+    → (length (atoms (drop (h + 1) (word_lines ws))) ≤ most_atoms → n ≡ length (atoms (drop (h + 1) (word_lines ws)))) → BlockFound table (word_lines ws) k true n blk
 found-block table ws k h n blk a lt f s each count =
     let (i, e) = f.here (inside ws h lt (table, a)) in
-    let w : length (map atom_of (atoms (drop (h + 1) (word_lines ws)))) ≤ most-atoms = subst (λ b. length b.atoms ≤ most-atoms) e (accepted-fine table (word_lines ws) a k i).few in
-    let few : length (atoms (drop (h + 1) (word_lines ws))) ≤ most-atoms = simp length-map at w in
+    let w : length (map atom_of (atoms (drop (h + 1) (word_lines ws)))) ≤ most_atoms = subst (λ b. length b.atoms ≤ most_atoms) e (accepted-fine table (word_lines ws) a k i).few in
+    let few : length (atoms (drop (h + 1) (word_lines ws))) ≤ most_atoms = simp length-map at w in
     record {
       found = sym i;
       numbers = λ _. subst (BlockNumbers blk n) (sym e) (block-numbers ws h lt (table, a) blk each n s few (count few));

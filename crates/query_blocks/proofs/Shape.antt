@@ -10,7 +10,7 @@ use lib.IntN.{ℤ, pos, negsuc}
 use lib.ListN.{length, length-map}
 use borrow.Author.Tests.{eqb-true, ltb-true, ltb-false, lt-ltb, le-ltb, not-true, not-false}
 use Rattle.query_layout.specs.Layout.{names}
-use Rattle.sheet_format.specs.Limits.{constant-end, most-atoms}
+use Rattle.sheet_format.specs.Limits.{constant_end, most_atoms}
 use Rattle.sheet_format.specs.Table.{Table, columns_of}
 use Rattle.sheet_format.specs.Line.{Line, all, null, natural}
 use Rattle.sheet_format.specs.Cause.{kind, rest, second, terms, term, is_term, or_out, term_of, scan, start, next, is_head, atoms, same, occurs, bound, unsafe, heads, refusal_of}
@@ -84,15 +84,15 @@ constant-word : (c : ℕ) (z : ℤ) → con c ≡ as_term z → z ≡ pos c
 constant-word c (pos n) e = ap pos (cc)
 constant-word c (negsuc n) e = let z : ◌≡◌ {A = ℕ} 0 1 = cc in absurd (omega arith)
 
-constant-range : (n : ℕ) → term (pos n) ≡ true → n < constant-end
+constant-range : (n : ℕ) → term (pos n) ≡ true → n < constant_end
 unfolding term_of
-constant-range n e = go (ltb n constant-end) refl e
+constant-range n e = go (ltb n constant_end) refl e
   where
-    go : (t : Bool) → ltb n constant-end ≡ t → is_term (or_out t (Constant n)) ≡ true → n < constant-end
-    go true f e = ltb-true n constant-end f
+    go : (t : Bool) → ltb n constant_end ≡ t → is_term (or_out t (Constant n)) ≡ true → n < constant_end
+    go true f e = ltb-true n constant_end f
     go false f e = no_way e
 
-pub constant-below : (ts : List ℤ) → all term ts ≡ true → (c : ℕ) → In (con c) (map as_term ts) → c < constant-end
+pub constant-below : (ts : List ℤ) → all term ts ≡ true → (c : ℕ) → In (con c) (map as_term ts) → c < constant_end
 constant-below ts h c i =
     let (z, j, e) = from-map as_term ts (con c) i in
     constant-range c (ap term (sym (constant-word c z e)) ∙ all_in term ts z h j)
@@ -126,8 +126,8 @@ bound_in ls n h =
 pub record AcceptedBlock (table : Table) (b : Block) : Type 0 where
   pub shaped : Shaped table b
   pub some : 1 ≤ length b.atoms
-  pub few : length b.atoms ≤ most-atoms
-  pub small : (c : ℕ) → In (con c) b.head → c < constant-end
+  pub few : length b.atoms ≤ most_atoms
+  pub small : (c : ℕ) → In (con c) b.head → c < constant_end
 
 atom-columns : (table : Table) (l : Line) → AtomLine table l → length (map as_term (terms l)) ≡ columns_of table (pos (natural (second l)))
 atom-columns table l a =
@@ -138,7 +138,7 @@ some-lines : (ls : List Line) → null ls ≡ false → 1 ≤ length ls
 some-lines [] e = no_way (sym e)
 some-lines (l ∷ ls) e = omega arith
 
-block-fine : (table : Table) (l : Line) (ls : List Line) → HeadLine l → AtomLines table (atoms ls) → length (atoms ls) ≤ most-atoms → null (atoms ls) ≡ false → all (bound (atoms ls)) (rest l) ≡ true → AcceptedBlock table (block_of l ls)
+block-fine : (table : Table) (l : Line) (ls : List Line) → HeadLine l → AtomLines table (atoms ls) → length (atoms ls) ≤ most_atoms → null (atoms ls) ≡ false → all (bound (atoms ls)) (rest l) ≡ true → AcceptedBlock table (block_of l ls)
 block-fine table l ls d a few n b =
     record {
       shaped = record {

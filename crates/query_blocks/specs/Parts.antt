@@ -1,6 +1,6 @@
 -- The parts of reading a block: where its head is, how many atoms follow it, and each of its numbers by its word.
 use Rattle.std.specs.Prelude.{◌≡◌, true, false, cond, List, [], ℕ, ◌+◌, ◌-◌, ◌*◌, ◌/◌, ◌%◌, ◌≤◌, ◌<◌, eqb, ltb, ℤ, pos, length, get_or, drop}
-use Rattle.query_layout.specs.Layout.{block-head}
+use Rattle.query_layout.specs.Layout.{block_head}
 use Rattle.sheet_format.specs.Table.{Table}
 use Rattle.sheet_format.specs.Line.{Line, natural}
 use Rattle.sheet_format.specs.Cause.{refusal_of}
@@ -23,6 +23,6 @@ term_number_at ws i = term_number (as_term (get_or ws i (pos 0)))
 -- number x of a block whose head is line h: six lines of five numbers each, a relation and four terms, and then the head's four terms
 unfoldable pub entry_of : List ℤ → ℕ → ℕ → ℕ
 entry_of ws h x =
-    cond (ltb x block-head)
+    cond (ltb x block_head)
     (cond (eqb (x % 5) 0) (natural (get_or ws (7 * (h + 1 + x / 5) + 2) (pos 0))) (term_number_at ws (7 * (h + 1 + x / 5) + 2 + x % 5)))
-    (term_number_at ws (7 * h + 2 + (x - block-head)))
+    (term_number_at ws (7 * h + 2 + (x - block_head)))

@@ -2,8 +2,8 @@
 #![tactic(auto)]
 
 ghost use Rattle.std.specs.Prelude.{◌≡◌, false, ℕ, ◌+◌, ◌/◌, ◌<◌, ◌≤◌, pos, length, get_or, drop};
-ghost use Rattle.query_layout.specs.Layout.{block-width};
-ghost use Rattle.sheet_format.specs.Limits.{most-atoms};
+ghost use Rattle.query_layout.specs.Layout.{block_width};
+ghost use Rattle.sheet_format.specs.Limits.{most_atoms};
 ghost use Rattle.sheet_format.specs.Table.{Table};
 ghost use Rattle.sheet_format.specs.Line.{natural, word_lines};
 ghost use Rattle.sheet_format.specs.Cause.{kind_of, is_head, is_atom, atoms, refusal_of};
@@ -98,7 +98,7 @@ fn head_line(ws: &[i32], k: usize) -> usize
 // How many atoms there are from a line on, at most six.
 fn atom_count(ws: &[i32], from: usize) -> usize
     requires { from ≤ length ws.now / 7 }
-    ensures { AcceptedLines (word_lines ws.now) → length (atoms (drop from (word_lines ws.now))) ≤ most-atoms → result ≡ length (atoms (drop from (word_lines ws.now))) }
+    ensures { AcceptedLines (word_lines ws.now) → length (atoms (drop from (word_lines ws.now))) ≤ most_atoms → result ≡ length (atoms (drop from (word_lines ws.now))) }
 {
     let n = ws.len() / LINE_WORDS;
     let mut j = 0;
@@ -117,7 +117,7 @@ fn atom_count(ws: &[i32], from: usize) -> usize
 
 // Number x of the block whose head is line h.
 fn entry(ws: &[i32], h: usize, x: usize) -> usize
-    requires { (h < length ws.now / 7) × (x < block-width) }
+    requires { (h < length ws.now / 7) × (x < block_width) }
     ensures { result ≡ entry_of ws.now h x }
 {
     if x < HEAD_AT {
@@ -133,7 +133,7 @@ fn entry(ws: &[i32], h: usize, x: usize) -> usize
 // All numbers of the block whose head is line h.
 fn entries(ws: &[i32], h: usize) -> [usize; BLOCK_NUMBERS]
     requires { h < length ws.now / 7 }
-    ensures { (length result ≡ block-width) × ((x : ℕ) → x < block-width → get_or result x 0 ≡ entry_of ws.now h x) }
+    ensures { (length result ≡ block_width) × ((x : ℕ) → x < block_width → get_or result x 0 ≡ entry_of ws.now h x) }
 {
     let mut numbers = [0; BLOCK_NUMBERS];
     let mut x = 0;

@@ -11,23 +11,23 @@ use borrow.Author.Tests.{lt-ltb, le-ltb}
 use lib.Dec.{ltb}
 use lib.ListN.{length, get_or, set, take, length-set, get_or-eq_default}
 use lib.Seq.{get_or-set_same, get_or-set_other, get_or-take, length-take-le}
-use Rattle.query_layout.specs.Layout.{block-head, names}
+use Rattle.query_layout.specs.Layout.{block_head, names}
 use Rattle.list_laws.specs.Order.{SameBefore}
 use Rattle.query_join.specs.Joins.{value_of, Becomes, AtomMet, head_row, Given}
 use Rattle.query_answers.specs.Answers.{column}
 use Rattle.query_join.proofs.Laws.{value-variable, value-constant}
 use Rattle.query_answers.proofs.Rows.{given-column, head_at}
-use Rattle.sheet_format.specs.Limits.{constant-end}
-use Rattle.query_meaning.specs.Facts.{value-end}
+use Rattle.sheet_format.specs.Limits.{constant_end}
+use Rattle.query_meaning.specs.Facts.{value_end}
 use Rattle.query_containment.specs.Containment.{frozen_at, BelowFrozen, NoneFrozen, OwnValue, OwnValues, under, atom_under, Fronted, FactPut, AtomsPut, Contained}
 
 -- ---- small numbers
 
 -- no limit of the format reaches the frozen values: a change of the limits moves them
-pub term-small : (c : ℕ) → c < constant-end → c + names < frozen_at
+pub term-small : (c : ℕ) → c < constant_end → c + names < frozen_at
 term-small c lt = omega arith
 
-pub value-small : (v : ℕ) → v < value-end → v < frozen_at
+pub value-small : (v : ℕ) → v < value_end → v < frozen_at
 value-small v lt = omega arith
 
 pub small_all : (s : List ℕ) (i : ℕ) → length s ≤ i → ((j : ℕ) → j < i → get_or s j 0 < frozen_at) → BelowFrozen s
@@ -74,7 +74,7 @@ pub thaw-value : (q : List ℕ) (n : ℕ) (facts row w : List ℕ) (k x y : ℕ)
 thaw-value q n facts row w k x y small le lt own g a =
     ⊎_elim (λ e. ap (thaw g.val) e ∙ thaw-own g.val x) (λ o. side o.0 o.1 o.2 o.3) own.is
   where
-    side : (p : ℕ) → p < k → get_or q (block-head + p) 0 ≡ x → y ≡ get_or row p 0 → thaw g.val y ≡ g.val x
+    side : (p : ℕ) → p < k → get_or q (block_head + p) 0 ≡ x → y ≡ get_or row p 0 → thaw g.val y ≡ g.val x
     side p p-lt e s =
         ap (thaw g.val) s ∙ thaw-small g.val (get_or row p 0) (small.all p) ∙ a.same p p-lt ∙ sym (given-column q n facts w g p (omega arith))
         ∙ ap (value_of g.val) e ∙ value-variable g.val x lt
@@ -163,9 +163,9 @@ module _ (q l facts row : List ℕ) (n ln k m : ℕ) (vals F : List ℕ) (plain 
     where
       same : (p : ℕ) → p < 4 → column l (λ x. thaw g.val (f.val x)) p ≡ column q g.val p
       same p lt =
-          sym (thaw-term g.val f.val (get_or l (block-head + p) 0) (plain.list.all (block-head + p)))
+          sym (thaw-term g.val f.val (get_or l (block_head + p) 0) (plain.list.all (block_head + p)))
           ∙ ap (thaw g.val) (given-column l ln F (head_row (under vals) q) f p lt ∙ head_at q (under vals) p lt)
-          ∙ thaw-question (block-head + p)
+          ∙ thaw-question (block_head + p)
 
 pub covers : (q l facts row : List ℕ) (n ln k m : ℕ) (vals F : List ℕ) → NoneFrozen q l facts row → k ≤ 4 → OwnValues q row k vals → Laid q vals n facts F m
     → Given l ln F (head_row (under vals) q) → Contained q n l ln facts row k

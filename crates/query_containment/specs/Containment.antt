@@ -1,13 +1,13 @@
 -- A question frozen: its variables become values, and its atoms facts. What the list is given by these facts it is given by any that meet the question.
 use Rattle.std.specs.Prelude.{◌≡◌, List, [], ◌∷◌, ◌⊎◌, ℕ, ◌+◌, ◌*◌, ◌<◌, length, get_or}
-use Rattle.query_layout.specs.Layout.{block-head, names}
+use Rattle.query_layout.specs.Layout.{block_head, names}
 use Rattle.list_laws.specs.Order.{SameBefore}
-use Rattle.query_meaning.specs.Facts.{value-end}
+use Rattle.query_meaning.specs.Facts.{value_end}
 use Rattle.query_join.specs.Joins.{value_of, Becomes, Given}
 
 -- the value of the first frozen variable: it follows every value of facts and every term of a block
 abbrev pub frozen_at : ℕ
-frozen_at = value-end + names
+frozen_at = value_end + names
 
 -- each number is below the values that stand for variables
 pub record BelowFrozen (s : List ℕ) : Type 0 where
@@ -22,7 +22,7 @@ pub record NoneFrozen (q l facts row : List ℕ) : Type 0 where
 
 -- what variable x becomes: a value of its own, or the row's in one of the first k columns, where the head has x
 pub record OwnValue (q row : List ℕ) (k x y : ℕ) : Type 0 where
-  pub is : (y ≡ frozen_at + x) ⊎ ((p : ℕ) × (p < k) × (get_or q (block-head + p) 0 ≡ x) × (y ≡ get_or row p 0))
+  pub is : (y ≡ frozen_at + x) ⊎ ((p : ℕ) × (p < k) × (get_or q (block_head + p) 0 ≡ x) × (y ≡ get_or row p 0))
 
 pub record OwnValues (q row : List ℕ) (k : ℕ) (vals : List ℕ) : Type 0 where
   pub each : (x : ℕ) → x < names → OwnValue q row k x (get_or vals x 0)

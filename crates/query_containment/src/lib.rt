@@ -8,7 +8,7 @@
 ghost use Rattle.std.specs.Prelude.{◌≡◌, true, ◌+◌, ◌*◌, ◌≤◌, ◌<◌, min, length};
 ghost use Rattle.tableau_layout.specs.Layout.{tableau_numbers};
 ghost use Rattle.query_layout.specs.Layout.{names};
-ghost use Rattle.sheet_format.specs.Limits.{most-atoms};
+ghost use Rattle.sheet_format.specs.Limits.{most_atoms};
 ghost use Rattle.query_join.specs.Joins.{value_of, head_row};
 ghost use Rattle.query_containment.specs.Containment.{BelowFrozen, NoneFrozen, OwnValue, OwnValues, under, atom_under, Fronted, FactPut, AtomsPut, Contained};
 
@@ -98,7 +98,7 @@ fn value(t: usize, vals: &[usize; NAMES]) -> usize
 
 // Atom j as a fact.
 fn atom(q: &[usize; BLOCK_NUMBERS], j: usize, vals: &[usize; NAMES]) -> [usize; 5]
-    requires { j < most-atoms }
+    requires { j < most_atoms }
     ensures { result ≡ atom_under q.now vals.now j }
 {
     let at = j * FACT_NUMBERS;
@@ -152,7 +152,7 @@ fn put_atoms(
     out: &mut [usize],
     m: usize,
 )
-    requires { (n ≤ most-atoms) × ((m + n) * 5 ≤ length out.old) }
+    requires { (n ≤ most_atoms) × ((m + n) * 5 ≤ length out.old) }
     ensures { AtomsPut q.now vals.now n m out.old out.new }
 {
     let mut j = 0;
@@ -175,7 +175,7 @@ fn is_covered(
 ) -> bool
     requires k_bound { (k ≤ 4) × (length facts.now ≤ tableau_numbers) }
     requires none_frozen { NoneFrozen q.now l.now facts.now row }
-    ensures { result ≡ true → Contained q.now (min qn most-atoms) l.now (min ln most-atoms) facts.now row k }
+    ensures { result ≡ true → Contained q.now (min qn most_atoms) l.now (min ln most_atoms) facts.now row k }
 {
     let n = query_join::few_atoms(qn);
     let m = facts.len() / FACT_NUMBERS;
@@ -197,7 +197,7 @@ pub fn covered_from(
     row: [usize; 4],
 ) -> usize
     ensures upper_bound { result ≤ 4 }
-    ensures contained { result < 4 → Contained q.now (min qn most-atoms) l.now (min ln most-atoms) facts.now row result }
+    ensures contained { result < 4 → Contained q.now (min qn most_atoms) l.now (min ln most_atoms) facts.now row result }
 {
     if TABLEAU_NUMBERS < facts.len() {
         return COLUMNS;

@@ -11,8 +11,8 @@ use borrow.Author.Tests.{lt-ltb, le-ltb, eq-eqb, ne_eqb}
 use lib.Dec.{ltb, eqb}
 use lib.ListN.{length, get_or, set, length-set}
 use lib.Seq.{get_or-set_same, get_or-set_other}
-use Rattle.query_layout.specs.Layout.{block-head, block-width, names}
-use Rattle.sheet_format.specs.Limits.{most-atoms}
+use Rattle.query_layout.specs.Layout.{block_head, block_width, names}
+use Rattle.sheet_format.specs.Limits.{most_atoms}
 use Rattle.query_join.specs.Joins.{value_of, Becomes, Given}
 use Rattle.query_join.specs.Parts.{column_term, column_value, FitBy, MarkedAlone, fits_all}
 use Rattle.query_join.proofs.Laws.{value-variable, value-constant}
@@ -147,12 +147,12 @@ chosen n P f = (λ j. pick j (dec_lt j n), λ j lt. picked j lt (dec_lt j n))
 
 -- the places of the terms of the first n atoms and of the head
 abbrev Counts : ℕ → ℕ → Type 0
-Counts n k = (k < block-width) × (((0 < k % 5) × (k < n * 5)) ⊎ (block-head ≤ k))
+Counts n k = (k < block_width) × (((0 < k % 5) × (k < n * 5)) ⊎ (block_head ≤ k))
 
 counts? : (n k : ℕ) → Dec (Counts n k)
-counts? n k = side (dec_lt k block-width) (dec_lt 0 (k % 5)) (dec_lt k (n * 5)) (dec_lt k block-head)
+counts? n k = side (dec_lt k block_width) (dec_lt 0 (k % 5)) (dec_lt k (n * 5)) (dec_lt k block_head)
   where
-    side : Dec (k < block-width) → Dec (0 < k % 5) → Dec (k < n * 5) → Dec (k < block-head) → Dec (Counts n k)
+    side : Dec (k < block_width) → Dec (0 < k % 5) → Dec (k < n * 5) → Dec (k < block_head) → Dec (Counts n k)
     side (no f) _ _ _ = no (λ h. f h.0)
     side (yes w) _ _ (no h) = yes (w, inr (omega arith))
     side (yes w) (yes t) (yes l) (yes _) = yes (w, inl (t, l))
@@ -161,21 +161,21 @@ counts? n k = side (dec_lt k block-width) (dec_lt 0 (k % 5)) (dec_lt k (n * 5)) 
 
 -- what the places are to have: the values of the facts chosen, and the row's
 unfoldable wanted : List ℕ → (ℕ → ℕ) → List ℕ → ℕ → ℕ
-wanted facts h w k = cond (ltb k block-head) (get_or facts (h (k / 5) * 5 + k % 5) 0) (get_or w (k - block-head) 0)
+wanted facts h w k = cond (ltb k block_head) (get_or facts (h (k / 5) * 5 + k % 5) 0) (get_or w (k - block_head) 0)
 
-wanted-atom : (facts : List ℕ) (h : ℕ → ℕ) (w : List ℕ) (j c : ℕ) → j < most-atoms → c < 4 → wanted facts h w (j * 5 + 1 + c) ≡ column_value facts (h j) c
+wanted-atom : (facts : List ℕ) (h : ℕ → ℕ) (w : List ℕ) (j c : ℕ) → j < most_atoms → c < 4 → wanted facts h w (j * 5 + 1 + c) ≡ column_value facts (h j) c
 unfolding wanted
 wanted-atom facts h w j c lt c_lt =
     let e : (j * 5 + 1 + c) / 5 ≡ j = omega arith in
     let m : (j * 5 + 1 + c) % 5 ≡ 1 + c = omega arith in
     let s : h j * 5 + (1 + c) ≡ h j * 5 + 1 + c = omega arith in
-    rw (lt-ltb (j * 5 + 1 + c) block-head (omega arith), e, m) (ap (λ x. get_or facts x 0) s)
+    rw (lt-ltb (j * 5 + 1 + c) block_head (omega arith), e, m) (ap (λ x. get_or facts x 0) s)
 
-wanted-head : (facts : List ℕ) (h : ℕ → ℕ) (w : List ℕ) (q : ℕ) → wanted facts h w (block-head + q) ≡ get_or w q 0
+wanted-head : (facts : List ℕ) (h : ℕ → ℕ) (w : List ℕ) (q : ℕ) → wanted facts h w (block_head + q) ≡ get_or w q 0
 unfolding wanted
 wanted-head facts h w q =
-    let e : block-head + q - block-head ≡ q = omega arith in
-    rw (le-ltb (block-head + q) block-head (omega arith), e)
+    let e : block_head + q - block_head ≡ q = omega arith in
+    rw (le-ltb (block_head + q) block_head (omega arith), e)
 
 -- what atom j becomes, and the fact that it was
 pub record FactChanged (blk facts : List ℕ) (v : ℕ → ℕ) (j y b f : ℕ) : Type 0 where
@@ -184,7 +184,7 @@ pub record FactChanged (blk facts : List ℕ) (v : ℕ → ℕ) (j y b f : ℕ) 
   pub met : Becomes blk facts v j was
   pub by : Replaces blk facts j y b was f
 
-module _ (blk facts : List ℕ) (n p y a b : ℕ) (few : n ≤ most-atoms) (in_p : p < 4) (is_name : y < names) (is_y : get_or blk (block-head + p) 0 ≡ y) (once : HeadOnce blk p)
+module _ (blk facts : List ℕ) (n p y a b : ℕ) (few : n ≤ most_atoms) (in_p : p < 4) (is_name : y < names) (is_y : get_or blk (block_head + p) 0 ≡ y) (once : HeadOnce blk p)
     (all : (j : ℕ) → j < n → AtomDominates blk facts j y a b) (w : List ℕ) (g : Given blk n facts w) (at_a : get_or w p 0 ≡ a) where
   y-is : g.val y ≡ a
   y-is = sym (value-variable g.val y is_name) ∙ ap (value_of g.val) (sym is_y) ∙ given-column blk n facts w g p in_p ∙ at_a
@@ -216,34 +216,34 @@ module _ (blk facts : List ℕ) (n p y a b : ℕ) (few : n ≤ most-atoms) (in_p
         side f (yes e) = value-here g.val y b (column_term blk j c) is_name e ∙ sym (f.changed e)
         side f (no e) = value_there g.val y b (column_term blk j c) e ∙ sym (s.met.columns c c_lt) ∙ sym (f.kept e)
 
-    start-head : (q : ℕ) → q < 4 → Start (block-head + q)
+    start-head : (q : ℕ) → q < 4 → Start (block_head + q)
     unfolding Start
     start-head q lt = inl (side (ℕ_discrete q p) ∙ sym (wanted-head facts h (set w p b) q))
       where
         long : length w ≡ 4
         long = given-length blk n facts w g
 
-        side : Dec (q ≡ p) → value_of (changed_at g.val y b) (get_or blk (block-head + q) 0) ≡ get_or (set w p b) q 0
+        side : Dec (q ≡ p) → value_of (changed_at g.val y b) (get_or blk (block_head + q) 0) ≡ get_or (set w p b) q 0
         side (yes e) =
-            value-here g.val y b (get_or blk (block-head + q) 0) is_name (ap (λ x. get_or blk (block-head + x) 0) e ∙ is_y)
+            value-here g.val y b (get_or blk (block_head + q) 0) is_name (ap (λ x. get_or blk (block_head + x) 0) e ∙ is_y)
             ∙ sym (ap (λ x. get_or (set w p b) x 0) e ∙ get_or-set_same w p b 0 (let z = long in omega arith))
         side (no f) =
-            value_there g.val y b (get_or blk (block-head + q) 0) (λ e. once.other q lt f (e ∙ sym is_y))
+            value_there g.val y b (get_or blk (block_head + q) 0) (λ e. once.other q lt f (e ∙ sym is_y))
             ∙ given-column blk n facts w g q lt ∙ sym (get_or-set_other w p q b 0 f)
 
     start : (k : ℕ) → Counts n k → Start k
-    start k on = ⊎_elim (λ x. subst Start (atom-place x) (start-column (k / 5) (k % 5 - 1) (omega arith) (omega arith))) (λ x. subst Start (head-place x) (start-head (k - block-head) (omega arith))) on.1
+    start k on = ⊎_elim (λ x. subst Start (atom-place x) (start-column (k / 5) (k % 5 - 1) (omega arith) (omega arith))) (λ x. subst Start (head-place x) (start-head (k - block_head) (omega arith))) on.1
       where
         atom-place : (0 < k % 5) × (k < n * 5) → k / 5 * 5 + 1 + (k % 5 - 1) ≡ k
         atom-place x = omega arith
 
-        head-place : block-head ≤ k → block-head + (k - block-head) ≡ k
+        head-place : block_head ≤ k → block_head + (k - block_head) ≡ k
         head-place le = omega arith
 
     changed_row : Given blk n facts (set w p b)
     unfolding Start
     changed_row =
-        let r = place-all (Counts n) (counts? n) (λ k. get_or blk k 0) (wanted facts h (set w p b)) block-width (changed_at g.val y b) start in
+        let r = place-all (Counts n) (counts? n) (λ k. get_or blk k 0) (wanted facts h (set w p b)) block_width (changed_at g.val y b) start in
         begun-given blk n facts (set w p b) (length-set w p b ∙ given-length blk n facts w g) (
           r.val,
           record {
@@ -256,12 +256,12 @@ module _ (blk facts : List ℕ) (n p y a b : ℕ) (few : n ≤ most-atoms) (in_p
                     sym (r.done (j * 5 + 1 + c) (omega arith) (omega arith, inl (omega arith, omega arith)) ∙ wanted-atom facts h (set w p b) j c (omega arith) c_lt);
               },
             );
-            begins = record { same = λ q lt. r.done (block-head + q) (omega arith) (omega arith, inr (omega arith)) ∙ wanted-head facts h (set w p b) q };
+            begins = record { same = λ q lt. r.done (block_head + q) (omega arith) (omega arith, inr (omega arith)) ∙ wanted-head facts h (set w p b) q };
           },
         )
 
 -- b dominates a where each atom allows it
-pub dominance : (blk facts : List ℕ) (n p y a b : ℕ) → n ≤ most-atoms → p < 4 → y < names → get_or blk (block-head + p) 0 ≡ y → HeadOnce blk p
+pub dominance : (blk facts : List ℕ) (n p y a b : ℕ) → n ≤ most_atoms → p < 4 → y < names → get_or blk (block_head + p) 0 ≡ y → HeadOnce blk p
     → ((j : ℕ) → j < n → AtomDominates blk facts j y a b) → Dominates blk n facts p a b
 dominance blk facts n p y a b few in_p is_name is_y once all = record {
   gives = λ w g e.

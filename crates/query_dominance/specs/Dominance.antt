@@ -1,6 +1,6 @@
 -- When one value can take another's place in a column of a block's rows, over facts. No promise to a caller rests on these.
 use Rattle.std.specs.Prelude.{◌≡◌, Bool, true, false, List, ◌⊎◌, ℕ, ◌+◌, ◌*◌, ◌/◌, ◌%◌, ◌<◌, ◌≤◌, length, get_or, set}
-use Rattle.query_layout.specs.Layout.{block-head, block-width, names}
+use Rattle.query_layout.specs.Layout.{block_head, block_width, names}
 use Rattle.query_join.specs.Joins.{Becomes, Given}
 use Rattle.query_join.specs.Parts.{column_term, column_value}
 
@@ -10,7 +10,7 @@ pub record Dominates (blk : List ℕ) (n : ℕ) (facts : List ℕ) (p a b : ℕ)
 
 -- a term stands at place k of a block, and no relation
 abbrev pub TermPlace : ℕ → Type 0
-TermPlace k = (block-head ≤ k) ⊎ (0 < k % 5)
+TermPlace k = (block_head ≤ k) ⊎ (0 < k % 5)
 
 -- the term at place k is another, or it is the same place
 pub record OtherTerm (blk : List ℕ) (at k : ℕ) : Type 0 where
@@ -19,7 +19,7 @@ pub record OtherTerm (blk : List ℕ) (at k : ℕ) : Type 0 where
 -- the term at a place is a variable that stands at no other
 pub record Lone (blk : List ℕ) (at : ℕ) : Type 0 where
   pub name : get_or blk at 0 < names
-  pub others : (k : ℕ) → k < block-width → OtherTerm blk at k
+  pub others : (k : ℕ) → k < block_width → OtherTerm blk at k
 
 -- the marked columns of atom j have such variables
 pub record LoneColumns (blk : List ℕ) (j : ℕ) (free : List Bool) : Type 0 where
@@ -49,4 +49,4 @@ pub record AtomDominates (blk facts : List ℕ) (j y a b : ℕ) : Type 0 where
 
 -- the head's term in column p stands in no other column
 pub record HeadOnce (blk : List ℕ) (p : ℕ) : Type 0 where
-  pub other : (q : ℕ) → q < 4 → (q ≡ p → ⊥) → get_or blk (block-head + q) 0 ≡ get_or blk (block-head + p) 0 → ⊥
+  pub other : (q : ℕ) → q < 4 → (q ≡ p → ⊥) → get_or blk (block_head + q) 0 ≡ get_or blk (block_head + p) 0 → ⊥

@@ -6,15 +6,15 @@
 #![tactic(auto)]
 
 ghost use Rattle.std.specs.Prelude.{◌≡◌, true, false, ◌+◌, ◌*◌, ◌/◌, ◌<◌, min, length};
-ghost use Rattle.query_layout.specs.Layout.{block-width, names};
-ghost use Rattle.sheet_format.specs.Limits.{most-atoms};
+ghost use Rattle.query_layout.specs.Layout.{block_width, names};
+ghost use Rattle.sheet_format.specs.Limits.{most_atoms};
 ghost use Rattle.query_dominance.specs.Dominance.{Dominates, OtherTerm, Lone, LoneColumns, ColumnFollows, Replaces, Replaced, Without, AtomDominates, HeadOnce};
 
 use query_layout::{BLOCK_NUMBERS, COLUMNS, FACT_NUMBERS, HEAD_AT, NAMES};
 
 // Whether the term at a place stands at place k besides.
 fn stands_at(blk: &[usize; BLOCK_NUMBERS], at: usize, k: usize) -> bool
-    requires { (at < block-width) × (k < block-width) }
+    requires { (at < block_width) × (k < block_width) }
     ensures { result ≡ false → OtherTerm blk.now at k }
 {
     if blk[k] != blk[at] {
@@ -31,7 +31,7 @@ fn stands_at(blk: &[usize; BLOCK_NUMBERS], at: usize, k: usize) -> bool
 
 // Whether the term at a place is a variable that stands at no other.
 fn is_lone(blk: &[usize; BLOCK_NUMBERS], at: usize) -> bool
-    requires { at < block-width }
+    requires { at < block_width }
     ensures { result ≡ true → Lone blk.now at }
 {
     if NAMES <= blk[at] {
@@ -49,7 +49,7 @@ fn is_lone(blk: &[usize; BLOCK_NUMBERS], at: usize) -> bool
 
 // The columns of atom j whose variables stand nowhere else.
 fn lone_columns(blk: &[usize; BLOCK_NUMBERS], j: usize) -> [bool; 4]
-    requires { j < most-atoms }
+    requires { j < most_atoms }
     ensures { LoneColumns blk.now j result }
 {
     let mut free = [false; 4];
@@ -85,7 +85,7 @@ fn replaces(
     b: usize,
     free: [bool; 4],
 ) -> bool
-    requires j_lt_most_atoms { (j < most-atoms) × (i < length facts.now / 5) × (g < length facts.now / 5) }
+    requires j_lt_most_atoms { (j < most_atoms) × (i < length facts.now / 5) × (g < length facts.now / 5) }
     requires lone_columns { LoneColumns blk.now j free }
     ensures { result ≡ true → Replaces blk.now facts.now j y b i g }
 {
@@ -115,7 +115,7 @@ fn is_replaced(
     b: usize,
     free: [bool; 4],
 ) -> bool
-    requires j_lt_most_atoms { (j < most-atoms) × (i < length facts.now / 5) }
+    requires j_lt_most_atoms { (j < most_atoms) × (i < length facts.now / 5) }
     requires lone_columns { LoneColumns blk.now j free }
     ensures { result ≡ true → Replaced blk.now facts.now j y b i }
 {
@@ -132,7 +132,7 @@ fn is_replaced(
 
 // Whether variable y stands in atom j.
 fn has(blk: &[usize; BLOCK_NUMBERS], j: usize, y: usize) -> bool
-    requires { j < most-atoms }
+    requires { j < most_atoms }
     ensures { result ≡ false → Without blk.now j y }
 {
     let mut c = 0;
@@ -154,7 +154,7 @@ fn all_replaced(
     a: usize,
     b: usize,
 ) -> bool
-    requires { (j < most-atoms) × (y < names) }
+    requires { (j < most_atoms) × (y < names) }
     ensures { result ≡ true → AtomDominates blk.now facts.now j y a b }
 {
     let free = lone_columns(blk, j);
@@ -182,7 +182,7 @@ fn atom_dominates(
     a: usize,
     b: usize,
 ) -> bool
-    requires { (j < most-atoms) × (y < names) }
+    requires { (j < most_atoms) × (y < names) }
     ensures { result ≡ true → AtomDominates blk.now facts.now j y a b }
 {
     if has(blk, j, y) {
@@ -217,7 +217,7 @@ pub fn dominates(
     a: usize,
     b: usize,
 ) -> bool
-    ensures { result ≡ true → Dominates blk.now (min n most-atoms) facts.now p a b }
+    ensures { result ≡ true → Dominates blk.now (min n most_atoms) facts.now p a b }
 {
     if COLUMNS <= p {
         return false;

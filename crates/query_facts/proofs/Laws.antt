@@ -18,10 +18,10 @@ use Rattle.sheet_format.specs.Cause.{above, refusal, none}
 use Rattle.sheet_format.specs.Line.{all, is_zero, natural, null}
 use Rattle.sheet_format.specs.Table.{Table, relation, columns_of}
 use Rattle.query_meaning.specs.Meaning.{Fact, Log, In}
-use Rattle.query_meaning.specs.Facts.{fact_by_fact, fact_in, facts_in, facts_refusal, fives, is_value, log_of, fact_relation, unused, used, value-end, wrong_fact}
+use Rattle.query_meaning.specs.Facts.{fact_by_fact, fact_in, facts_in, facts_refusal, fives, is_value, log_of, fact_relation, unused, used, value_end, wrong_fact}
 use Rattle.query_encoding.specs.Encoding.{FactNumbers, ShapedLog, fact_at}
 use Rattle.sheet_format.proofs.TableLaws.{Narrow}
-use Rattle.query_facts.specs.Parts.{fact_before, in_range, most-fact-words}
+use Rattle.query_facts.specs.Parts.{fact_before, in_range, most_fact_words}
 use Rattle.query_facts.proofs.Words.{not-either, zero_word, value-range, zero-range, part_slice, all_same}
 
 -- ---- a relation's columns
@@ -50,13 +50,13 @@ fives_get (suc k) ws (suc i) h =
 pub facts-length : (ws : List ℤ) → length (facts_in ws) ≡ length ws / 5
 facts-length ws = fives-length (length ws / 5) ws
 
-pub fact-words : (ws : List ℤ) (i : ℕ) → i < length ws / 5 → get_or (facts_in ws) i [] ≡ slice (5 * i) (5 * i + 5) ws
-fact-words ws i h = fives_get (length ws / 5) ws i h ∙ part_slice (5 * i) 5 ws
+pub fact_words : (ws : List ℤ) (i : ℕ) → i < length ws / 5 → get_or (facts_in ws) i [] ≡ slice (5 * i) (5 * i + 5) ws
+fact_words ws i h = fives_get (length ws / 5) ws i h ∙ part_slice (5 * i) 5 ws
 
 pub next-words : (ws : List ℤ) (i : ℕ) → i + 1 < length ws / 5 → get_or (facts_in ws) (i + 1) [] ≡ slice (5 * i + 5) (5 * i + 5 + 5) ws
 next-words ws i h =
     let e : 5 * (i + 1) ≡ 5 * i + 5 = omega arith in
-    fact-words ws (i + 1) h ∙ ap (λ n. slice n (n + 5) ws) e
+    fact_words ws (i + 1) h ∙ ap (λ n. slice n (n + 5) ws) e
 
 -- ---- a fact by its words
 
@@ -78,21 +78,21 @@ module _ (ws : List ℤ) (at : ℕ) where
 
 module _ (ws : List ℤ) (i : ℕ) (h : i < length ws / 5) where
   pub relation-word : fact_relation (get_or (facts_in ws) i []) ≡ get_or ws (5 * i) (pos 0)
-  relation-word = ap fact_relation (fact-words ws i h) ∙ word_at ws (5 * i) 0 (omega arith) ∙ ap (λ n. get_or ws n (pos 0)) (add-zero (5 * i))
+  relation-word = ap fact_relation (fact_words ws i h) ∙ word_at ws (5 * i) 0 (omega arith) ∙ ap (λ n. get_or ws n (pos 0)) (add-zero (5 * i))
 
-  values-told : (c : ℕ) → c ≤ 4 → all (in_range (pos value-end)) (slice (5 * i + 1) (5 * i + 1 + c) ws) ≡ all is_value (take c (drop 1 (get_or (facts_in ws) i [])))
+  values-told : (c : ℕ) → c ≤ 4 → all (in_range (pos value_end)) (slice (5 * i + 1) (5 * i + 1 + c) ws) ≡ all is_value (take c (drop 1 (get_or (facts_in ws) i [])))
   values-told c m =
-      all_same (in_range (pos value-end)) is_value value-range (slice (5 * i + 1) (5 * i + 1 + c) ws)
-      ∙ ap (all is_value) (sym (ap (λ f. take c (drop 1 f)) (fact-words ws i h) ∙ used-words ws (5 * i) c m))
+      all_same (in_range (pos value_end)) is_value value-range (slice (5 * i + 1) (5 * i + 1 + c) ws)
+      ∙ ap (all is_value) (sym (ap (λ f. take c (drop 1 f)) (fact_words ws i h) ∙ used-words ws (5 * i) c m))
 
   zeros-told : (c : ℕ) → all (in_range (pos 1)) (slice (5 * i + 1 + c) (5 * i + 5) ws) ≡ all is_zero (drop c (drop 1 (get_or (facts_in ws) i [])))
   zeros-told c =
       all_same (in_range (pos 1)) is_zero zero-range (slice (5 * i + 1 + c) (5 * i + 5) ws)
-      ∙ ap (all is_zero) (sym (ap (λ f. drop c (drop 1 f)) (fact-words ws i h) ∙ unused-words ws (5 * i) c))
+      ∙ ap (all is_zero) (sym (ap (λ f. drop c (drop 1 f)) (fact_words ws i h) ∙ unused-words ws (5 * i) c))
 
   -- the test by the columns, the values and the unused words
   pub wrong_told : (table : Table) → Narrow table → (c : ℕ) (u v : Bool) → c ≡ columns_of table (get_or ws (5 * i) (pos 0))
-      → u ≡ all (in_range (pos value-end)) (slice (5 * i + 1) (5 * i + 1 + c) ws)
+      → u ≡ all (in_range (pos value_end)) (slice (5 * i + 1) (5 * i + 1 + c) ws)
       → v ≡ all (in_range (pos 1)) (slice (5 * i + 1 + c) (5 * i + 5) ws)
       → eqb c 0 || (not u || not v) ≡ wrong_fact table (get_or (facts_in ws) i [])
   wrong_told table narrow c u v p q r =
@@ -103,7 +103,7 @@ module _ (ws : List ℤ) (i : ℕ) (h : i < length ws / 5) where
 -- ---- the order of facts
 
 pub fact-some : (ws : List ℤ) (i : ℕ) → i < length ws / 5 → null (get_or (facts_in ws) i []) ≡ false
-fact-some ws i h = ap null (fact-words ws i h ∙ slice-next (5 * i) (5 * i + 5) ws (pos 0) (omega arith) (omega arith))
+fact-some ws i h = ap null (fact_words ws i h ∙ slice-next (5 * i) (5 * i + 5) ws (pos 0) (omega arith) (omega arith))
 
 pub order-first : (fs : List (List ℤ)) (i : ℕ) → i ≡ 0 → true ≡ (null (fact_before fs i) || above (fact_before fs i) (get_or fs i []))
 order-first fs i e = rw e
@@ -146,13 +146,13 @@ module _ (table : Table) (ws : List ℤ) where
   unfolding facts_refusal
   count_wrong n = rw (ne_eqb (length ws % 5) 0 n)
 
-  pub count-over : length ws % 5 ≡ 0 → most-fact-words < length ws → refusal 12 0 ≡ facts_refusal table ws
+  pub count-over : length ws % 5 ≡ 0 → most_fact_words < length ws → refusal 12 0 ≡ facts_refusal table ws
   unfolding facts_refusal
-  count-over e h = rw (eq-eqb (length ws % 5) 0 e, lt-ltb most-fact-words (length ws) h)
+  count-over e h = rw (eq-eqb (length ws % 5) 0 e, lt-ltb most_fact_words (length ws) h)
 
-  pub count-right : length ws % 5 ≡ 0 → length ws ≤ most-fact-words → fact_by_fact table [] (facts_in ws) ≡ facts_refusal table ws
+  pub count-right : length ws % 5 ≡ 0 → length ws ≤ most_fact_words → fact_by_fact table [] (facts_in ws) ≡ facts_refusal table ws
   unfolding facts_refusal
-  count-right e h = rw (eq-eqb (length ws % 5) 0 e, le-ltb most-fact-words (length ws) h)
+  count-right e h = rw (eq-eqb (length ws % 5) 0 e, le-ltb most_fact_words (length ws) h)
 
 -- ---- accepted facts
 
@@ -175,7 +175,7 @@ by-fact-right table b (f ∷ fs) i e h = go (by-fact-right table f fs) (wrong_fa
 
 pub accepted : (table : Table) (ws : List ℤ) → (facts_refusal table ws).number ≡ 0 → (length ws % 5 ≡ 0) × ((fact_by_fact table [] (facts_in ws)).number ≡ 0)
 unfolding facts_refusal
-accepted table ws e = go (eqb (length ws % 5) 0) refl (ltb most-fact-words (length ws)) e
+accepted table ws e = go (eqb (length ws % 5) 0) refl (ltb most_fact_words (length ws)) e
   where
     go : (s : Bool) → eqb (length ws % 5) 0 ≡ s → (t : Bool) → (cond (not s) (refusal 11 0) (cond t (refusal 12 0) (fact_by_fact table [] (facts_in ws)))).number ≡ 0
         → (length ws % 5 ≡ 0) × ((fact_by_fact table [] (facts_in ws)).number ≡ 0)
@@ -206,7 +206,7 @@ row-length table narrow f e =
     length-map (used table f) natural ∙ length-take (columns_of table (fact_relation f)) (drop 1 f) ∙ (omega arith)
 
 pub fact-length : (ws : List ℤ) (i : ℕ) → i < length ws / 5 → length (get_or (facts_in ws) i []) ≡ 5
-fact-length ws i h = ap length (fact-words ws i h) ∙ length-slice (5 * i) (5 * i + 5) ws (omega arith) ∙ (omega arith)
+fact-length ws i h = ap length (fact_words ws i h) ∙ length-slice (5 * i) (5 * i + 5) ws (omega arith) ∙ (omega arith)
 
 -- the rows fit their relations
 pub shaped-log : (table : Table) → Narrow table → (ws : List ℤ) → (facts_refusal table ws).number ≡ 0 → ShapedLog table (log_of table ws)
@@ -266,7 +266,7 @@ module _ (table : Table) (ws : List ℤ) (r : (facts_refusal table ws).number �
       let p : i * 5 + 1 + c ≡ 5 * i + (1 + c) = omega arith in
       ap (λ k. get_or (map natural ws) k 0) p
       ∙ number-at ws (5 * i + (1 + c))
-      ∙ ap natural (sym (ap (λ f. get_or f (1 + c) (pos 0)) (fact-words ws i (omega arith)) ∙ word_at ws (5 * i) (1 + c) (omega arith)))
+      ∙ ap natural (sym (ap (λ f. get_or f (1 + c) (pos 0)) (fact_words ws i (omega arith)) ∙ word_at ws (5 * i) (1 + c) (omega arith)))
       ∙ ap natural (value-at table f (fact-length ws i (omega arith)) (by-fact-right table [] (facts_in ws) i (accepted table ws r).1 (omega arith)) c l)
       ∙ sym (number-at (used table f) c)
       ∙ ap (λ f. get_or f.row c 0) (sym (log-at table ws i))
@@ -285,10 +285,10 @@ numbers-read table ws ns i e q r = rw (← e, q, take_all i ws (omega arith)) (f
 
 -- ---- values of accepted facts
 
-in-values : (l : List ℤ) → all is_value l ≡ true → (v : ℕ) → In v (map natural l) → v < value-end
+in-values : (l : List ℤ) → all is_value l ≡ true → (v : ℕ) → In v (map natural l) → v < value_end
 in-values [] h v m = absurd m
-in-values (pos n ∷ l) h v (inl e) = let q = ltb-true n value-end (and_left (ltb n value-end) (all is_value l) h) in omega arith
-in-values (pos n ∷ l) h v (inr m) = in-values l (and_right (ltb n value-end) (all is_value l) h) v m
+in-values (pos n ∷ l) h v (inl e) = let q = ltb-true n value_end (and_left (ltb n value_end) (all is_value l) h) in omega arith
+in-values (pos n ∷ l) h v (inr m) = in-values l (and_right (ltb n value_end) (all is_value l) h) v m
 in-values (negsuc n ∷ l) h v m = no_way h
 
 right-values : (table : Table) (f : List ℤ) → wrong_fact table f ≡ false → all is_value (used table f) ≡ true
@@ -299,7 +299,7 @@ right-values table f e = go (eqb (columns_of table (fact_relation f)) 0) (all is
     go false true c h = refl
     go false false c h = no_way (sym h)
 
-pub log-small : (table : Table) (ws : List ℤ) → (facts_refusal table ws).number ≡ 0 → (f : Fact) → In f (log_of table ws) → (v : ℕ) → In v f.row → v < value-end
+pub log-small : (table : Table) (ws : List ℤ) → (facts_refusal table ws).number ≡ 0 → (f : Fact) → In f (log_of table ws) → (v : ℕ) → In v f.row → v < value_end
 log-small table ws h f m v i =
     let (k, lt, e) = in-at (log_of table ws) f m in
     let n = log_of-length table ws in

@@ -14,7 +14,7 @@ use borrow.Author.Tests.{eqb-true, leb-true, leb-false, lt-ltb, le-ltb, le-leb, 
 use Rattle.list_laws.proofs.Lists.{map_append}
 use Rattle.sheet_format.proofs.Lists.{no_way}
 use Rattle.sheet_format.specs.Line.{all, is_zero, natural}
-use Rattle.query_meaning.specs.Facts.{is_value, value-end}
+use Rattle.query_meaning.specs.Facts.{is_value, value_end}
 use Rattle.query_facts.specs.Parts.{in_range}
 
 -- ---- tests
@@ -30,12 +30,12 @@ zero_word (pos n) e = ap pos (eqb-true n 0 e)
 zero_word (negsuc n) e = no_way e
 
 -- a value is in the range of the values, and an unused word in that of 0 alone
-pub value-range : (z : ℤ) → in_range (pos value-end) z ≡ is_value z
-value-range (pos n) = rw (le-ltb n 0 (omega arith)) (go (leb value-end n) refl)
+pub value-range : (z : ℤ) → in_range (pos value_end) z ≡ is_value z
+value-range (pos n) = rw (le-ltb n 0 (omega arith)) (go (leb value_end n) refl)
   where
-    go : (b : Bool) → leb value-end n ≡ b → not b ≡ ltb n value-end
-    go true e = sym (le-ltb n value-end (leb-true value-end n e))
-    go false e = sym (lt-ltb n value-end (leb-false value-end n e))
+    go : (b : Bool) → leb value_end n ≡ b → not b ≡ ltb n value_end
+    go true e = sym (le-ltb n value_end (leb-true value_end n e))
+    go false e = sym (lt-ltb n value_end (leb-false value_end n e))
 value-range (negsuc n) = refl
 
 pub zero-range : (z : ℤ) → in_range (pos 1) z ≡ is_zero z

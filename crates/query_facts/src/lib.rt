@@ -6,7 +6,7 @@ ghost use Rattle.std.proofs.Math.Seq.{slice};
 ghost use Rattle.sheet_format.specs.Table.{Table, table_in};
 ghost use Rattle.sheet_format.specs.Cause.{above};
 ghost use Rattle.sheet_format.specs.Line.{all, natural, null};
-ghost use Rattle.query_meaning.specs.Facts.{fact-words, fact_by_fact, facts_in, facts_refusal, log_of, wrong_fact};
+ghost use Rattle.query_meaning.specs.Facts.{fact_words, fact_by_fact, facts_in, facts_refusal, log_of, wrong_fact};
 ghost use Rattle.query_encoding.specs.Encoding.{FactNumbers};
 ghost use Rattle.query_facts.specs.Parts.{fact_before, in_range};
 
@@ -44,7 +44,7 @@ fn all_in_range(fs: &[i32], from: usize, to: usize, end: i32) -> bool
 
 // Fact i has a wrong relation, value or unused word.
 fn is_wrong(table: &[usize], fs: &[i32], i: usize) -> bool
-    requires { i < length fs.now / fact-words }
+    requires { i < length fs.now / fact_words }
     ensures { result ≡ wrong_fact (table_in table.now) (get_or (facts_in fs.now) i []) }
 {
     let at = FACT_WORDS * i;
@@ -61,7 +61,7 @@ fn is_wrong(table: &[usize], fs: &[i32], i: usize) -> bool
 
 // Fact i + 1 is above fact i, compared word by word from the first.
 fn is_above(fs: &[i32], i: usize) -> bool
-    requires { i + 1 < length fs.now / fact-words }
+    requires { i + 1 < length fs.now / fact_words }
     ensures { result ≡ above (get_or (facts_in fs.now) i []) (get_or (facts_in fs.now) (i + 1) []) }
 {
     let at = FACT_WORDS * i;
@@ -83,7 +83,7 @@ fn is_above(fs: &[i32], i: usize) -> bool
 
 // Fact i is the first, or above the one before it.
 fn in_order(fs: &[i32], i: usize) -> bool
-    requires { i < length fs.now / fact-words }
+    requires { i < length fs.now / fact_words }
     ensures { result ≡ (null (fact_before (facts_in fs.now) i) || above (fact_before (facts_in fs.now) i) (get_or (facts_in fs.now) i [])) }
 {
     if i == 0 {

@@ -6,7 +6,7 @@
 
 ghost use Rattle.std.specs.Prelude.{◌*◌, ◌≤◌};
 ghost use Rattle.tableau_layout.specs.Layout.{tableau_atoms};
-ghost use Rattle.search_board.specs.Sizes.{fact-set-words, fact-end};
+ghost use Rattle.search_board.specs.Sizes.{fact_set_words, fact_end};
 
 use query_layout::{COLUMNS, FACT_NUMBERS, MADE_UP, NAMES};
 use search_nogoods::MOST_VALUES;
@@ -453,8 +453,8 @@ pub fn changed_of(bits: &[u64; BITS], relation: usize) -> [u64; FACT_WORDS] {
 
 // The first fact of the set from word w on; FACT_END if there is none.
 fn first_fact(set: &[u64; FACT_WORDS], w: usize) -> usize
-    requires { w ≤ fact-set-words }
-    ensures { (w * 64 ≤ result) × (result ≤ fact-end) }
+    requires { w ≤ fact_set_words }
+    ensures { (w * 64 ≤ result) × (result ≤ fact_end) }
 {
     let mut k = w;
     while k < FACT_WORDS {
@@ -468,8 +468,8 @@ fn first_fact(set: &[u64; FACT_WORDS], w: usize) -> usize
 
 // The first fact of the set from i on; FACT_END if there is none.
 pub fn next_fact(set: &[u64; FACT_WORDS], i: usize) -> usize
-    requires { i ≤ fact-end }
-    ensures { (i ≤ result) × (result ≤ fact-end) }
+    requires { i ≤ fact_end }
+    ensures { (i ≤ result) × (result ≤ fact_end) }
 {
     if FACT_END <= i {
         return FACT_END;

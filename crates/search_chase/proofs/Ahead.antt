@@ -4,7 +4,7 @@ use mathlib.Core.Bool.{Bool, true, false, true≢false}
 use mathlib.Core.List.{List}
 use Prim.Native.Nat.{ℕ, ◌<◌, ◌≤◌}
 use native.Mathlib.Omega.{arith}
-use Rattle.sheet_format.specs.Limits.{most-rows}
+use Rattle.sheet_format.specs.Limits.{most_rows}
 use Rattle.case_verdicts.specs.Verdict.{Sheet}
 use Rattle.case_verdicts.specs.Sheets.{top}
 use Rattle.case_verdicts.specs.Tableau.{State, Good}
@@ -13,7 +13,7 @@ use Rattle.search_reasons.specs.Reasons.{RestsOn}
 use Rattle.search_reasons.proofs.Laws.{step_of}
 use Rattle.search_task.specs.Task.{ReadyPlan, sheet_by}
 use Rattle.search_task.specs.declared.Goal.{Goal}
-use Rattle.search_node.specs.Choices.{each-kind, left_at, node_of_parts, one_value, left_of, right_of, how_many, LiveAt, LiveBy}
+use Rattle.search_node.specs.Choices.{each_kind, left_at, node_of_parts, one_value, left_of, right_of, how_many, LiveAt, LiveBy}
 use Rattle.search_node.specs.Node.{Wordly, OpenState, Joinable, NodeBy}
 use Rattle.search_node.proofs.Choices.{part-four, right-four, shut_open}
 use Rattle.search_step.specs.Run.{Remembers, node_turn_at, LeftBy, UndoneBy, Taken, Advanced, LookedInto, LearntAhead, JudgedState}
@@ -27,12 +27,12 @@ closed-so a z = record { kept = (a.over z).kept; rests = λ e. (a.over z).rests 
 -- what the release of an alternative says of the words
 abbrev pub Released : List ℕ → List ℕ → ℕ → List ℕ → List ℕ → Type 0
 Released p node k out back =
-    k < most-rows → k < how_many p node → (was : List ℕ) → RootValues top was (left_of node k) → RootValues top was (right_of p node k)
+    k < most_rows → k < how_many p node → (was : List ℕ) → RootValues top was (left_of node k) → RootValues top was (right_of p node k)
     → Equated top was out (left_of node k) (right_of p node k) → back ≡ was
 
 -- one was left, and is taken back
 pub closed-not : {p : List ℕ} {x : Sheet} {G : State → Type 0} {ws set node out sl sm : List ℕ} {i : ℕ} (t : Taken p x G ws set node i out sl sm) (k : ℕ) → k ≡ node_turn_at p node t.turn
-    → how_many p node ≤ most-rows → (back : List ℕ) → Released p node k out back → LookedInto G false ws back set
+    → how_many p node ≤ most_rows → (back : List ℕ) → Released p node k out back → LookedInto G false ws back set
 closed-not {p} {x} {G} {ws} {set} {node} {out} t k is few back release = record {
   kept =
       let inside = live.inside in
@@ -122,7 +122,7 @@ judged-same good p x y ws end set node found sl sm e said w m = record {
 
 -- one that was refuted by what was seen ahead
 pub judged-refuted : (p : List ℕ) (x y : Sheet) (ws mid end set node found sl sm : List ℕ) (so : Bool) → so ≡ true → mid ≡ ws → LearntAhead (Good y) so mid end set sl sm
-    → node ≡ node_of_parts each-kind 0 (one_value 0) (one_value 0) → JudgedState false p x y ws end set node found sl sm
+    → node ≡ node_of_parts each_kind 0 (one_value 0) (one_value 0) → JudgedState false p x y ws end set node found sl sm
 judged-refuted p x y ws mid end set node found sl sm so on e l is = record {
   kept = l.kept ∙ e;
   judged =

@@ -2,13 +2,13 @@
 #![tactic(auto)]
 
 ghost use Rattle.std.specs.Prelude.{◌≡◌, true, false, List, ℕ, ◌+◌, ◌*◌, ◌-◌, ◌<◌, ◌≤◌, length};
-ghost use Rattle.sheet_format.specs.Limits.{most-rows};
-ghost use Rattle.tableau_layout.specs.Layout.{slot-end};
+ghost use Rattle.sheet_format.specs.Limits.{most_rows};
+ghost use Rattle.tableau_layout.specs.Layout.{slot_end};
 ghost use Rattle.case_verdicts.specs.Verdict.{Sheet};
 ghost use Rattle.case_verdicts.specs.Tableau.{Good};
 ghost use Rattle.case_verdicts.specs.Search.{free};
 ghost use Rattle.search_slots.specs.Slots.{set_words};
-ghost use Rattle.search_nogoods.specs.Sizes.{memory-numbers, memory-words};
+ghost use Rattle.search_nogoods.specs.Sizes.{memory_numbers, memory_words};
 ghost use Rattle.search_task.specs.Task.{ReadyPlan, sheet_by};
 ghost use Rattle.search_node.specs.Node.{Wordly, OpenState};
 ghost use Rattle.search_step.specs.Run.{Remembers, SearchBegun, FoundOrLost, Advanced, Behind, LookedInto, LearntAhead, JudgedState, LookedBy, FoundBy};
@@ -58,9 +58,9 @@ fn advance(
     bd: &mut [u32; BOARD],
     bits: &mut [u64; BITS],
 )
-    requires { (length below.old ≡ set_words) × (length sl.old ≡ memory-numbers) × (length sm.old ≡ memory-words) }
+    requires { (length below.old ≡ set_words) × (length sl.old ≡ memory_numbers) × (length sm.old ≡ memory_words) }
     ensures advanced { (x : Sheet) → ReadyPlan p.now x → (old : List ℕ) → Wordly x (sheet_by goal x) old → Behind p.now x (Good (sheet_by goal x)) old set.old node.now i.old ws.old below.old sl.old sm.old → Advanced p.now x (Good (sheet_by goal x)) old set.new node.now i.new ws.new sl.new sm.new }
-    ensures i_lt_i { 0 < i.new → (i.old < i.new) × (i.new ≤ 2 * most-rows) }
+    ensures i_lt_i { 0 < i.new → (i.old < i.new) × (i.new ≤ 2 * most_rows) }
     ensures ws_len_unchanged { (length ws.new ≡ length ws.old) × (length below.new ≡ length below.old) × (length sl.new ≡ length sl.old) × (length sm.new ≡ length sm.old) × (length set.new ≡ length set.old) }
 {
     let from = *i;
@@ -132,7 +132,7 @@ fn learn_ahead(
     sl: &mut [usize; MEMORY_NUMBERS],
     sm: &mut [u64; MEMORY_WORDS],
 ) -> bool
-    requires { (length sl.old ≡ memory-numbers) × (length sm.old ≡ memory-words) }
+    requires { (length sl.old ≡ memory_numbers) × (length sm.old ≡ memory_words) }
     ensures learnt_ahead { (x : Sheet) → ReadyPlan p.now x → Wordly x (sheet_by goal x) ws.old → Remembers (Good (sheet_by goal x)) ws.old sl.old sm.old → LearntAhead (Good (sheet_by goal x)) result ws.old ws.new set.new sl.new sm.new }
     ensures ws_len_unchanged { (length ws.new ≡ length ws.old) × (length sl.new ≡ length sl.old) × (length sm.new ≡ length sm.old) × (length set.new ≡ length set.old) }
 {
@@ -172,8 +172,8 @@ fn judge_state(
     node: &mut [usize; NODE_NUMBERS],
     out: &mut [usize; SLOTS],
 ) -> bool
-    requires { (length sl.old ≡ memory-numbers) × (length sm.old ≡ memory-words) }
-    ensures judged_state { (x : Sheet) → ReadyPlan p.now x → Wordly x (sheet_by goal x) ws.old → Remembers (Good (sheet_by goal x)) ws.old sl.old sm.old → length out.old ≡ slot-end → JudgedState result p.now x (sheet_by goal x) ws.old ws.new set.new node.new out.new sl.new sm.new }
+    requires { (length sl.old ≡ memory_numbers) × (length sm.old ≡ memory_words) }
+    ensures judged_state { (x : Sheet) → ReadyPlan p.now x → Wordly x (sheet_by goal x) ws.old → Remembers (Good (sheet_by goal x)) ws.old sl.old sm.old → length out.old ≡ slot_end → JudgedState result p.now x (sheet_by goal x) ws.old ws.new set.new node.new out.new sl.new sm.new }
     ensures ws_len_unchanged { (length ws.new ≡ length ws.old) × (length sl.new ≡ length sl.old) × (length sm.new ≡ length sm.old) × (length set.new ≡ length set.old) × (length out.new ≡ length out.old) }
 {
     let asked = search_task::asks(goal);
@@ -211,9 +211,9 @@ fn seek(
     bits: &mut [u64; BITS],
     out: &mut [usize; SLOTS],
 ) -> bool
-    requires { (length ws.old ≡ slot-end) × (length sl.old ≡ memory-numbers) × (length sm.old ≡ memory-words) × (length out.old ≡ slot-end) × (length set.old ≡ set_words) }
+    requires { (length ws.old ≡ slot_end) × (length sl.old ≡ memory_numbers) × (length sm.old ≡ memory_words) × (length out.old ≡ slot_end) × (length set.old ≡ set_words) }
     ensures found_or_lost { (x : Sheet) → ReadyPlan p.now x → SearchBegun p.now x (sheet_by goal x) ws.old left set.old node.now sl.old sm.old → FoundOrLost result x (sheet_by goal x) ws.old ws.new set.new sl.new sm.new out.new }
-    ensures ws_len { (length ws.new ≡ slot-end) × (length sl.new ≡ memory-numbers) × (length sm.new ≡ memory-words) × (length out.new ≡ slot-end) × (length set.new ≡ set_words) }
+    ensures ws_len { (length ws.new ≡ slot_end) × (length sl.new ≡ memory_numbers) × (length sm.new ≡ memory_words) × (length out.new ≡ slot_end) × (length set.new ≡ set_words) }
 {
     if left == 0 {
         return false;
@@ -258,9 +258,9 @@ fn look(
     goal: Goal,
     out: &mut [usize; SLOTS],
 ) -> bool
-    requires { (length ws.old ≡ slot-end) × (length out.old ≡ slot-end) }
+    requires { (length ws.old ≡ slot_end) × (length out.old ≡ slot_end) }
     ensures looked_by { (x : Sheet) → ReadyPlan p.now x → Wordly x (sheet_by goal x) ws.old → LookedBy result x (sheet_by goal x) ws.old out.new }
-    ensures out_len { length out.new ≡ slot-end }
+    ensures out_len { length out.new ≡ slot_end }
 {
     let mut sl = [0; MEMORY_NUMBERS];
     let mut sm = [0u64; MEMORY_WORDS];
@@ -282,9 +282,9 @@ fn look(
 // Searches for a good state: of the whole sheet where the question is asked, else of its views alone. True: there is one, and it stands in the 533
 // words that are lent. More or fewer words are left as they are, and so are all where there is none.
 pub fn find(p: &[usize; PLAN_NUMBERS], goal: Goal, out: &mut [usize]) -> bool
-    ensures found_by { (x : Sheet) → ReadyPlan p.now x → length out.old ≡ slot-end → FoundBy result x (sheet_by goal x) out.new }
+    ensures found_by { (x : Sheet) → ReadyPlan p.now x → length out.old ≡ slot_end → FoundBy result x (sheet_by goal x) out.new }
     ensures out_unchanged { result ≡ false → out.new ≡ out.old }
-    ensures out_unchanged_2 { (length out.old ≡ slot-end → ⊥) → out.new ≡ out.old }
+    ensures out_unchanged_2 { (length out.old ≡ slot_end → ⊥) → out.new ≡ out.old }
 {
     let mut words = [0; SLOTS];
     search_links::free(&mut words);

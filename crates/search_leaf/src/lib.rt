@@ -2,9 +2,9 @@
 #![tactic(auto)]
 
 ghost use Rattle.std.specs.Prelude.{◌≡◌, true, false, ◌+◌, ◌*◌, ◌<◌, ◌≤◌, min, length, get_or, take};
-ghost use Rattle.query_layout.specs.Layout.{block-head, names};
-ghost use Rattle.sheet_format.specs.Limits.{most-atoms, most-rows};
-ghost use Rattle.tableau_layout.specs.Layout.{most-blocks, most-copies, slot-end, tableau_atoms, tableau_numbers, view-block};
+ghost use Rattle.query_layout.specs.Layout.{block_head, names};
+ghost use Rattle.sheet_format.specs.Limits.{most_atoms, most_rows};
+ghost use Rattle.tableau_layout.specs.Layout.{most_blocks, most_copies, slot_end, tableau_atoms, tableau_numbers, view_block};
 ghost use Rattle.query_join.specs.Joins.{value_of, head_row};
 ghost use Rattle.query_answers.specs.Answers.{WitnessAt};
 ghost use Rattle.case_verdicts.specs.Sheets.{top};
@@ -27,8 +27,8 @@ use tableau_layout::{BLOCKS_AT, PLAN_NUMBERS, SLOTS, TABLEAU_ATOMS, TABLEAU_NUMB
 
 // Column c of the head of block b, under the valuation of copy k.
 fn head_value(p: &[usize; PLAN_NUMBERS], ws: &[usize; SLOTS], b: usize, k: usize, c: usize) -> usize
-    requires { (b < most-blocks) × (k < most-copies) × (c < 4) }
-    ensures { length ws.now ≡ slot-end → result ≡ value_of (λ x. state_of top ws.now (k * names + x)) (get_or (block_numbers p.now b) (block-head + c) 0) }
+    requires { (b < most_blocks) × (k < most_copies) × (c < 4) }
+    ensures { length ws.now ≡ slot_end → result ≡ value_of (λ x. state_of top ws.now (k * names + x)) (get_or (block_numbers p.now b) (block_head + c) 0) }
 {
     let t = p[BLOCKS_AT + b * BLOCK_NUMBERS + HEAD_AT + c];
     if t < NAMES {
@@ -39,8 +39,8 @@ fn head_value(p: &[usize; PLAN_NUMBERS], ws: &[usize; SLOTS], b: usize, k: usize
 
 // The head of block b, under the valuation of copy k.
 fn head_of(p: &[usize; PLAN_NUMBERS], ws: &[usize; SLOTS], b: usize, k: usize) -> [usize; 4]
-    requires { (b < most-blocks) × (k < most-copies) }
-    ensures { length ws.now ≡ slot-end → result ≡ head_row (λ x. state_of top ws.now (k * names + x)) (block_numbers p.now b) }
+    requires { (b < most_blocks) × (k < most_copies) }
+    ensures { length ws.now ≡ slot_end → result ≡ head_row (λ x. state_of top ws.now (k * names + x)) (block_numbers p.now b) }
 {
     [
         head_value(p, ws, b, k, 0),
@@ -52,8 +52,8 @@ fn head_of(p: &[usize; PLAN_NUMBERS], ws: &[usize; SLOTS], b: usize, k: usize) -
 
 // Whether the head of listed row i's copy is the row.
 fn has_row(p: &[usize; PLAN_NUMBERS], ws: &[usize; SLOTS], i: usize) -> bool
-    requires { i < most-rows }
-    ensures { length ws.now ≡ slot-end → result ≡ true → row_head p.now (state_of top ws.now) i ≡ row_values p.now i }
+    requires { i < most_rows }
+    ensures { length ws.now ≡ slot_end → result ≡ true → row_head p.now (state_of top ws.now) i ≡ row_values p.now i }
 {
     let v = tableau_parts::view_at(p, i);
     if MOST_VIEWS <= v {
@@ -66,7 +66,7 @@ fn has_row(p: &[usize; PLAN_NUMBERS], ws: &[usize; SLOTS], i: usize) -> bool
 
 // Whether the head of each listed row's copy is the row.
 fn has_rows(p: &[usize; PLAN_NUMBERS], ws: &[usize; SLOTS]) -> bool
-    ensures { length ws.now ≡ slot-end → row_count p.now ≤ most-rows → result ≡ true → RowHeads p.now (state_of top ws.now) (row_count p.now) }
+    ensures { length ws.now ≡ slot_end → row_count p.now ≤ most_rows → result ≡ true → RowHeads p.now (state_of top ws.now) (row_count p.now) }
 {
     let rows = tableau_parts::row_count(p);
     let mut i = 0;
@@ -88,7 +88,7 @@ fn write_facts(
 ) -> usize
     requires { tableau_numbers ≤ length out.old }
     ensures upper_bound { result ≤ tableau_atoms }
-    ensures out_after { (x : Sheet) → ReadyPlan p.now x → length ws.now ≡ slot-end → take (result * 5) out.new ≡ goal_facts goal p.now (state_of top ws.now) }
+    ensures out_after { (x : Sheet) → ReadyPlan p.now x → length ws.now ≡ slot_end → take (result * 5) out.new ≡ goal_facts goal p.now (state_of top ws.now) }
 {
     let from = search_task::start(p, goal);
     let n = search_state::facts(p, ws, from, out);
@@ -100,8 +100,8 @@ fn write_facts(
 
 // Whether the question is asked and a list is given its head.
 fn is_answered(p: &[usize; PLAN_NUMBERS], goal: Goal, ws: &[usize; SLOTS], facts: &[usize]) -> bool
-    ensures fact { FormedPlan p.now → length ws.now ≡ slot-end → result ≡ false → asks goal ≡ true → GivenToList p.now facts.now (asked_row p.now (state_of top ws.now)) → ⊥ }
-    ensures goal_value { FormedPlan p.now → length ws.now ≡ slot-end → result ≡ true → (asks goal ≡ true) × GivenToList p.now facts.now (asked_row p.now (state_of top ws.now)) }
+    ensures fact { FormedPlan p.now → length ws.now ≡ slot_end → result ≡ false → asks goal ≡ true → GivenToList p.now facts.now (asked_row p.now (state_of top ws.now)) → ⊥ }
+    ensures goal_value { FormedPlan p.now → length ws.now ≡ slot_end → result ≡ true → (asks goal ≡ true) × GivenToList p.now facts.now (asked_row p.now (state_of top ws.now)) }
 {
     if !search_task::asks(goal) {
         return false;
@@ -113,7 +113,7 @@ fn is_answered(p: &[usize; PLAN_NUMBERS], goal: Goal, ws: &[usize; SLOTS], facts
 // Whether a state's facts show nothing against it: no list is given the question's head, where that is asked, no two of them clash in a key, and no
 // view is given a stray row.
 fn is_clean(p: &[usize; PLAN_NUMBERS], goal: Goal, ws: &[usize; SLOTS], facts: &[usize]) -> bool
-    ensures { (x : Sheet) → ReadyPlan p.now x → result ≡ true → length ws.now ≡ slot-end → facts.now ≡ goal_facts goal p.now (state_of top ws.now) → HeadsSettled (sheet_by goal x) (state_of top ws.now) → Good (sheet_by goal x) (state_of top ws.now) }
+    ensures { (x : Sheet) → ReadyPlan p.now x → result ≡ true → length ws.now ≡ slot_end → facts.now ≡ goal_facts goal p.now (state_of top ws.now) → HeadsSettled (sheet_by goal x) (state_of top ws.now) → Good (sheet_by goal x) (state_of top ws.now) }
 {
     if is_answered(p, goal, ws, facts) {
         return false;
@@ -128,7 +128,7 @@ fn is_clean(p: &[usize; PLAN_NUMBERS], goal: Goal, ws: &[usize; SLOTS], facts: &
 
 // Whether the state is good: of the whole sheet where the question is asked, else of its views alone.
 pub fn is_good(p: &[usize; PLAN_NUMBERS], goal: Goal, ws: &[usize; SLOTS]) -> bool
-    ensures { (x : Sheet) → ReadyPlan p.now x → result ≡ true → length ws.now ≡ slot-end → Good (sheet_by goal x) (state_of top ws.now) }
+    ensures { (x : Sheet) → ReadyPlan p.now x → result ≡ true → length ws.now ≡ slot_end → Good (sheet_by goal x) (state_of top ws.now) }
 {
     if !has_rows(p, ws) {
         return false;
@@ -140,8 +140,8 @@ pub fn is_good(p: &[usize; PLAN_NUMBERS], goal: Goal, ws: &[usize; SLOTS]) -> bo
 
 // Whether the question is asked and the facts of the state give a list its head.
 pub fn is_given(p: &[usize; PLAN_NUMBERS], goal: Goal, ws: &[usize; SLOTS]) -> bool
-    ensures fact { (x : Sheet) → ReadyPlan p.now x → length ws.now ≡ slot-end → result ≡ false → asks goal ≡ true → GivenToList p.now (goal_facts goal p.now (state_of top ws.now)) (asked_row p.now (state_of top ws.now)) → ⊥ }
-    ensures goal_value { (x : Sheet) → ReadyPlan p.now x → length ws.now ≡ slot-end → result ≡ true → (asks goal ≡ true) × GivenToList p.now (goal_facts goal p.now (state_of top ws.now)) (asked_row p.now (state_of top ws.now)) }
+    ensures fact { (x : Sheet) → ReadyPlan p.now x → length ws.now ≡ slot_end → result ≡ false → asks goal ≡ true → GivenToList p.now (goal_facts goal p.now (state_of top ws.now)) (asked_row p.now (state_of top ws.now)) → ⊥ }
+    ensures goal_value { (x : Sheet) → ReadyPlan p.now x → length ws.now ≡ slot_end → result ≡ true → (asks goal ≡ true) × GivenToList p.now (goal_facts goal p.now (state_of top ws.now)) (asked_row p.now (state_of top ws.now)) }
 {
     let mut room = [0; TABLEAU_NUMBERS];
     let n = write_facts(p, goal, ws, &mut room);
@@ -150,7 +150,7 @@ pub fn is_given(p: &[usize; PLAN_NUMBERS], goal: Goal, ws: &[usize; SLOTS]) -> b
 
 // Two facts of the state that clash in a key, if there are any.
 pub fn first_clash(p: &[usize; PLAN_NUMBERS], goal: Goal, ws: &[usize; SLOTS]) -> Clash
-    ensures { (x : Sheet) → ReadyPlan p.now x → length ws.now ≡ slot-end → KeysBy result.some p.now (goal_facts goal p.now (state_of top ws.now)) result.left result.right }
+    ensures { (x : Sheet) → ReadyPlan p.now x → length ws.now ≡ slot_end → KeysBy result.some p.now (goal_facts goal p.now (state_of top ws.now)) result.left result.right }
 {
     let mut room = [0; TABLEAU_NUMBERS];
     let n = write_facts(p, goal, ws, &mut room);
@@ -159,8 +159,8 @@ pub fn first_clash(p: &[usize; PLAN_NUMBERS], goal: Goal, ws: &[usize; SLOTS]) -
 
 // The first stray row that the facts of the state give a view, if there is one, and the places of facts that give it.
 pub fn first_stray(p: &[usize; PLAN_NUMBERS], goal: Goal, ws: &[usize; SLOTS]) -> Stray
-    ensures stray_by { (x : Sheet) → ReadyPlan p.now x → length ws.now ≡ slot-end → StrayBy result.some p.now (goal_facts goal p.now (state_of top ws.now)) result.view result.values }
-    ensures witness_at { (x : Sheet) → ReadyPlan p.now x → length ws.now ≡ slot-end → result.some ≡ true → WitnessAt (block_numbers p.now (view-block result.view)) (min (block_size p.now (view-block result.view)) most-atoms) (goal_facts goal p.now (state_of top ws.now)) result.values result.at }
+    ensures stray_by { (x : Sheet) → ReadyPlan p.now x → length ws.now ≡ slot_end → StrayBy result.some p.now (goal_facts goal p.now (state_of top ws.now)) result.view result.values }
+    ensures witness_at { (x : Sheet) → ReadyPlan p.now x → length ws.now ≡ slot_end → result.some ≡ true → WitnessAt (block_numbers p.now (view_block result.view)) (min (block_size p.now (view_block result.view)) most_atoms) (goal_facts goal p.now (state_of top ws.now)) result.values result.at }
 {
     let mut room = [0; TABLEAU_NUMBERS];
     let n = write_facts(p, goal, ws, &mut room);

@@ -8,7 +8,7 @@ use native.Mathlib.Omega.{arith}
 use lib.Dec.{ltb}
 use lib.ListN.{length, get_or, set, get_or-eq_default}
 use borrow.Author.Tests.{lt-ltb, le-ltb}
-use Rattle.tableau_layout.specs.Layout.{slot-end}
+use Rattle.tableau_layout.specs.Layout.{slot_end}
 use Rattle.list_laws.proofs.Lists.{inside}
 use Rattle.list_laws.proofs.Order.{less?}
 use Rattle.case_verdicts.specs.Tableau.{State}
@@ -71,13 +71,13 @@ slot-root top ws linked n lt =
 
 -- ---- places of the tableau
 
-pub place-slot : (top : ℕ) (ws : List ℕ) (w : ℕ) → w < slot-end → place_root top ws w ≡ linked_state top ws w
+pub place-slot : (top : ℕ) (ws : List ℕ) (w : ℕ) → w < slot_end → place_root top ws w ≡ linked_state top ws w
 unfolding place_root
-place-slot top ws w h = rw (lt-ltb w slot-end h)
+place-slot top ws w h = rw (lt-ltb w slot_end h)
 
-pub place-constant : (top : ℕ) (ws : List ℕ) (w : ℕ) → slot-end ≤ w → place_root top ws w ≡ w - slot-end
+pub place-constant : (top : ℕ) (ws : List ℕ) (w : ℕ) → slot_end ≤ w → place_root top ws w ≡ w - slot_end
 unfolding place_root
-place-constant top ws w h = rw (le-ltb w slot-end h)
+place-constant top ws w h = rw (le-ltb w slot_end h)
 
 -- what stands at a place is the term's value under the state that the words hold
 pub place-state : (top : ℕ) (ws : List ℕ) (w : ℕ) → place_root top ws w ≡ slot_value (linked_state top ws) w
@@ -85,10 +85,10 @@ unfolding place_root slot_value
 place-state top ws w = refl
 
 -- it is a root, where constants lie below `top`
-pub place-root : (top : ℕ) (ws : List ℕ) → Linked top ws → length ws ≡ slot-end → (w : ℕ) → (slot-end ≤ w → w - slot-end < top) → RootValue top ws (place_root top ws w)
-place-root top ws linked whole w low = go (less? w slot-end)
+pub place-root : (top : ℕ) (ws : List ℕ) → Linked top ws → length ws ≡ slot_end → (w : ℕ) → (slot_end ≤ w → w - slot_end < top) → RootValue top ws (place_root top ws w)
+place-root top ws linked whole w low = go (less? w slot_end)
   where
-    go : (w < slot-end) ⊎ (slot-end ≤ w) → RootValue top ws (place_root top ws w)
+    go : (w < slot_end) ⊎ (slot_end ≤ w) → RootValue top ws (place_root top ws w)
     go (inl h) = subst (RootValue top ws) (sym (place-slot top ws w h)) (slot-root top ws linked w (omega arith))
     go (inr h) = inl (rw (place-constant top ws w h) (low h))
 

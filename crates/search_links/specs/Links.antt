@@ -1,7 +1,7 @@
 -- A state in words with links. The word of a slot is a constant, the slot's own made-up value, or that of a lower slot, whose value it shares
 -- from then on. No promise to a caller rests on these.
 use Rattle.std.specs.Prelude.{cond, List, [], ◌∷◌, ℕ, zero, suc, ◌+◌, ◌-◌, ◌<◌, ◌≤◌, ltb, length, get_or}
-use Rattle.tableau_layout.specs.Layout.{slot-end}
+use Rattle.tableau_layout.specs.Layout.{slot_end}
 use Rattle.case_verdicts.specs.Tableau.{State}
 use Rattle.case_verdicts.specs.Words.{state_of}
 
@@ -31,7 +31,7 @@ linked_state top ws = follow top (state_of top ws)
 
 -- the value at a place of the tableau: of a slot, or the constant that stands there
 unfoldable pub place_root : ℕ → List ℕ → ℕ → ℕ
-place_root top ws w = cond (ltb w slot-end) (root top (state_of top ws) (top + w)) (w - slot-end)
+place_root top ws w = cond (ltb w slot_end) (root top (state_of top ws) (top + w)) (w - slot_end)
 
 -- ---- which words these are
 

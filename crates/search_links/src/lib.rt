@@ -2,7 +2,7 @@
 #![tactic(auto)]
 
 ghost use Rattle.std.specs.Prelude.{◌≡◌, List, ℕ, ◌+◌, ◌<◌, ◌≤◌, length};
-ghost use Rattle.tableau_layout.specs.Layout.{slot-end};
+ghost use Rattle.tableau_layout.specs.Layout.{slot_end};
 ghost use Rattle.case_verdicts.specs.Sheets.{top};
 ghost use Rattle.case_verdicts.specs.Search as search;
 ghost use Rattle.case_verdicts.specs.Words.{state_of};
@@ -14,8 +14,8 @@ use tableau_layout::SLOTS;
 
 // Writes the words of the first state: each slot its own made-up value. More words than there are slots are left as they are.
 pub fn free(ws: &mut [usize])
-    ensures ws_after { length ws.old ≤ slot-end → state_of top ws.new ≡ search.free top }
-    ensures ws_unchanged { slot-end < length ws.old → ws.new ≡ ws.old }
+    ensures ws_after { length ws.old ≤ slot_end → state_of top ws.new ≡ search.free top }
+    ensures ws_unchanged { slot_end < length ws.old → ws.new ≡ ws.old }
 {
     if SLOTS < ws.len() {
         return;

@@ -6,7 +6,7 @@ use Prim.Native.Nat.{ℕ, ◌+◌, ◌-◌, ◌*◌, ◌<◌, ◌≤◌}
 use native.Mathlib.Omega.{arith}
 use lib.ListN.{length, replicate}
 use Rattle.query_layout.specs.Layout.{names}
-use Rattle.tableau_layout.specs.Layout.{most-copies, slot-end}
+use Rattle.tableau_layout.specs.Layout.{most_copies, slot_end}
 use Rattle.query_meaning.specs.Meaning.{Term, con, var, Fact, Block, In, value, fact_of, Answer}
 use Rattle.query_encoding.specs.Encoding.{Shaped, padded}
 use Rattle.query_encoding.proofs.Lists.{in_map, map_in}
@@ -18,8 +18,8 @@ use Rattle.case_verdicts.proofs.Tableau.{source, copy-block}
 use Rattle.search_task.proofs.ReadyLaws.{zero-small}
 use Rattle.search_task.proofs.Copies.{copy-small}
 
-module _ (y : Sheet) (ok : FineSheet top y) (few : length (jobs y) ≤ most-copies) (s : State) (P : ℕ → Type 0)
-    (constants : (n : ℕ) → n < top → P n) (slots : (n : ℕ) → n < slot-end → P (s n)) where
+module _ (y : Sheet) (ok : FineSheet top y) (few : length (jobs y) ≤ most_copies) (s : State) (P : ℕ → Type 0)
+    (constants : (n : ℕ) → n < top → P n) (slots : (n : ℕ) → n < slot_end → P (s n)) where
   -- a value of a fact of the state's log
   fact-value : (f : Fact) → In f (tableau_log y s) → (n : ℕ) → In n f.row → P n
   unfolding width
@@ -28,7 +28,7 @@ module _ (y : Sheet) (ok : FineSheet top y) (few : length (jobs y) ≤ most-copi
       let k = copy-small (jobs y) o.copy_of o.copied in
       go o.term (((copy-block y ok o.copy_of o.copied).atoms o.atom o.standing).terms o.term o.written) o.copy_of.number (omega arith) o.same
     where
-      go : (t : Term) → FineTerm top t → (k : ℕ) → k < most-copies → n ≡ value (copy s k) t → P n
+      go : (t : Term) → FineTerm top t → (k : ℕ) → k < most_copies → n ≡ value (copy s k) t → P n
       go (con c) fine k lt e = subst P (sym e) (constants c fine)
       go (var z) fine k lt e = subst P (sym e) (slots (k * names + z) (omega arith))
 

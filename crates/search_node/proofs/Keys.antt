@@ -9,7 +9,7 @@ use lib.ListN.{length, drop, get_or}
 use Rattle.list_laws.proofs.Order.{less?}
 use Rattle.sheet_format.specs.Table.{columns_of}
 use Rattle.sheet_terms.proofs.Laws.{key-most}
-use Rattle.tableau_layout.specs.Layout.{slot-end, table_at, tableau_atoms}
+use Rattle.tableau_layout.specs.Layout.{slot_end, table_at, tableau_atoms}
 use Rattle.query_meaning.specs.Meaning.{In}
 use Rattle.query_encoding.proofs.Lists.{in-at}
 use Rattle.case_verdicts.specs.Verdict.{Sheet}
@@ -30,7 +30,7 @@ use Rattle.search_reasons.specs.Reasons.{Obeys}
 use Rattle.search_keys.specs.Keys.{AlikeIn, SameKeyAt, KeyClash}
 use Rattle.search_keys.specs.Clashes.{column_place, end_at, OneIn, ClashAt, RowMarked, ClashShown}
 use Rattle.search_keys.proofs.Laws.{keys-made-one}
-use Rattle.search_node.specs.Choices.{pair-kind, node_of_parts}
+use Rattle.search_node.specs.Choices.{pair_kind, node_of_parts}
 use Rattle.search_node.specs.Node.{Standing, Wordly, AtomsOf, FitsRow, Joinable, OpenState}
 use Rattle.search_node.proofs.Choices.{pair_open}
 use Rattle.search_node.proofs.Roots.{slot-stands}
@@ -139,7 +139,7 @@ module _ (p : List ℕ) (x : Sheet) (r : ReadyPlan p x) (goal : Goal) where
     stands j lj c lc few = ⊎_elim
         (λ h. subst (Standing x) (sym (place-slot top ws (column_place p j c) h)) (slot-stands x ws (λ n l. let z = w.size in w.stood n (omega arith)) (column_place p j c) h))
         (λ h. subst (Standing x) (sym (place-constant top ws (column_place p j c) h)) (constant-stands p x r j c lj lc few h))
-        (less? (column_place p j c) slot-end)
+        (less? (column_place p j c) slot_end)
 
     fits : (a b : ℕ) (row other : List ℕ) → a < tableau_size p → b < tableau_size p → tableau_at p a 0 ≡ tableau_at p b 0 → RowMarked p ws a key set set row → RowMarked p ws b key set set other → FitsRow x row other
     fits a b row other la lb e m n c lc high = ⊎_elim
@@ -163,5 +163,5 @@ module _ (p : List ℕ) (x : Sheet) (r : ReadyPlan p x) (goal : Goal) where
           (less? c key));
     }
 
-    pub key_open : OpenState p x (Good (sheet_by goal x)) ws set (node_of_parts pair-kind 0 u v)
+    pub key_open : OpenState p x (Good (sheet_by goal x)) ws set (node_of_parts pair_kind 0 u v)
     key_open = pair_open p x (Good (sheet_by goal x)) ws set 0 u v shown.left.size shown.right.size join made

@@ -5,7 +5,7 @@ use mathlib.Core.List.{List}
 use Prim.Native.Nat.{ℕ, ◌<◌}
 use native.Mathlib.Omega.{arith}
 use lib.ListN.{length, get_or}
-use Rattle.tableau_layout.specs.Layout.{slot-end}
+use Rattle.tableau_layout.specs.Layout.{slot_end}
 use Rattle.case_verdicts.specs.Verdict.{Sheet}
 use Rattle.case_verdicts.specs.Sheets.{top}
 use Rattle.case_verdicts.specs.Tableau.{State, Good}
@@ -33,8 +33,8 @@ asked-rests Agreement e s = absurd (true≢false (sym e))
 
 -- ---- the state whose values are read into plain words
 
-module _ (p : List ℕ) (x : Sheet) (r : ReadyPlan p x) {ws : List ℕ} (out : List ℕ) (goal : Goal) (w : Wordly x (sheet_by goal x) ws) (size : length out ≡ slot-end)
-    (each : (n : ℕ) → n < slot-end → get_or out n 0 ≡ linked_state top ws n) where
+module _ (p : List ℕ) (x : Sheet) (r : ReadyPlan p x) {ws : List ℕ} (out : List ℕ) (goal : Goal) (w : Wordly x (sheet_by goal x) ws) (size : length out ≡ slot_end)
+    (each : (n : ℕ) → n < slot_end → get_or out n 0 ≡ linked_state top ws n) where
   same : state_of top out ≡ linked_state top ws
   same = read-state ws out w.size size each
 

@@ -8,7 +8,7 @@ use native.Mathlib.Nat.{min-eq_left}
 use native.Mathlib.Omega.{arith}
 use lib.ListN.{length, get_or, length-map, get_or-eq_default}
 use Rattle.list_laws.proofs.Order.{less?}
-use Rattle.tableau_layout.specs.Layout.{slot-end, view-block}
+use Rattle.tableau_layout.specs.Layout.{slot_end, view_block}
 use Rattle.query_meaning.specs.Meaning.{In, Answer}
 use Rattle.query_meaning.specs.Blocks.{nth}
 use Rattle.query_join.specs.Joins.{Given}
@@ -64,19 +64,19 @@ made_one t u r e low = at-met (value_under top t) u r (λ c a b.
 
 module _ (p : List ℕ) (x : Sheet) (r : ReadyPlan p x) (goal : Goal) (v : ℕ) (lt : v < view_count p) where
   -- an answer of the view, in the terms of the sheet
-  given-view : (t : State) (u : List ℕ) → GivenAt p (view-block v) (goal_facts goal p t) u → (a : List ℕ) × (u ≡ padded a) × Answer (tableau_log (sheet_by goal x) t) (nth x.views v).block a
+  given-view : (t : State) (u : List ℕ) → GivenAt p (view_block v) (goal_facts goal p t) u → (a : List ℕ) × (u ≡ padded a) × Answer (tableau_log (sheet_by goal x) t) (nth x.views v).block a
   given-view t u g =
       let y = sheet_by goal x in
       let bn = r.plan.view v lt in
       let fn = ready-facts p x r goal t in
       given-answer bn ((ready_task p x r goal).shaped v lt) fn (shaped-log p x y r.plan (ready_task p x r goal) t (goal_facts goal p t) fn)
-      (subst (λ n. Given (block_numbers p (view-block v)) n (goal_facts goal p t) u) (min-eq_left bn.few) g)
+      (subst (λ n. Given (block_numbers p (view_block v)) n (goal_facts goal p t) u) (min-eq_left bn.few) g)
 
   view_in : In (nth x.views v) (sheet_by goal x).views
   view_in = let c = r.plan.views in subst (λ ws. In (nth x.views v) ws) (sym (ready_task p x r goal).same) (nth_in x.views v (omega arith))
 
   -- a row that the view is given is as wide as its listed rows
-  view-fits : (t : State) (u : List ℕ) → GivenAt p (view-block v) (goal_facts goal p t) u → (i : ℕ) → i < row_count p → row_at p i 0 ≡ v → FitsRow x u (row_values p i)
+  view-fits : (t : State) (u : List ℕ) → GivenAt p (view_block v) (goal_facts goal p t) u → (i : ℕ) → i < row_count p → row_at p i 0 ≡ v → FitsRow x u (row_values p i)
   view-fits t u g i li q =
       let (a, e, ans) = given-view t u g in
       let o = r.plan.rows i li in
@@ -94,15 +94,15 @@ module _ (p : List ℕ) (x : Sheet) (r : ReadyPlan p x) (goal : Goal) (v : ℕ) 
       ap (λ k. k ∷ map (value_under top (linked_state top ws)) u) (sym (below_root ws (linked_state top ws) b n (f n (inl refl)))) ∙ ap (λ l. n ∷ l) (kept_map ws u (λ k m. f k (inr m)))
 
   -- a good state makes the row a listed one
-  pub becomes-listed : (t : State) (u : List ℕ) → Good (sheet_by goal x) t → GivenAt p (view-block v) (goal_facts goal p t) (map (value_under top t) u)
+  pub becomes-listed : (t : State) (u : List ℕ) → Good (sheet_by goal x) t → GivenAt p (view_block v) (goal_facts goal p t) (map (value_under top t) u)
       → (i : ℕ) × (i < row_count p) × (row_at p i 0 ≡ v) × Met (value_under top t) (equations u (row_values p i))
   becomes-listed t u good g =
       let (a, e, ans) = given-view t (map (value_under top t) u) g in
-      let (i, li, q, f) = r.plan.every-row v lt a (good.none_more (nth x.views v) view_in a ans) in
+      let (i, li, q, f) = r.plan.every_row v lt a (good.none_more (nth x.views v) view_in a ans) in
       (i, li, q, made_one t u (row_values p i) (e ∙ sym f) (row-constants p x r i li))
 
   -- a row that facts show by the words of a set
-  pub shown_open : {ws u old set : List ℕ} (from b : ℕ) → from ≡ from_by goal p → b ≡ view-block v → Linked top ws → length ws ≡ slot-end → RowShown p ws from b u old set → (ListedRow p v u → ⊥)
+  pub shown_open : {ws u old set : List ℕ} (from b : ℕ) → from ≡ from_by goal p → b ≡ view_block v → Linked top ws → length ws ≡ slot_end → RowShown p ws from b u old set → (ListedRow p v u → ⊥)
       → RowOpen p x (Good (sheet_by goal x)) ws set v u
   shown_open {ws} {u} {old} {set} from b e f linked whole s stray = record {
     size = s.size;
@@ -123,15 +123,15 @@ module _ (p : List ℕ) (x : Sheet) (r : ReadyPlan p x) (goal : Goal) (v : ℕ) 
       own = record { to = λ k. k; keeps = λ c h. refl; at = λ k. refl }
 
       -- also in the state that the words hold
-      here : GivenAt p (view-block v) (goal_facts goal p (linked_state top ws)) u
+      here : GivenAt p (view_block v) (goal_facts goal p (linked_state top ws)) u
       here =
-          subst (GivenAt p (view-block v) (goal_facts goal p (linked_state top ws))) (kept_map ws u (s.roots linked whole))
+          subst (GivenAt p (view_block v) (goal_facts goal p (linked_state top ws))) (kept_map ws u (s.roots linked whole))
           (subst (λ k. GivenAt p k (goal_facts goal p (linked_state top ws)) (map (value_under top (linked_state top ws)) u)) f
           (subst (λ k. GivenAt p b (tableau_facts p (linked_state top ws) k (tableau_size p - k)) (map (value_under top (linked_state top ws)) u)) e
           (s.given (linked_state top ws) (λ n i. below-obeys ws (linked_state top ws) linked own n))))
 
   -- a row that the facts of the whole state give
-  pub walk_open : (ws u set : List ℕ) → Linked top ws → length ws ≡ slot-end → ((n : ℕ) → in_set set n ≡ true) → StrayAt p (goal_facts goal p (linked_state top ws)) v u
+  pub walk_open : (ws u set : List ℕ) → Linked top ws → length ws ≡ slot_end → ((n : ℕ) → in_set set n ≡ true) → StrayAt p (goal_facts goal p (linked_state top ws)) v u
       → RowOpen p x (Good (sheet_by goal x)) ws set v u
   walk_open ws u set linked whole full st = record {
     size = sym (ap length st.given.gives);

@@ -7,7 +7,7 @@ use native.Mathlib.Omega.{arith}
 use lib.ListN.{length, get_or, get_or-eq_default}
 use Rattle.list_laws.proofs.Lists.{inside}
 use Rattle.list_laws.proofs.Order.{less?}
-use Rattle.tableau_layout.specs.Layout.{slot-end}
+use Rattle.tableau_layout.specs.Layout.{slot_end}
 use Rattle.case_verdicts.specs.Verdict.{Sheet}
 use Rattle.case_verdicts.specs.Sheets.{top}
 use Rattle.case_verdicts.specs.Tableau.{State}
@@ -46,7 +46,7 @@ module _ (x : Sheet) (ws : List ℕ) (stood : (n : ℕ) → n < length ws → St
           (less? (v - top) (length ws))
 
   -- the value of a slot stands
-  pub slot-stands : (n : ℕ) → n < slot-end → Standing x (linked_state top ws n)
+  pub slot-stands : (n : ℕ) → n < slot_end → Standing x (linked_state top ws n)
   slot-stands n h = root-keeps (state_of top ws) (Standing x) step-stands (top + n) (inr (omega arith, omega arith))
 
 -- ---- states that obey all words
@@ -98,9 +98,9 @@ below_root ws t b v (inr f) = ap b.to (sym held) ∙ b.at (v - top) ∙ sym (und
 
 -- ---- values read into plain words
 
-pub read-state : (ws out : List ℕ) → length ws ≡ slot-end → length out ≡ slot-end → ((n : ℕ) → n < slot-end → get_or out n 0 ≡ linked_state top ws n) → state_of top out ≡ linked_state top ws
+pub read-state : (ws out : List ℕ) → length ws ≡ slot_end → length out ≡ slot_end → ((n : ℕ) → n < slot_end → get_or out n 0 ≡ linked_state top ws n) → state_of top out ≡ linked_state top ws
 read-state ws out whole size each = fun_ext (λ n. ⊎_elim
     (λ h. inside out n (top + n) 0 (omega arith) ∙ each n h)
     (λ h. get_or-eq_default out (top + n) (omega arith)
     ∙ sym (root-fixed top (state_of top ws) (top + n) (step-outside top ws (top + n) (omega arith) (omega arith))))
-    (less? n slot-end))
+    (less? n slot_end))

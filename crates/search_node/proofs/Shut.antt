@@ -3,7 +3,7 @@ use mathlib.Core.Path.{◌≡◌, refl, sym, ap, ◌∙◌, subst}
 use mathlib.Core.Bool.{true}
 use mathlib.Core.List.{List, map}
 use Prim.Native.Nat.{ℕ, ◌<◌}
-use Rattle.tableau_layout.specs.Layout.{list-block}
+use Rattle.tableau_layout.specs.Layout.{list_block}
 use Rattle.case_verdicts.specs.Verdict.{Sheet}
 use Rattle.case_verdicts.specs.Sheets.{top}
 use Rattle.case_verdicts.specs.Tableau.{State, Good}
@@ -27,7 +27,7 @@ itself t = record { to = λ v. v; keeps = λ c h. refl; at = λ n. refl }
 
 module _ (p : List ℕ) (x : Sheet) (r : ReadyPlan p x) where
   -- by facts and a head that the words of a set show
-  pub shown-shut : {ws row head old mid set : List ℕ} (b i : ℕ) → b ≡ list-block i → i < list_count p → row ≡ head → RowShown p ws 0 b row old mid → AskedShown p ws head mid set
+  pub shown-shut : {ws row head old mid set : List ℕ} (b i : ℕ) → b ≡ list_block i → i < list_count p → row ≡ head → RowShown p ws 0 b row old mid → AskedShown p ws head mid set
       → RestsOn (Good x) ws set
   shown-shut {ws} {row} {head} {old} {mid} {set} b i e lt same g a = record {
     none = λ t good o.

@@ -9,7 +9,7 @@ use lib.ListN.{length, get_or, get_or-eq_default}
 use Rattle.list_laws.proofs.Order.{less?}
 use Rattle.sheet_format.specs.Table.{columns_of}
 use Rattle.query_layout.specs.Layout.{names}
-use Rattle.tableau_layout.specs.Layout.{slot-end}
+use Rattle.tableau_layout.specs.Layout.{slot_end}
 use Rattle.query_meaning.specs.Meaning.{In, fact}
 use Rattle.query_encoding.specs.Encoding.{fact_at}
 use Rattle.query_encoding.proofs.Lists.{at_in, map_in}
@@ -73,7 +73,7 @@ module _ (p : List ℕ) (x : Sheet) (r : ReadyPlan p x) where
       (subst (λ v. In v (fact_at (tableau_log x s) i).row) (column-is s i c li lc) (at_in 0 (fact_at (tableau_log x s) i).row c (let l = row-long s i li in omega arith)))
 
   -- a constant of the tableau stands, 0 in a column that the relation has
-  pub constant-stands : (i c : ℕ) → i < tableau_size p → c < 4 → c < columns_of x.table (pos (tableau_at p i 0)) → slot-end ≤ tableau_at p i (1 + c) → Standing x (tableau_at p i (1 + c) - slot-end)
+  pub constant-stands : (i c : ℕ) → i < tableau_size p → c < 4 → c < columns_of x.table (pos (tableau_at p i 0)) → slot_end ≤ tableau_at p i (1 + c) → Standing x (tableau_at p i (1 + c) - slot_end)
   unfolding width
   constant-stands i c li lc few past =
       subst (Standing x) (constant-value (free top) (tableau_at p i (1 + c)) past) (⊎_elim (λ k. inl k) slot (known-column (free top) i c li lc few))
@@ -87,27 +87,27 @@ module _ (p : List ℕ) (x : Sheet) (r : ReadyPlan p x) where
           inr (omega arith, omega arith)
 
   -- 0 also stands in columns that a relation lacks
-  pub term-stands : (v : ℕ) → 0 < v → TableauTerm p (slot-end + v) → Standing x v
+  pub term-stands : (v : ℕ) → 0 < v → TableauTerm p (slot_end + v) → Standing x v
   term-stands v some (i, li, (c, lc, e)) =
-      let is : tableau_at p i (1 + c) - slot-end ≡ v = omega arith in
-      let past : slot-end ≤ tableau_at p i (1 + c) = omega arith in
+      let is : tableau_at p i (1 + c) - slot_end ≡ v = omega arith in
+      let past : slot_end ≤ tableau_at p i (1 + c) = omega arith in
       let value = constant-value (free top) (tableau_at p i (1 + c)) past in
       subst (Standing x) is (constant-stands i c li lc (column-used (free top) i c li lc (omega arith)) past)
 
   -- a term is a slot, or a constant
   pub term-place : (i : ℕ) → i < tableau_size p → Places p i
-  term-place i li c lc = ⊎_elim (λ h. omega arith) constant (less? (tableau_at p i (1 + c)) slot-end)
+  term-place i li c lc = ⊎_elim (λ h. omega arith) constant (less? (tableau_at p i (1 + c)) slot_end)
     where
-      constant : slot-end ≤ tableau_at p i (1 + c) → Place (tableau_at p i (1 + c))
-      constant past = ⊎_elim (λ none. omega arith) some (less? (tableau_at p i (1 + c) - slot-end) 1)
+      constant : slot_end ≤ tableau_at p i (1 + c) → Place (tableau_at p i (1 + c))
+      constant past = ⊎_elim (λ none. omega arith) some (less? (tableau_at p i (1 + c) - slot_end) 1)
         where
-          value : slot_value (λ n. 0) (tableau_at p i (1 + c)) ≡ tableau_at p i (1 + c) - slot-end
+          value : slot_value (λ n. 0) (tableau_at p i (1 + c)) ≡ tableau_at p i (1 + c) - slot_end
           value = constant-value (λ n. 0) (tableau_at p i (1 + c)) past
 
           zero : In (slot_value (λ n. 0) (tableau_at p i (1 + c))) (map (λ n. 0) (slots x)) → slot_value (λ n. 0) (tableau_at p i (1 + c)) ≡ 0
           zero j = let (k, w, q) = map_in (λ n. 0) (slot_value (λ n. 0) (tableau_at p i (1 + c))) (slots x) j in q
 
-          some : 1 ≤ tableau_at p i (1 + c) - slot-end → Place (tableau_at p i (1 + c))
+          some : 1 ≤ tableau_at p i (1 + c) - slot_end → Place (tableau_at p i (1 + c))
           some h =
               let e = value in
               ⊎_elim

@@ -6,24 +6,24 @@ use Rattle.tableau_plan.specs.Plan.{row_at, row_values, row_count}
 -- ---- the kinds
 
 -- the left row has to become one of a view's listed rows
-abbrev pub rows-kind : ℕ
-rows-kind = 0
+abbrev pub rows_kind : ℕ
+rows_kind = 0
 
 -- the two rows have to become one
-abbrev pub pair-kind : ℕ
-pair-kind = 1
+abbrev pub pair_kind : ℕ
+pair_kind = 1
 
 -- in one of so many columns the values of the two rows have to become one
-abbrev pub each-kind : ℕ
-each-kind = 2
+abbrev pub each_kind : ℕ
+each_kind = 2
 
 -- ---- the numbers
 
 abbrev pub left_at : ℕ
 left_at = 2
 
-abbrev pub right-at : ℕ
-right-at = left_at + 4
+abbrev pub right_at : ℕ
+right_at = left_at + 4
 
 abbrev pub node_kind : List ℕ → ℕ
 node_kind node = get_or node 0 0
@@ -46,29 +46,29 @@ node_of_parts kind number a b =
 
 -- as digits, the alternatives to try first: listed rows leave the right row free for it
 unfoldable pub node_hint : List ℕ → ℕ
-node_hint node = cond (eqb (node_kind node) rows-kind) (get_or node right-at 0) 0
+node_hint node = cond (eqb (node_kind node) rows_kind) (get_or node right_at 0) 0
 
 -- ---- the alternatives
 
 -- a row of alternative k: the whole of it, or its column k alone
 unfoldable pub part_of : List ℕ → ℕ → ℕ → List ℕ
-part_of node at k = cond (eqb (node_kind node) each-kind) (one_value (get_or node (at + k) 0)) (node_row node at)
+part_of node at k = cond (eqb (node_kind node) each_kind) (one_value (get_or node (at + k) 0)) (node_row node at)
 
 abbrev pub left_of : List ℕ → ℕ → List ℕ
 left_of node k = part_of node left_at k
 
 unfoldable pub right_of : List ℕ → List ℕ → ℕ → List ℕ
-right_of p node k = cond (eqb (node_kind node) rows-kind) (row_values p k) (part_of node right-at k)
+right_of p node k = cond (eqb (node_kind node) rows_kind) (row_values p k) (part_of node right_at k)
 
 unfoldable pub how_many : List ℕ → List ℕ → ℕ
-how_many p node = cond (eqb (node_kind node) rows-kind) (row_count p) (cond (eqb (node_kind node) each-kind) (min (node_number node) 4) 1)
+how_many p node = cond (eqb (node_kind node) rows_kind) (row_count p) (cond (eqb (node_kind node) each_kind) (min (node_number node) 4) 1)
 
 -- alternative k has to be tried: of listed rows, those of the view
 pub record LiveAt (p node : List ℕ) (k : ℕ) : Type 0 where
   pub inside : k < how_many p node
-  pub listed : node_kind node ≡ rows-kind → row_at p k 0 ≡ node_number node
+  pub listed : node_kind node ≡ rows_kind → row_at p k 0 ≡ node_number node
 
 -- so far as it is told by its view
 abbrev pub LiveBy : Bool → List ℕ → List ℕ → ℕ → Type 0
-LiveBy true p node k = node_kind node ≡ rows-kind → row_at p k 0 ≡ node_number node
+LiveBy true p node k = node_kind node ≡ rows_kind → row_at p k 0 ≡ node_number node
 LiveBy false p node k = LiveAt p node k → ⊥

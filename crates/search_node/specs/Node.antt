@@ -1,6 +1,6 @@
 -- What a state of the search is found to be. No promise to a caller rests on these.
 use Rattle.std.specs.Prelude.{◌≡◌, Bool, true, false, List, ◌⊎◌, ℕ, ◌+◌, ◌<◌, ◌≤◌, length, get_or}
-use Rattle.tableau_layout.specs.Layout.{slot-end}
+use Rattle.tableau_layout.specs.Layout.{slot_end}
 use Rattle.case_verdicts.specs.Verdict.{Sheet}
 use Rattle.case_verdicts.specs.Handed.{Stands}
 use Rattle.case_verdicts.specs.Sheets.{top}
@@ -17,18 +17,18 @@ use Rattle.search_node.specs.Choices.{left_of, right_of, LiveAt}
 
 -- a number of the sheet, or made up
 abbrev pub Standing : Sheet → ℕ → Type 0
-Standing x v = Stands x v ⊎ ((top ≤ v) × (v < top + slot-end))
+Standing x v = Stands x v ⊎ ((top ≤ v) × (v < top + slot_end))
 
 -- words from which a search may go on: as many as slots, links that lead down, values that stand, and the copies' heads as they must be
 pub record Wordly (x y : Sheet) (ws : List ℕ) : Type 0 where
-  pub size : length ws ≡ slot-end
+  pub size : length ws ≡ slot_end
   pub linked : Linked top ws
-  pub stood : (n : ℕ) → n < slot-end → Standing x (get_or ws n 0)
+  pub stood : (n : ℕ) → n < slot_end → Standing x (get_or ws n 0)
   pub settled : HeadsSettled y (linked_state top ws)
 
 -- a slot has this word
 abbrev pub WordOf : List ℕ → ℕ → Type 0
-WordOf ws v = (n : ℕ) × (n < slot-end) × (get_or ws n 0 ≡ v)
+WordOf ws v = (n : ℕ) × (n < slot_end) × (get_or ws n 0 ≡ v)
 
 -- a term of the tableau is this place: of its atom i, or of any
 abbrev pub TermAt : List ℕ → ℕ → ℕ → Type 0
@@ -45,8 +45,8 @@ pub record AtomsOf (goal : Goal) (p : List ℕ) (i k : ℕ) : Type 0 where
 -- a good state, each slot's word its value
 pub record StateFound (x y : Sheet) (out : List ℕ) : Type 0 where
   pub good : Good y (state_of top out)
-  pub size : length out ≡ slot-end
-  pub stood : (n : ℕ) → n < slot-end → Standing x (get_or out n 0)
+  pub size : length out ≡ slot_end
+  pub stood : (n : ℕ) → n < slot_end → Standing x (get_or out n 0)
 
 -- where u has a made-up value, that of the row is a number of the sheet or made up
 abbrev pub FitsRow : Sheet → List ℕ → List ℕ → Type 0

@@ -5,8 +5,8 @@
 #![tactic(auto)]
 
 ghost use Rattle.std.specs.Prelude.{◌≡◌, true, false, List, ℕ, ◌<◌, ◌≤◌, length, get_or};
-ghost use Rattle.sheet_format.specs.Limits.{most-rows};
-ghost use Rattle.tableau_layout.specs.Layout.{slot-end, tableau_atoms};
+ghost use Rattle.sheet_format.specs.Limits.{most_rows};
+ghost use Rattle.tableau_layout.specs.Layout.{slot_end, tableau_atoms};
 ghost use Rattle.case_verdicts.specs.Verdict.{Sheet};
 ghost use Rattle.case_verdicts.specs.Sheets.{top};
 ghost use Rattle.case_verdicts.specs.Tableau.{Good};
@@ -18,7 +18,7 @@ ghost use Rattle.search_reasons.specs.Reasons.{RestsOn};
 ghost use Rattle.search_slots.specs.Slots.{in_set};
 ghost use Rattle.search_keys.specs.Keys.{KeyClash};
 ghost use Rattle.search_keys.specs.Clashes.{ClashAt};
-ghost use Rattle.search_node.specs.Choices.{rows-kind, pair-kind, each-kind, right-at, node_kind, node_hint, one_value, node_of_parts, part_of, left_of, right_of, how_many, LiveBy};
+ghost use Rattle.search_node.specs.Choices.{rows_kind, pair_kind, each_kind, right_at, node_kind, node_hint, one_value, node_of_parts, part_of, left_of, right_of, how_many, LiveBy};
 ghost use Rattle.search_node.specs.Node.{Standing, Wordly, WordOf, TermAt, TableauTerm, AtomsOf, StateFound, RowOpen, OpenState, NodeBy};
 ghost use Rattle.search_task.specs.declared.Goal.{Goal};
 
@@ -65,28 +65,28 @@ fn node_by(kind: usize, number: usize, a: [usize; 4], b: [usize; 4]) -> [usize; 
 
 // A node where a row has to become one of a view's listed rows. The right row is free: as digits, it has the listed rows to try first.
 pub fn rows_node(view: usize, u: [usize; 4], hint: u64) -> [usize; NODE_NUMBERS]
-    ensures { result ≡ node_of_parts rows-kind view u (one_value hint) }
+    ensures { result ≡ node_of_parts rows_kind view u (one_value hint) }
 {
     node_by(ROWS, view, u, [hint as usize, 0, 0, 0])
 }
 
 // A node where two rows have to become one.
 pub fn pair_node(a: [usize; 4], b: [usize; 4]) -> [usize; NODE_NUMBERS]
-    ensures { result ≡ node_of_parts pair-kind 0 a b }
+    ensures { result ≡ node_of_parts pair_kind 0 a b }
 {
     node_by(PAIR, 0, a, b)
 }
 
 // A node where two rows have to have the same value in one of the first columns.
 pub fn each_node(count: usize, a: [usize; 4], b: [usize; 4]) -> [usize; NODE_NUMBERS]
-    ensures { result ≡ node_of_parts each-kind count a b }
+    ensures { result ≡ node_of_parts each_kind count a b }
 {
     node_by(EACH, count, a, b)
 }
 
 // How many alternatives a node has, live or not.
 pub fn alternatives(p: &[usize; PLAN_NUMBERS], node: &[usize; NODE_NUMBERS]) -> usize
-    ensures { Limited (how_many p.now node.now) most-rows result }
+    ensures { Limited (how_many p.now node.now) most_rows result }
 {
     let kind = node[KIND_AT];
     if kind == ROWS {
@@ -114,14 +114,14 @@ pub fn hint_of(node: &[usize; NODE_NUMBERS]) -> u64
 
 // Whether the alternatives are listed rows.
 pub fn is_of_rows(node: &[usize; NODE_NUMBERS]) -> bool
-    ensures { result ≡ true → node_kind node.now ≡ rows-kind }
+    ensures { result ≡ true → node_kind node.now ≡ rows_kind }
 {
     node[KIND_AT] == ROWS
 }
 
 // Whether alternative k has to be tried, as its view tells.
 pub fn is_live(p: &[usize; PLAN_NUMBERS], node: &[usize; NODE_NUMBERS], k: usize) -> bool
-    ensures { k < most-rows → LiveBy result p.now node.now k }
+    ensures { k < most_rows → LiveBy result p.now node.now k }
 {
     if node[KIND_AT] != ROWS {
         return true;
@@ -131,8 +131,8 @@ pub fn is_live(p: &[usize; PLAN_NUMBERS], node: &[usize; NODE_NUMBERS], k: usize
 
 // A row of alternative k: the whole of it, or its column k alone.
 fn part_of(node: &[usize; NODE_NUMBERS], at: usize, k: usize) -> [usize; 4]
-    requires { at ≤ right-at }
-    ensures { (k < 4 → result ≡ part_of node.now at k) × ((node_kind node.now ≡ each-kind → ⊥) → result ≡ part_of node.now at k) }
+    requires { at ≤ right_at }
+    ensures { (k < 4 → result ≡ part_of node.now at k) × ((node_kind node.now ≡ each_kind → ⊥) → result ≡ part_of node.now at k) }
 {
     if node[KIND_AT] != EACH {
         return [node[at], node[at + 1], node[at + 2], node[at + 3]];
@@ -152,7 +152,7 @@ pub fn left_row(node: &[usize; NODE_NUMBERS], k: usize) -> [usize; 4]
 
 // The right row of alternative k.
 pub fn right_row(p: &[usize; PLAN_NUMBERS], node: &[usize; NODE_NUMBERS], k: usize) -> [usize; 4]
-    ensures { (k < most-rows → k < how_many p.now node.now → result ≡ right_of p.now node.now k) × (length result ≡ 4) }
+    ensures { (k < most_rows → k < how_many p.now node.now → result ≡ right_of p.now node.now k) × (length result ≡ 4) }
 {
     if node[KIND_AT] == ROWS {
         return tableau_parts::values_at(p, k);
@@ -172,14 +172,14 @@ struct OpenRow {
 
 // A node with no alternatives: a state with it is refuted.
 pub fn refute(node: &mut [usize; NODE_NUMBERS])
-    ensures { node.new ≡ node_of_parts each-kind 0 (one_value 0) (one_value 0) }
+    ensures { node.new ≡ node_of_parts each_kind 0 (one_value 0) (one_value 0) }
 {
     *node = each_node(0, [0; 4], [0; 4]);
 }
 
 // The values of the slots.
 fn read_all(ws: &[usize; SLOTS], out: &mut [usize; SLOTS])
-    ensures n_after { length out.old ≡ slot-end → (n : ℕ) → n < slot-end → get_or out.new n 0 ≡ linked_state top ws.now n }
+    ensures n_after { length out.old ≡ slot_end → (n : ℕ) → n < slot_end → get_or out.new n 0 ≡ linked_state top ws.now n }
     ensures out_len_unchanged { length out.new ≡ length out.old }
 {
     let mut n = 0;
@@ -338,7 +338,7 @@ fn is_term(p: &[usize; PLAN_NUMBERS], w: usize) -> bool
 
 // Whether v is sure to be a number of the sheet, or is made up: slot n's value, a value made up, a slot's word, or a constant of the tableau.
 fn is_standing(p: &[usize; PLAN_NUMBERS], ws: &[usize; SLOTS], n: usize, v: usize) -> bool
-    ensures { (x y : Sheet) → ReadyPlan p.now x → Wordly x y ws.now → n < slot-end → result ≡ true → Standing x v }
+    ensures { (x y : Sheet) → ReadyPlan p.now x → Wordly x y ws.now → n < slot_end → result ≡ true → Standing x v }
 {
     if search_links::place_value(ws, n) == v {
         return true;
@@ -362,7 +362,7 @@ fn take_values(
     values: &[usize; SLOTS],
     out: &mut [usize; SLOTS],
 ) -> bool
-    ensures standing { (x y : Sheet) → ReadyPlan p.now x → Wordly x y ws.now → length out.old ≡ slot-end → result ≡ true → (n : ℕ) → n < slot-end → Standing x (get_or out.new n 0) }
+    ensures standing { (x y : Sheet) → ReadyPlan p.now x → Wordly x y ws.now → length out.old ≡ slot_end → result ≡ true → (n : ℕ) → n < slot_end → Standing x (get_or out.new n 0) }
     ensures out_len_unchanged { length out.new ≡ length out.old }
 {
     let mut n = 0;
@@ -384,7 +384,7 @@ fn by_all(
     set: &mut [u64; SET_WORDS],
     node: &mut [usize; NODE_NUMBERS],
 )
-    ensures node_after { node.new ≡ node_of_parts rows-kind view values (one_value 0) }
+    ensures node_after { node.new ≡ node_of_parts rows_kind view values (one_value 0) }
     ensures by_index { ((n : ℕ) → in_set set.new n ≡ true) × (length set.new ≡ length set.old) }
 {
     fill(set);
@@ -511,7 +511,7 @@ fn by_walk(
     node: &mut [usize; NODE_NUMBERS],
     out: &mut [usize; SLOTS],
 ) -> bool
-    ensures node_by { (x : Sheet) → ReadyPlan p.now x → Wordly x (sheet_by goal x) ws.now → length out.old ≡ slot-end → NodeBy result p.now x (sheet_by goal x) ws.now set.new node.new out.new }
+    ensures node_by { (x : Sheet) → ReadyPlan p.now x → Wordly x (sheet_by goal x) ws.now → length out.old ≡ slot_end → NodeBy result p.now x (sheet_by goal x) ws.now set.new node.new out.new }
     ensures set_len_unchanged { (length set.new ≡ length set.old) × (length out.new ≡ length out.old) }
 {
     read_all(ws, out);
@@ -542,7 +542,7 @@ fn is_resolved(
     bits: &[u64; BITS],
     out: &mut [usize; SLOTS],
 ) -> bool
-    ensures state_found { (x : Sheet) → ReadyPlan p.now x → Wordly x (sheet_by goal x) ws.now → length out.old ≡ slot-end → result ≡ true → StateFound x (sheet_by goal x) out.new }
+    ensures state_found { (x : Sheet) → ReadyPlan p.now x → Wordly x (sheet_by goal x) ws.now → length out.old ≡ slot_end → result ≡ true → StateFound x (sheet_by goal x) out.new }
     ensures out_len_unchanged { length out.new ≡ length out.old }
 {
     let mut values = [0usize; SLOTS];
@@ -633,7 +633,7 @@ fn by_values(
     node: &mut [usize; NODE_NUMBERS],
     out: &mut [usize; SLOTS],
 ) -> bool
-    ensures node_by { (x : Sheet) → ReadyPlan p.now x → Wordly x (sheet_by goal x) ws.now → length out.old ≡ slot-end → NodeBy result p.now x (sheet_by goal x) ws.now set.new node.new out.new }
+    ensures node_by { (x : Sheet) → ReadyPlan p.now x → Wordly x (sheet_by goal x) ws.now → length out.old ≡ slot_end → NodeBy result p.now x (sheet_by goal x) ws.now set.new node.new out.new }
     ensures set_len_unchanged { (length set.new ≡ length set.old) × (length out.new ≡ length out.old) }
 {
     if is_resolved(p, ws, goal, bd, bits, out) {
@@ -655,7 +655,7 @@ pub fn judge_by(
     node: &mut [usize; NODE_NUMBERS],
     out: &mut [usize; SLOTS],
 ) -> bool
-    ensures node_by { (x : Sheet) → ReadyPlan p.now x → Wordly x (sheet_by goal x) ws.now → length out.old ≡ slot-end → NodeBy result p.now x (sheet_by goal x) ws.now set.new node.new out.new }
+    ensures node_by { (x : Sheet) → ReadyPlan p.now x → Wordly x (sheet_by goal x) ws.now → length out.old ≡ slot_end → NodeBy result p.now x (sheet_by goal x) ws.now set.new node.new out.new }
     ensures set_len_unchanged { (length set.new ≡ length set.old) × (length out.new ≡ length out.old) }
 {
     if a.kind == NOTHING {

@@ -17,12 +17,12 @@ use Rattle.search_slots.specs.Slots.{set_words, SetWithout, SetsMeet}
 use Rattle.search_nogoods.specs.Memory.{memory_slot, memory_value, memory_set, memory_count, EachValue, SameValue, MemoryMore, NotedValue}
 use Rattle.search_nogoods.specs.Memory.{SetsApart, MemoryLess, RowExcluded, ExcludedBy, LearnedValue}
 use Rattle.search_nogoods.specs.Parts.{NoValueTo, SetStored, ValueMoved, ApartBefore, KeptApart, SetJoinedBy}
-use Rattle.search_nogoods.specs.Sizes.{most_values, memory-count-at, memory-numbers, memory-words}
+use Rattle.search_nogoods.specs.Sizes.{most_values, memory_count_at, memory_numbers, memory_words}
 
 -- ---- what every entry has
 
 -- a table that counts no entries
-pub memory-empty : {P : ℕ → ℕ → List ℕ → Type 0} (sl sm : List ℕ) → get_or sl memory-count-at 0 ≡ 0 → EachValue P sl sm
+pub memory-empty : {P : ℕ → ℕ → List ℕ → Type 0} (sl sm : List ℕ) → get_or sl memory_count_at 0 ≡ 0 → EachValue P sl sm
 memory-empty sl sm z = record { each = λ e lt. absurd (omega arith) }
 
 same_carries : (P : ℕ → ℕ → List ℕ → Type 0) (tl tm : List ℕ) (f : ℕ) (sl sm : List ℕ) (e : ℕ) → SameValue tl tm f sl sm e
@@ -62,7 +62,7 @@ more-none sl sm = record { each = λ f lt. inl (f, lt, record { slot = refl; val
 
 -- ---- a set stored word by word
 
-pub rests-length : (sm : List ℕ) (e : ℕ) → length sm ≡ memory-words → e < most_values → length (memory_set sm e) ≡ set_words
+pub rests-length : (sm : List ℕ) (e : ℕ) → length sm ≡ memory_words → e < most_values → length (memory_set sm e) ≡ set_words
 rests-length sm e l lt = part_length sm (e * set_words) set_words (omega arith)
 
 -- the first k words of a set stand from place `at` on
@@ -81,7 +81,7 @@ pub storing_read : (sm : List ℕ) (at k from : ℕ) (r tm : List ℕ) → at + 
     → get_or tm (from * set_words + k) 0 ≡ get_or (memory_set sm from) k 0
 storing_read sm at k from r tm le lt a = a.kept.above (from * set_words + k) le ∙ sym (part_get sm (from * set_words) set_words k 0 lt)
 
-pub storing_all : (sm : List ℕ) (e k : ℕ) (r tm : List ℕ) → e < most_values → length sm ≡ memory-words → length r ≡ set_words → k ≡ set_words
+pub storing_all : (sm : List ℕ) (e k : ℕ) (r tm : List ℕ) → e < most_values → length sm ≡ memory_words → length r ≡ set_words → k ≡ set_words
     → SetStoring sm (e * set_words) k r tm → SetStored sm e r tm
 storing_all sm e k r tm few l long full a = record {
   here = sym (part-is 0 tm r (e * set_words) set_words (omega arith) long (λ x lt. sym (all.1 x lt)));
@@ -106,9 +106,9 @@ same_trans : (al am : List ℕ) (e : ℕ) (bl bm : List ℕ) (f : ℕ) (cl cm : 
     → SameValue al am e cl cm g
 same_trans al am e bl bm f cl cm g x y = record { slot = x.slot ∙ y.slot; value = x.value ∙ y.value; rests = x.rests ∙ y.rests }
 
-pub noted : (sl sm : List ℕ) (n w : ℕ) (r tm : List ℕ) (e : ℕ) → e ≡ memory_count sl → e < most_values → length sl ≡ memory-numbers
+pub noted : (sl sm : List ℕ) (n w : ℕ) (r tm : List ℕ) (e : ℕ) → e ≡ memory_count sl → e < most_values → length sl ≡ memory_numbers
     → SetStored sm e r tm
-    → MemoryMore (NotedValue n w r) sl sm (set (set (set sl (e * 2) n) (e * 2 + 1) w) memory-count-at (e + 1)) tm
+    → MemoryMore (NotedValue n w r) sl sm (set (set (set sl (e * 2) n) (e * 2 + 1) w) memory_count_at (e + 1)) tm
 noted sl sm n w r tm e count room l s = record { each = λ f lt. pick f (few f lt) (ℕ_discrete f e) }
   where
     one : List ℕ
@@ -118,27 +118,27 @@ noted sl sm n w r tm e count room l s = record { each = λ f lt. pick f (few f l
     two = set one (e * 2 + 1) w
 
     tl : List ℕ
-    tl = set two memory-count-at (e + 1)
+    tl = set two memory_count_at (e + 1)
 
-    long : length two ≡ memory-numbers
+    long : length two ≡ memory_numbers
     long = length-set one (e * 2 + 1) w ∙ length-set sl (e * 2) n ∙ l
 
     few : (f : ℕ) → f < memory_count tl → f < e + 1
-    few f lt = let h = long in let q = get_or-set_same two memory-count-at (e + 1) 0 (omega arith) in omega arith
+    few f lt = let h = long in let q = get_or-set_same two memory_count_at (e + 1) 0 (omega arith) in omega arith
 
     -- the words of other entries
-    apart : (x : ℕ) → (x ≡ e * 2 → ⊥) → (x ≡ e * 2 + 1 → ⊥) → (x ≡ memory-count-at → ⊥) → get_or tl x 0 ≡ get_or sl x 0
+    apart : (x : ℕ) → (x ≡ e * 2 → ⊥) → (x ≡ e * 2 + 1 → ⊥) → (x ≡ memory_count_at → ⊥) → get_or tl x 0 ≡ get_or sl x 0
     apart x a b d =
-        get_or-set_other two memory-count-at x (e + 1) 0 d ∙ get_or-set_other one (e * 2 + 1) x w 0 b ∙ get_or-set_other sl (e * 2) x n 0 a
+        get_or-set_other two memory_count_at x (e + 1) 0 d ∙ get_or-set_other one (e * 2 + 1) x w 0 b ∙ get_or-set_other sl (e * 2) x n 0 a
 
     slot-here : memory_slot tl e ≡ n
     slot-here =
-        get_or-set_other two memory-count-at (e * 2) (e + 1) 0 (λ q. omega arith) ∙ get_or-set_other one (e * 2 + 1) (e * 2) w 0 (λ q. omega arith)
+        get_or-set_other two memory_count_at (e * 2) (e + 1) 0 (λ q. omega arith) ∙ get_or-set_other one (e * 2 + 1) (e * 2) w 0 (λ q. omega arith)
         ∙ get_or-set_same sl (e * 2) n 0 (omega arith)
 
     value-here : memory_value tl e ≡ w
     value-here =
-        get_or-set_other two memory-count-at (e * 2 + 1) (e + 1) 0 (λ q. omega arith)
+        get_or-set_other two memory_count_at (e * 2 + 1) (e + 1) 0 (λ q. omega arith)
         ∙ get_or-set_same one (e * 2 + 1) w 0 (let h = length-set sl (e * 2) n in omega arith)
 
     here : NotedValue n w r (memory_slot tl e) (memory_value tl e) (memory_set tm e)
@@ -159,7 +159,7 @@ noted sl sm n w r tm e count room l s = record { each = λ f lt. pick f (few f l
 
 -- ---- an entry moved
 
-pub value-moved : (sl sm : List ℕ) (from to : ℕ) (tm : List ℕ) → to < from → from < most_values → length sl ≡ memory-numbers
+pub value-moved : (sl sm : List ℕ) (from to : ℕ) (tm : List ℕ) → to < from → from < most_values → length sl ≡ memory_numbers
     → SetStored sm to (memory_set sm from) tm
     → ValueMoved sl sm from to
     (set (set sl (to * 2) (get_or sl (from * 2) 0)) (to * 2 + 1) (get_or (set sl (to * 2) (get_or sl (from * 2) 0)) (from * 2 + 1) 0)) tm
@@ -256,18 +256,18 @@ module _ (sl sm r : List ℕ) (n k e : ℕ) (tl tm : List ℕ) (a : KeepingApart
 pub less_none : (sl sm r : List ℕ) (k : ℕ) → memory_count sl ≤ k → ApartBefore sm r k → MemoryLess r sl sm sl sm
 less_none sl sm r k le a = record { each = λ f lt. (f, lt, record { slot = refl; value = refl; rests = refl }, a.each f (omega arith)) }
 
-pub less-some : (sl sm r : List ℕ) (n k : ℕ) (tl tm : List ℕ) → n ≡ memory_count sl → k ≤ n → length tl ≡ memory-numbers → KeptApart sl sm r n k tl tm
-    → MemoryLess r sl sm (set tl memory-count-at k) tm
+pub less-some : (sl sm r : List ℕ) (n k : ℕ) (tl tm : List ℕ) → n ≡ memory_count sl → k ≤ n → length tl ≡ memory_numbers → KeptApart sl sm r n k tl tm
+    → MemoryLess r sl sm (set tl memory_count_at k) tm
 less-some sl sm r n k tl tm count le l a = record {
   each = λ f lt.
-      let q = get_or-set_same tl memory-count-at k 0 (omega arith) in
+      let q = get_or-set_same tl memory_count_at k 0 (omega arith) in
       let o = a.each f (omega arith) in (
         o.0,
         let h = o.1 in omega arith,
-        same_trans (set tl memory-count-at k) tm f tl tm f sl sm o.0
+        same_trans (set tl memory_count_at k) tm f tl tm f sl sm o.0
             (record {
-              slot = get_or-set_other tl memory-count-at (f * 2) k 0 (λ x. omega arith);
-              value = get_or-set_other tl memory-count-at (f * 2 + 1) k 0 (λ x. omega arith);
+              slot = get_or-set_other tl memory_count_at (f * 2) k 0 (λ x. omega arith);
+              value = get_or-set_other tl memory_count_at (f * 2 + 1) k 0 (λ x. omega arith);
               rests = refl;
             })
             o.2,

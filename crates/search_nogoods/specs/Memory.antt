@@ -2,7 +2,7 @@
 use Rattle.std.specs.Prelude.{◌≡◌, Bool, true, false, List, ◌⊎◌, ℕ, ◌+◌, ◌*◌, ◌<◌, min, length, get_or, take, drop}
 use Rattle.case_verdicts.specs.Sheets.{top}
 use Rattle.search_slots.specs.Slots.{set_words, in_set, SetWithout, SetJoined}
-use Rattle.search_nogoods.specs.Sizes.{most_values, memory-count-at}
+use Rattle.search_nogoods.specs.Sizes.{most_values, memory_count_at}
 
 -- entry e: its slot, its value, and the set that it rests on; how many entries there are
 abbrev pub memory_slot : List ℕ → ℕ → ℕ
@@ -15,7 +15,7 @@ abbrev pub memory_set : List ℕ → ℕ → List ℕ
 memory_set sm e = take set_words (drop (e * set_words) sm)
 
 abbrev pub memory_count : List ℕ → ℕ
-memory_count sl = min (get_or sl memory-count-at 0) most_values
+memory_count sl = min (get_or sl memory_count_at 0) most_values
 
 -- every entry has a property
 pub record EachValue (P : ℕ → ℕ → List ℕ → Type 0) (sl sm : List ℕ) : Type 0 where

@@ -6,11 +6,11 @@ use Rattle.search_slots.specs.Slots.{set_words}
 abbrev pub most_values : ℕ
 most_values = 240
 
-abbrev pub memory-count-at : ℕ
-memory-count-at = most_values * 2
+abbrev pub memory_count_at : ℕ
+memory_count_at = most_values * 2
 
-abbrev pub memory-numbers : ℕ
-memory-numbers = memory-count-at + 1
+abbrev pub memory_numbers : ℕ
+memory_numbers = memory_count_at + 1
 
-abbrev pub memory-words : ℕ
-memory-words = most_values * set_words
+abbrev pub memory_words : ℕ
+memory_words = most_values * set_words

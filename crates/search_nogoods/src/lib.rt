@@ -3,7 +3,7 @@
 
 ghost use Rattle.std.specs.Prelude.{◌≡◌, false, ◌+◌, ◌*◌, ◌<◌, ◌≤◌, length, get_or};
 ghost use Rattle.case_verdicts.specs.Sheets.{top};
-ghost use Rattle.search_nogoods.specs.Sizes.{most_values, memory-numbers, memory-words};
+ghost use Rattle.search_nogoods.specs.Sizes.{most_values, memory_numbers, memory_words};
 ghost use Rattle.search_nogoods.specs.Memory.{memory_slot, memory_value, memory_set, memory_count};
 ghost use Rattle.search_nogoods.specs.Memory.{MemoryMore, NotedValue, SetsApart, MemoryLess, ExcludedBy, LearnedValue};
 ghost use Rattle.search_nogoods.specs.Parts.{NoValueTo, SetStored, ValueMoved, ApartBefore, KeptApart, SetJoinedBy};
@@ -35,7 +35,7 @@ pub fn count(sl: &[usize; MEMORY_NUMBERS]) -> usize
 // Lets entry e rest on a set. The set comes by value, so that all of it is copied at once.
 fn put_set(sm: &mut [u64; MEMORY_WORDS], e: usize, set: [u64; SET_WORDS])
     requires { e < most_values }
-    ensures set_stored { length sm.old ≡ memory-words → SetStored sm.old e set sm.new }
+    ensures set_stored { length sm.old ≡ memory_words → SetStored sm.old e set sm.new }
     ensures sm_len_unchanged { length sm.new ≡ length sm.old }
 {
     let mut k = 0;
@@ -53,7 +53,7 @@ pub fn note(
     w: usize,
     set: &[u64; SET_WORDS],
 )
-    ensures memory_more { length sl.old ≡ memory-numbers → length sm.old ≡ memory-words → MemoryMore (NotedValue n w set.now) sl.old sm.old sl.new sm.new }
+    ensures memory_more { length sl.old ≡ memory_numbers → length sm.old ≡ memory_words → MemoryMore (NotedValue n w set.now) sl.old sm.old sl.new sm.new }
     ensures sl_len_unchanged { length sl.new ≡ length sl.old }
     ensures sm_len_unchanged { length sm.new ≡ length sm.old }
 {
@@ -119,7 +119,7 @@ fn first_on(sm: &[u64; MEMORY_WORDS], n: usize, set: &[u64; SET_WORDS]) -> usize
 // Lets an entry rest on the set of a later one.
 fn move_set(sm: &mut [u64; MEMORY_WORDS], from: usize, to: usize)
     requires { (to < from) × (from < most_values) }
-    ensures set_stored { length sm.old ≡ memory-words → SetStored sm.old to (memory_set sm.old from) sm.new }
+    ensures set_stored { length sm.old ≡ memory_words → SetStored sm.old to (memory_set sm.old from) sm.new }
     ensures sm_len_unchanged { length sm.new ≡ length sm.old }
 {
     let mut k = 0;
@@ -137,7 +137,7 @@ fn move_entry(
     to: usize,
 )
     requires { (to < from) × (from < most_values) }
-    ensures value_moved { length sl.old ≡ memory-numbers → length sm.old ≡ memory-words → ValueMoved sl.old sm.old from to sl.new sm.new }
+    ensures value_moved { length sl.old ≡ memory_numbers → length sm.old ≡ memory_words → ValueMoved sl.old sm.old from to sl.new sm.new }
     ensures sl_len_unchanged { length sl.new ≡ length sl.old }
     ensures sm_len_unchanged { length sm.new ≡ length sm.old }
 {
@@ -157,7 +157,7 @@ fn settle(
 ) -> usize
     requires { (n ≤ most_values) × (first < n) }
     ensures upper_bound { result ≤ n }
-    ensures kept_apart { length sl.old ≡ memory-numbers → length sm.old ≡ memory-words → ApartBefore sm.old set.now first → KeptApart sl.old sm.old set.now n result sl.new sm.new }
+    ensures kept_apart { length sl.old ≡ memory_numbers → length sm.old ≡ memory_words → ApartBefore sm.old set.now first → KeptApart sl.old sm.old set.now n result sl.new sm.new }
     ensures sl_len_unchanged { length sl.new ≡ length sl.old }
     ensures sm_len_unchanged { length sm.new ≡ length sm.old }
 {
@@ -181,7 +181,7 @@ pub fn forget(
     sm: &mut [u64; MEMORY_WORDS],
     set: &[u64; SET_WORDS],
 )
-    ensures memory_less { length sl.old ≡ memory-numbers → length sm.old ≡ memory-words → MemoryLess set.now sl.old sm.old sl.new sm.new }
+    ensures memory_less { length sl.old ≡ memory_numbers → length sm.old ≡ memory_words → MemoryLess set.now sl.old sm.old sl.new sm.new }
     ensures sl_len_unchanged { length sl.new ≡ length sl.old }
     ensures sm_len_unchanged { length sm.new ≡ length sm.old }
 {
@@ -278,7 +278,7 @@ pub fn learn(
     sl: &mut [usize; MEMORY_NUMBERS],
     sm: &mut [u64; MEMORY_WORDS],
 )
-    ensures memory_more { length sl.old ≡ memory-numbers → length sm.old ≡ memory-words → MemoryMore (LearnedValue ws.now below.now changed.now) sl.old sm.old sl.new sm.new }
+    ensures memory_more { length sl.old ≡ memory_numbers → length sm.old ≡ memory_words → MemoryMore (LearnedValue ws.now below.now changed.now) sl.old sm.old sl.new sm.new }
     ensures sl_len_unchanged { length sl.new ≡ length sl.old }
     ensures sm_len_unchanged { length sm.new ≡ length sm.old }
 {

@@ -9,7 +9,7 @@ use lib.ListN.{length, get_or, drop, drop_of_length-le}
 use lib.Seq.{drop-cons}
 use borrow.Author.Tests.{lt-ltb, le-ltb, ne_eqb}
 use Rattle.list_laws.proofs.Lists.{inside}
-use Rattle.tableau_layout.specs.Layout.{slot-end}
+use Rattle.tableau_layout.specs.Layout.{slot_end}
 use Rattle.query_meaning.specs.Meaning.{In}
 use Rattle.case_verdicts.specs.Sheets.{top}
 use Rattle.case_verdicts.specs.Tableau.{State}
@@ -27,19 +27,19 @@ use Rattle.search_reasons.proofs.Laws.{obeys-less, way-still}
 
 -- ---- the value of a place
 
-pub slot-value : (t : State) (w : ℕ) → w < slot-end → slot_value t w ≡ t w
+pub slot-value : (t : State) (w : ℕ) → w < slot_end → slot_value t w ≡ t w
 unfolding slot_value
-slot-value t w h = rw (lt-ltb w slot-end h)
+slot-value t w h = rw (lt-ltb w slot_end h)
 
-pub constant-value : (t : State) (w : ℕ) → slot-end ≤ w → slot_value t w ≡ w - slot-end
+pub constant-value : (t : State) (w : ℕ) → slot_end ≤ w → slot_value t w ≡ w - slot_end
 unfolding slot_value
-constant-value t w h = rw (le-ltb w slot-end h)
+constant-value t w h = rw (le-ltb w slot_end h)
 
 -- a constant needs no slot
-pub way-constant : (ws : List ℕ) (w : ℕ) (set : List ℕ) → slot-end ≤ w → Place w → WayMarked ws w set set
+pub way-constant : (ws : List ℕ) (w : ℕ) (set : List ℕ) → slot_end ≤ w → Place w → WayMarked ws w set set
 way-constant ws w set h p = record {
   more = λ k e. e;
-  way = λ t o. constant-value t w h ∙ sym (ap (value_under top t) (place-constant top ws w h) ∙ under-constant top t (w - slot-end) (omega arith));
+  way = λ t o. constant-value t w h ∙ sym (ap (value_under top t) (place-constant top ws w h) ∙ under-constant top t (w - slot_end) (omega arith));
 }
 
 -- ---- a way
@@ -54,7 +54,7 @@ pub way-start : (ws : List ℕ) (w : ℕ) (set : List ℕ) → WayTo ws w (top +
 way-start ws w set = record { more = λ k e. e; way = λ t o. sym (under-own top t w); end = refl }
 
 module _ {ws : List ℕ} {w x : ℕ} {old set : List ℕ} (p : WayTo ws w x old set) where
-  pub way_end : w < slot-end → link_step top (state_of top ws) x ≡ x → WayMarked ws w old set
+  pub way_end : w < slot_end → link_step top (state_of top ws) x ≡ x → WayMarked ws w old set
   way_end h e = record {
     more = p.more;
     way = λ t o. slot-value t w h ∙ p.way t o ∙ ap (value_under top t) (sym (root-fixed top (state_of top ws) x e) ∙ p.end ∙ sym (place-slot top ws w h));

@@ -1,7 +1,7 @@
 -- What a failure of the search rests on. The words of a state are equations: a word says what its slot's value is. A failure rests on some slots
 -- when no good state obeys their words, whatever the other slots have. No promise to a caller rests on these.
 use Rattle.std.specs.Prelude.{◌≡◌, Bool, true, false, List, ◌⊎◌, ℕ, ◌+◌, ◌*◌, ◌<◌}
-use Rattle.tableau_layout.specs.Layout.{slot-end}
+use Rattle.tableau_layout.specs.Layout.{slot_end}
 use Rattle.query_meaning.specs.Meaning.{In}
 use Rattle.case_verdicts.specs.Sheets.{top}
 use Rattle.case_verdicts.specs.Tableau.{State}
@@ -29,7 +29,7 @@ pub record ValueFails (G : State → Type 0) (ws set : List ℕ) (n w : ℕ) : T
 
 -- a place of the tableau: a slot, or a constant past the slots
 abbrev pub Place : ℕ → Type 0
-Place w = w < slot-end + top
+Place w = w < slot_end + top
 
 -- the set has the slots besides by which the place's value is where its links end
 pub record WayMarked (ws : List ℕ) (w : ℕ) (old set : List ℕ) : Type 0 where

@@ -11,7 +11,7 @@ use lib.Arith.{digits_mod}
 use lib.Pow.{pow_pos, pow-add, pow-lt, shl-shr, shr-shr, high, low, ones_split, ones_lt}
 use lib.Bits.{bit_or, bit_xor, differ, or_step, xor_step, or_shr, xor_shr, xor_self}
 use borrow.Author.Tests.{eq-eqb, ne_eqb}
-use Rattle.search_slots.specs.Slots.{has_digit, full-word, word_less}
+use Rattle.search_slots.specs.Slots.{has_digit, full_word, word_less}
 
 -- ---- one digit of each of two words
 
@@ -107,7 +107,7 @@ ones_odd n j =
     ap (λ (x : ℕ). x / 2 ^ j % 2) (ones_split (n + 1) j) ∙ ap (λ (x : ℕ). x % 2) (high (2 ^ (n + 1) - 1) j (ones_lt j) ∙ ones_split n 1)
     ∙ low (2 ^ n - 1) 1 (ones_lt 1)
 
-pub has-full : (j : ℕ) → j < 64 → has_digit full-word j ≡ true
+pub has-full : (j : ℕ) → j < 64 → has_digit full_word j ≡ true
 unfolding has_digit
 has-full j h =
     let e : 63 - j + 1 + j ≡ 64 = omega arith in

@@ -9,8 +9,8 @@ use native.Mathlib.Omega.{arith}
 use borrow.Author.Tests.{eqb-true, eq-eqb}
 use lib.Dec.{eqb}
 use lib.ListN.{length, get_or-eq_default}
-use Rattle.tableau_layout.specs.Layout.{slot-end}
-use Rattle.search_slots.specs.Slots.{set_words, has_digit, full-word, set_word, in_set, SetWithin}
+use Rattle.tableau_layout.specs.Layout.{slot_end}
+use Rattle.search_slots.specs.Slots.{set_words, has_digit, full_word, set_word, in_set, SetWithin}
 use Rattle.search_slots.specs.Slots.{EmptySet, SetPut, SetWith, SetWithout, SetJoined, SetLess}
 use Rattle.search_slots.proofs.Digits.{has-full}
 
@@ -20,9 +20,9 @@ unfolding in_set
 at-word ws k x e = ap (λ (w : ℕ). has_digit w (k % 64)) e
 
 pub past : (ws : List ℕ) (k : ℕ) → 64 * length ws ≤ k → in_set ws k ≡ true
-past ws k h = at-word ws k full-word (get_or-eq_default ws full-word (omega arith)) ∙ has-full (k % 64) (omega arith)
+past ws k h = at-word ws k full_word (get_or-eq_default ws full_word (omega arith)) ∙ has-full (k % 64) (omega arith)
 
-pub slot-inside : (ws : List ℕ) (n : ℕ) → length ws ≡ set_words → n < slot-end → n < 64 * length ws
+pub slot-inside : (ws : List ℕ) (n : ℕ) → length ws ≡ set_words → n < slot_end → n < 64 * length ws
 slot-inside ws n e h = omega arith
 
 -- ---- one set in another

@@ -13,40 +13,40 @@ use lib.ListN.{length, get_or, set, replicate, length-set, length-replicate, get
 use lib.Seq.{get_or-set_same, get_or-set_other}
 use Rattle.list_laws.specs.Kept.{Filled}
 use Rattle.list_laws.proofs.Lists.{inside}
-use Rattle.search_slots.specs.Slots.{has_digit, full-word, word_less, set_word, in_set}
+use Rattle.search_slots.specs.Slots.{has_digit, full_word, word_less, set_word, in_set}
 use Rattle.search_slots.specs.Slots.{EmptySet, SetPut, SetWith, SetWithout, SetJoined, SetLess, SetsMeet}
 use Rattle.search_slots.proofs.Digits.{has_or, has-less, has-zero, has_bit, SharedDigit, shared_digit}
 use Rattle.search_slots.proofs.Laws.{at-word, past}
 
 -- a word that is there is what a read finds
 pub read_word : (ws : List ℕ) (w : ℕ) → w < length ws → get_or ws w 0 ≡ set_word ws w
-read_word ws w h = inside ws w 0 full-word h
+read_word ws w h = inside ws w 0 full_word h
 
 pub zeros-empty : (n : ℕ) → EmptySet n (replicate n 0)
 zeros-empty n = record {
   same = length-replicate n 0;
-  each = λ k h. at-word (replicate n 0) k 0 (get_or-replicate n (k / 64) 0 full-word (omega arith)) ∙ has-zero (k % 64);
+  each = λ k h. at-word (replicate n 0) k 0 (get_or-replicate n (k / 64) 0 full_word (omega arith)) ∙ has-zero (k % 64);
 }
 
 -- ---- all words, one after the other
 
-module _ (old : List ℕ) (f : ℕ → ℕ) (ws : List ℕ) (n : ℕ) (le : length old ≤ n) (a : Filled full-word old ws 0 n f) where
+module _ (old : List ℕ) (f : ℕ → ℕ) (ws : List ℕ) (n : ℕ) (le : length old ≤ n) (a : Filled full_word old ws 0 n f) where
   filled-has : (k : ℕ) → k < 64 * length old → in_set ws k ≡ has_digit (f (k / 64)) (k % 64)
   filled-has k h = at-word ws k (f (k / 64)) (a.each (k / 64) (omega arith) (omega arith))
 
 -- a word that a loop has not come to
-pub read-unwritten : (f : ℕ → ℕ) (old ws : List ℕ) (w : ℕ) → w < length old → Filled full-word old ws 0 w f → get_or ws w 0 ≡ set_word old w
+pub read-unwritten : (f : ℕ → ℕ) (old ws : List ℕ) (w : ℕ) → w < length old → Filled full_word old ws 0 w f → get_or ws w 0 ≡ set_word old w
 read-unwritten f old ws w h a = let s = a.kept.same in read_word ws w (omega arith) ∙ a.kept.above w (omega arith)
 
-pub filled-empty : (old ws : List ℕ) (n : ℕ) → length old ≤ n → Filled full-word old ws 0 n (λ w. 0) → EmptySet (length old) ws
+pub filled-empty : (old ws : List ℕ) (n : ℕ) → length old ≤ n → Filled full_word old ws 0 n (λ w. 0) → EmptySet (length old) ws
 filled-empty old ws n le a = record { same = a.kept.same; each = λ k h. filled-has old (λ w. 0) ws n le a k h ∙ has-zero (k % 64) }
 
-pub filled_put : (old others ws : List ℕ) (n : ℕ) → length old ≤ n → Filled full-word old ws 0 n (λ w. set_word others w) → SetPut old others ws
+pub filled_put : (old others ws : List ℕ) (n : ℕ) → length old ≤ n → Filled full_word old ws 0 n (λ w. set_word others w) → SetPut old others ws
 filled_put old others ws n le a =
     record { same = a.kept.same; each = λ k h. filled-has old (λ w. set_word others w) ws n le a k h ∙ sym (at-word others k _ refl) }
 
 pub filled-joined : (old others ws : List ℕ) (n : ℕ) → length old ≤ n
-    → Filled full-word old ws 0 n (λ w. bit_or (set_word old w) (set_word others w)) → SetJoined old others ws
+    → Filled full_word old ws 0 n (λ w. bit_or (set_word old w) (set_word others w)) → SetJoined old others ws
 filled-joined old others ws n le a = record { same = a.kept.same; each = λ k. go k (dec_lt k (64 * length old)) }
   where
     go : (k : ℕ) → Dec (k < 64 * length old) → in_set ws k ≡ (in_set old k || in_set others k)
@@ -56,7 +56,7 @@ filled-joined old others ws n le a = record { same = a.kept.same; each = λ k. g
     go k (no h) = let s = a.kept.same in past ws k (omega arith) ∙ ap (λ (b : Bool). b || in_set others k) (sym (past old k (omega arith)))
 
 pub filled-less : (old others ws : List ℕ) (n : ℕ) → length old ≤ n
-    → Filled full-word old ws 0 n (λ w. word_less (set_word old w) (set_word others w)) → SetLess old others ws
+    → Filled full_word old ws 0 n (λ w. word_less (set_word old w) (set_word others w)) → SetLess old others ws
 filled-less old others ws n le a = record {
   same = a.kept.same;
   each = λ k h.
@@ -77,10 +77,10 @@ same-digit k n w = go (ℕ_discrete k n)
 
 module _ (ws : List ℕ) (n x : ℕ) (h : n / 64 < length ws) where
   in-word : (k : ℕ) → k / 64 ≡ n / 64 → in_set (set ws (n / 64) x) k ≡ has_digit x (k % 64)
-  in-word k w = at-word (set ws (n / 64) x) k x (ap (set_word (set ws (n / 64) x)) w ∙ get_or-set_same ws (n / 64) x full-word h)
+  in-word k w = at-word (set ws (n / 64) x) k x (ap (set_word (set ws (n / 64) x)) w ∙ get_or-set_same ws (n / 64) x full_word h)
 
   out_of_word : (k : ℕ) → (k / 64 ≡ n / 64 → ⊥) → in_set (set ws (n / 64) x) k ≡ in_set ws k
-  out_of_word k w = at-word (set ws (n / 64) x) k _ (get_or-set_other ws (n / 64) (k / 64) x full-word w) ∙ sym (at-word ws k _ refl)
+  out_of_word k w = at-word (set ws (n / 64) x) k _ (get_or-set_other ws (n / 64) (k / 64) x full_word w) ∙ sym (at-word ws k _ refl)
 
   -- the word as it was
   was-word : (k : ℕ) → k / 64 ≡ n / 64 → has_digit (set_word ws (n / 64)) (k % 64) ≡ in_set ws k

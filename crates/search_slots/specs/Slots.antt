@@ -2,19 +2,19 @@
 -- set. No promise to a caller rests on these.
 use Rattle.std.specs.Prelude.{◌≡◌, Bool, true, false, not, ◌&&◌, ◌||◌, List, ℕ, ◌+◌, ◌*◌, ◌/◌, ◌%◌, ◌^◌, ◌<◌, eqb, length, get_or}
 use Rattle.std.specs.Int.Bits.{bit_or, bit_xor}
-use Rattle.tableau_layout.specs.Layout.{slot-end}
+use Rattle.tableau_layout.specs.Layout.{slot_end}
 
 -- words with a digit for each slot
 abbrev pub set_words : ℕ
-set_words = slot-end / 64 + 1
+set_words = slot_end / 64 + 1
 
 -- whether a word has binary digit j
 unfoldable pub has_digit : ℕ → ℕ → Bool
 has_digit w j = eqb (w / 2 ^ j % 2) 1
 
 -- the word with all digits
-abbrev pub full-word : ℕ
-full-word = 0xffff_ffff_ffff_ffff
+abbrev pub full_word : ℕ
+full_word = 0xffff_ffff_ffff_ffff
 
 -- the digits of a that b lacks
 abbrev pub word_less : ℕ → ℕ → ℕ
@@ -22,7 +22,7 @@ word_less a b = bit_xor (bit_or a b) b
 
 -- word w of a set
 abbrev pub set_word : List ℕ → ℕ → ℕ
-set_word ws w = get_or ws w full-word
+set_word ws w = get_or ws w full_word
 
 -- a set has slot n
 unfoldable pub in_set : List ℕ → ℕ → Bool

@@ -7,7 +7,7 @@ use native.Mathlib.Omega.{arith}
 use lib.ListN.{length, get_or, take}
 use lib.Seq.{length-take-le, get_or-take, ext_get_or}
 use borrow.Author.Tests.{eq-eqb, ne_eqb, lt-ltb, le-ltb}
-use Rattle.tableau_layout.specs.Layout.{slot-end}
+use Rattle.tableau_layout.specs.Layout.{slot_end}
 use Rattle.list_laws.proofs.Lists.{inside}
 use Rattle.case_verdicts.specs.Tableau.{State}
 use Rattle.case_verdicts.specs.Sheets.{top}
@@ -47,10 +47,10 @@ module _ (p : List ℕ) (s : State) where
 
 -- ---- the value of a term
 
-pub slot-value : (ws : List ℕ) (t : ℕ) → t < slot-end → slot-end ≤ length ws → get_or ws t 0 ≡ slot_value (state_of top ws) t
+pub slot-value : (ws : List ℕ) (t : ℕ) → t < slot_end → slot_end ≤ length ws → get_or ws t 0 ≡ slot_value (state_of top ws) t
 unfolding slot_value
-slot-value ws t h g = inside ws t 0 (top + t) (omega arith) ∙ sym (ap (λ b. cond b (get_or ws t (top + t)) (t - slot-end)) (lt-ltb t slot-end h))
+slot-value ws t h g = inside ws t 0 (top + t) (omega arith) ∙ sym (ap (λ b. cond b (get_or ws t (top + t)) (t - slot_end)) (lt-ltb t slot_end h))
 
-pub constant-value : (ws : List ℕ) (t : ℕ) → slot-end ≤ t → t - slot-end ≡ slot_value (state_of top ws) t
+pub constant-value : (ws : List ℕ) (t : ℕ) → slot_end ≤ t → t - slot_end ≡ slot_value (state_of top ws) t
 unfolding slot_value
-constant-value ws t h = sym (ap (λ b. cond b (get_or ws t (top + t)) (t - slot-end)) (le-ltb t slot-end h))
+constant-value ws t h = sym (ap (λ b. cond b (get_or ws t (top + t)) (t - slot_end)) (le-ltb t slot_end h))

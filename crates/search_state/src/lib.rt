@@ -2,7 +2,7 @@
 #![tactic(auto)]
 
 ghost use Rattle.std.specs.Prelude.{◌≡◌, ℕ, ◌+◌, ◌-◌, ◌*◌, ◌<◌, ◌≤◌, length, get_or, take};
-ghost use Rattle.tableau_layout.specs.Layout.{plan-numbers, slot-end, tableau_atoms, tableau_numbers};
+ghost use Rattle.tableau_layout.specs.Layout.{plan_numbers, slot_end, tableau_atoms, tableau_numbers};
 ghost use Rattle.case_verdicts.specs.Sheets.{top};
 ghost use Rattle.case_verdicts.specs.Words.{state_of};
 ghost use Rattle.tableau_plan.specs.Plan.{tableau_size, tableau_facts, slot_value};
@@ -13,7 +13,7 @@ use tableau_layout::{PLAN_NUMBERS, SLOTS, TABLEAU_ATOMS, TABLEAU_NUMBERS, TABLEA
 
 // The value of a term of the tableau.
 fn value_of(st: &[usize], t: usize) -> usize
-    requires { slot-end ≤ length st.now }
+    requires { slot_end ≤ length st.now }
     ensures { result ≡ slot_value (state_of top st.now) t }
 {
     if t < SLOTS {
@@ -24,7 +24,7 @@ fn value_of(st: &[usize], t: usize) -> usize
 
 // Number x of the tableau under a state.
 fn number_at(p: &[usize; PLAN_NUMBERS], st: &[usize], x: usize) -> usize
-    requires { (x < tableau_numbers) × (slot-end ≤ length st.now) }
+    requires { (x < tableau_numbers) × (slot_end ≤ length st.now) }
     ensures { result ≡ number_under p.now (state_of top st.now) x }
 {
     let t = p[x];
@@ -36,7 +36,7 @@ fn number_at(p: &[usize; PLAN_NUMBERS], st: &[usize], x: usize) -> usize
 
 // The numbers of the tableau under a state, from number `from` on.
 fn numbers(p: &[usize; PLAN_NUMBERS], st: &[usize], from: usize, count: usize, out: &mut [usize])
-    requires { (from + count ≤ tableau_numbers) × (slot-end ≤ length st.now) × (count ≤ length out.old) }
+    requires { (from + count ≤ tableau_numbers) × (slot_end ≤ length st.now) × (count ≤ length out.old) }
     ensures { (x : ℕ) → x < count → get_or out.new x 0 ≡ number_under p.now (state_of top st.now) (from + x) }
 {
     let mut x = 0;
@@ -48,7 +48,7 @@ fn numbers(p: &[usize; PLAN_NUMBERS], st: &[usize], from: usize, count: usize, o
 
 // The facts of the tableau under a state, from atom `from` on, five numbers each, in front of the output; how many facts.
 pub fn facts(p: &[usize; PLAN_NUMBERS], st: &[usize], from: usize, out: &mut [usize]) -> usize
-    ensures { length p.now ≡ plan-numbers → from ≤ tableau_size p.now → tableau_size p.now ≤ tableau_atoms → slot-end ≤ length st.now → tableau_numbers ≤ length out.old
+    ensures { length p.now ≡ plan_numbers → from ≤ tableau_size p.now → tableau_size p.now ≤ tableau_atoms → slot_end ≤ length st.now → tableau_numbers ≤ length out.old
         → (result ≡ tableau_size p.now - from) × (take (result * 5) out.new ≡ tableau_facts p.now (state_of top st.now) from result) }
 {
     let size = p[TABLEAU_SIZE_AT];

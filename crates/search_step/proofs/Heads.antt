@@ -7,7 +7,7 @@ use Prim.Native.Nat.{ℕ, suc, ◌+◌, ◌-◌, ◌*◌, ◌<◌, ◌≤◌}
 use native.Mathlib.Omega.{arith}
 use lib.ListN.{length, replicate}
 use Rattle.query_layout.specs.Layout.{names}
-use Rattle.tableau_layout.specs.Layout.{slot-end}
+use Rattle.tableau_layout.specs.Layout.{slot_end}
 use Rattle.list_laws.proofs.Lists.{inside}
 use Rattle.list_laws.proofs.Order.{less?}
 use Rattle.query_meaning.specs.Meaning.{Term, con, var, In, value, row}
@@ -44,7 +44,7 @@ use Rattle.search_step.proofs.Steps.{constant-roots, constant-fits, stood-step}
 module _ (p : List ℕ) (x : Sheet) (r : ReadyPlan p x) where
   -- ---- before the first row
 
-  pub heads-free : (goal : Goal) (ws : List ℕ) → length ws ≡ slot-end → state_of top ws ≡ free top → Heads x (sheet_by goal x) ws 0
+  pub heads-free : (goal : Goal) (ws : List ℕ) → length ws ≡ slot_end → state_of top ws ≡ free top → Heads x (sheet_by goal x) ws 0
   heads-free goal ws size e = record {
     size = size;
     linked = (linked-free top ws e).0;
@@ -153,7 +153,7 @@ module _ (p : List ℕ) (x y : Sheet) (ws : List ℕ) where
   looked-found false set node out e said = absurd (true≢false (sym e))
 
   pub looked-begun : (good : Bool) (set node out sl sm : List ℕ) → good ≡ false → Wordly x y ws → Remembers (Good y) ws sl sm → NodeBy good p x y ws set node out
-      → SearchBegun p x y ws (slot-end + 1) set node sl sm
+      → SearchBegun p x y ws (slot_end + 1) set node sl sm
   looked-begun true set node out sl sm e w m said = absurd (true≢false e)
   looked-begun false set node out sl sm e w m said =
       record { wordly = w; room = (let a = roots_few top ws in let b = w.size in omega arith); opened = said; memory = m }

@@ -5,7 +5,7 @@ use mathlib.Core.List.{List}
 use Prim.Native.Nat.{ℕ, ◌+◌, ◌-◌, ◌<◌}
 use native.Mathlib.Omega.{arith}
 use lib.ListN.{length}
-use Rattle.tableau_layout.specs.Layout.{slot-end}
+use Rattle.tableau_layout.specs.Layout.{slot_end}
 use Rattle.case_verdicts.specs.Verdict.{Sheet}
 use Rattle.case_verdicts.specs.Sheets.{top}
 use Rattle.case_verdicts.specs.Tableau.{Good}
@@ -94,7 +94,7 @@ module _ (p : List ℕ) (x : Sheet) (r : ReadyPlan p x) (goal : Goal) (ws : List
 
   -- it is taken back
   module _ (k : ℕ) (is : k ≡ here) (below : List ℕ) (rests : RestsOn (Good y) out below) (jump : Bool) (back less more nl nm : List ℕ)
-      (leave : k < how_many p node → (old : List ℕ) → length old ≡ slot-end → Linked top old → RootValues top old (left_of node k) → RootValues top old (right_of p node k)
+      (leave : k < how_many p node → (old : List ℕ) → length old ≡ slot_end → Linked top old → RootValues top old (left_of node k) → RootValues top old (right_of p node k)
       → Equated top old out (left_of node k) (right_of p node k) → RestsOn (Good y) out below → Remembers (Good y) out sl sm
       → LeftBy jump (Good y) old back (left_of node k) (right_of p node k) less set more nl nm) where
     live : LiveAt p node k

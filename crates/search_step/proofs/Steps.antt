@@ -10,7 +10,7 @@ use lib.Dec.{ltb, eqb}
 use lib.ListN.{length, get_or}
 use Rattle.list_laws.proofs.Lists.{inside}
 use Rattle.list_laws.proofs.Order.{less?}
-use Rattle.tableau_layout.specs.Layout.{slot-end}
+use Rattle.tableau_layout.specs.Layout.{slot_end}
 use Rattle.query_meaning.specs.Meaning.{In}
 use Rattle.case_verdicts.specs.Verdict.{Sheet}
 use Rattle.case_verdicts.specs.Sheets.{top}
@@ -91,7 +91,7 @@ some-beside u r w (suc n) = go (some-beside u r w n) (beside? u r w n)
         (λ le. let e : c ≡ n = omega arith in off (subst (λ (k : ℕ). Beside u r w k) e m))
         (less? c n))
 
-module _ (x : Sheet) (ws out u r : List ℕ) (size : length ws ≡ slot-end) (linked : Linked top ws) (f : RootValues top ws u) (g : RootValues top ws r)
+module _ (x : Sheet) (ws out u r : List ℕ) (size : length ws ≡ slot_end) (linked : Linked top ws) (f : RootValues top ws u) (g : RootValues top ws r)
     (four : length u ≡ 4) (four-r : length r ≡ 4) (q : Equated top ws out u r) where
   -- where no column has w beside a made-up value, the rows are one also for the other map
   another-met : (w : ℕ) → ((c : ℕ) → c < 4 → Beside u r w c → ⊥) → Met (another q.by w) (equations u r)
@@ -130,7 +130,7 @@ module _ (x : Sheet) (ws out u r : List ℕ) (size : length ws ≡ slot-end) (li
           ∙ ap (another q.by w) before ∙ another-is q.by w (top + n) (omega arith) is in
           omega arith
 
-  pub stood-step : FitsRow x u r → FitsRow x r u → ((n : ℕ) → n < slot-end → Standing x (get_or ws n 0)) → (n : ℕ) → n < slot-end → Standing x (get_or out n 0)
+  pub stood-step : FitsRow x u r → FitsRow x r u → ((n : ℕ) → n < slot_end → Standing x (get_or ws n 0)) → (n : ℕ) → n < slot_end → Standing x (get_or out n 0)
   stood-step fits back stood n lt = go (less? (get_or out n 0) top) (in? same? (top + n) u) (in? same? (top + n) r)
     where
       beside : (c : ℕ) × (c < 4) × Beside u r (get_or out n 0) c → Standing x (get_or out n 0)
@@ -162,12 +162,12 @@ module _ (p : List ℕ) (x : Sheet) (r : ReadyPlan p x) (goal : Goal) (ws : List
 
 module _ {ws out u r : List ℕ} (s : Step ws out u r) where
   -- the slots of two rows of roots are in the words of a set
-  slot-few : length ws ≡ slot-end → (n : ℕ) → SlotOf u r n → n < slot-end
+  slot-few : length ws ≡ slot_end → (n : ℕ) → SlotOf u r n → n < slot_end
   slot-few size n (inl m) = let a = (root-own top ws n (s.left (top + n) m)).0 in omega arith
   slot-few size n (inr m) = let a = (root-own top ws n (s.right (top + n) m)).0 in omega arith
 
   -- a set that has none of their slots
-  untouched : length ws ≡ slot-end → (changed set : List ℕ) → SlotsOf u r changed → ((k : ℕ) → k < 64 * set_words → in_set set k ≡ true → in_set changed k ≡ false) → Untouched u r set
+  untouched : length ws ≡ slot_end → (changed set : List ℕ) → SlotsOf u r changed → ((k : ℕ) → k < 64 * set_words → in_set set k ≡ true → in_set changed k ≡ false) → Untouched u r set
   untouched size changed set c apart n m = go (in_set set n) refl
     where
       go : (b : Bool) → in_set set n ≡ b → in_set set n ≡ false
@@ -178,7 +178,7 @@ module _ {ws out u r : List ℕ} (s : Step ws out u r) where
     pub memory-down : (sl sm : List ℕ) → Remembers G ws sl sm → Remembers G out sl sm
     memory-down sl sm m = record { each = λ e lt. ((m.each e lt).0, value-down s (m.each e lt).1) }
 
-    pub memory-back : length ws ≡ slot-end → (changed : List ℕ) → SlotsOf u r changed → (sl sm tl tm : List ℕ) → MemoryLess changed sl sm tl tm → Remembers G out sl sm → Remembers G ws tl tm
+    pub memory-back : length ws ≡ slot_end → (changed : List ℕ) → SlotsOf u r changed → (sl sm tl tm : List ℕ) → MemoryLess changed sl sm tl tm → Remembers G out sl sm → Remembers G ws tl tm
     memory-back size changed c sl sm tl tm less m =
         less-holds {P = λ n v t. (v < top) × ValueFails G out t n v} {Q = λ n v t. (v < top) × ValueFails G ws t n v} sl sm tl tm changed less
         (λ n v t apart k. (k.0, value-back s (untouched size changed t c apart.each) k.1)) m
@@ -191,7 +191,7 @@ memory_learnt {G} ws below changed sl sm tl tm rests more m =
 
 -- ---- what a failure after the step says before it
 
-module _ {G : State → Type 0} {ws out u r : List ℕ} (size : length ws ≡ slot-end) (linked : Linked top ws) (f : RootValues top ws u) (g : RootValues top ws r) (q : Equated top ws out u r)
+module _ {G : State → Type 0} {ws out u r : List ℕ} (size : length ws ≡ slot_end) (linked : Linked top ws) (f : RootValues top ws u) (g : RootValues top ws r) (q : Equated top ws out u r)
     (changed : List ℕ) (c : SlotsOf u r changed) (below : List ℕ) (long : length below ≡ set_words) (rests : RestsOn G out below) where
   step : Step ws out u r
   step = step_of f g q

@@ -19,7 +19,7 @@ use Rattle.search_symmetry.specs.Symmetry.{Alike}
 use Rattle.search_symmetry.proofs.Exchange.{alike-fails}
 use Rattle.search_task.specs.Task.{ReadyPlan, sheet_by}
 use Rattle.search_task.specs.declared.Goal.{Goal}
-use Rattle.search_node.specs.Choices.{rows-kind, each-kind, left_at, node_kind, node_hint, left_of, right_of, how_many, LiveAt}
+use Rattle.search_node.specs.Choices.{rows_kind, each_kind, left_at, node_kind, node_hint, left_of, right_of, how_many, LiveAt}
 use Rattle.search_node.specs.Node.{Wordly, OpenState}
 use Rattle.search_node.proofs.Choices.{part-whole, part-four, right-rows, right-four, many-rows}
 use Rattle.search_step.specs.Run.{Remembers, node_turn_at, is_turn_at, FailsAt, TriedTurns, Going, RefutedAs, Advanced}
@@ -112,7 +112,7 @@ module _ (p : List ℕ) (x : Sheet) (G : State → Type 0) (ws node : List ℕ) 
           fails-value (value-fails-more (joined-right y.joined) m.1) m.0 y.column (omega arith) (omega arith) y.slot y.value
 
       -- it was not tried
-      pub going_refuted : (node_kind node ≡ rows-kind → LiveAt p node k → Alike p ws below (left_of node k) last k → FailsAt p G ws below node last → FailsAt p G ws below node k)
+      pub going_refuted : (node_kind node ≡ rows_kind → LiveAt p node k → Alike p ws below (left_of node k) last k → FailsAt p G ws below node last → FailsAt p G ws below node k)
           → (res : Bool) (more : List ℕ) → res ≡ true → RefutedAs res p st node last k below sl sm set more → Going p x G ws st more node (n + 1) below last sl sm
       going_refuted alike false more e said = absurd (true≢false (sym e))
       going_refuted alike true more e (inl (dead, same)) =
@@ -140,14 +140,14 @@ module _ (p : List ℕ) (x : Sheet) (r : ReadyPlan p x) (goal : Goal) (ws : List
   G = Good (sheet_by goal x)
 
   -- rows that are alike fail together
-  like-fails : node_kind node ≡ rows-kind → LiveAt p node k → Alike p ws below (left_of node k) last k → FailsAt p G ws below node last → FailsAt p G ws below node k
+  like-fails : node_kind node ≡ rows_kind → LiveAt p node k → Alike p ws below (left_of node k) last k → FailsAt p G ws below node last → FailsAt p G ws below node k
   like-fails kind live m f =
       subst (λ (l : List ℕ). AlternativeFails G ws below (left_of node k) l) (sym (right-rows node p k kind))
       (alike-fails p x r goal ws below (left_of node k) w.size (here.opened.joinable k live).left last k m
       (subst (λ (l : List ℕ). AlternativeFails G ws below (left_of node k) l) (right-rows node p last kind)
       (subst (λ (l : List ℕ). AlternativeFails G ws below l (right_of p node last)) (part-whole node left_at last off ∙ sym (part-whole node left_at k off)) f)))
     where
-      off : node_kind node ≡ each-kind → ⊥
+      off : node_kind node ≡ each_kind → ⊥
       off e = omega arith
 
   pub turn-refuted : (res : Bool) (more : List ℕ) → res ≡ true → RefutedAs res p st node last k below sl sm set more → Going p x G ws st more node (n + 1) below last sl sm

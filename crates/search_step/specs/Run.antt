@@ -1,6 +1,6 @@
 -- What the search's contracts cite: where it stands with a node. No promise to a caller rests on these.
 use Rattle.std.specs.Prelude.{◌≡◌, Bool, true, false, cond, not, List, [], ◌∷◌, ◌⊎◌, ℕ, ◌+◌, ◌-◌, ◌*◌, ◌<◌, ◌≤◌, ltb, length, get_or}
-use Rattle.tableau_layout.specs.Layout.{slot-end}
+use Rattle.tableau_layout.specs.Layout.{slot_end}
 use Rattle.query_meaning.specs.Meaning.{In}
 use Rattle.case_verdicts.specs.Verdict.{Sheet}
 use Rattle.case_verdicts.specs.Sheets.{top}
@@ -12,7 +12,7 @@ use Rattle.search_links.specs.Steps.{RootValues, Equated}
 use Rattle.search_reasons.specs.Reasons.{RestsOn, AlternativeFails, ValueFails}
 use Rattle.search_nogoods.specs.Memory.{EachValue, RowExcluded}
 use Rattle.search_symmetry.specs.Symmetry.{Alike}
-use Rattle.search_node.specs.Choices.{rows-kind, node_kind, node_hint, left_of, right_of, how_many, LiveAt}
+use Rattle.search_node.specs.Choices.{rows_kind, node_kind, node_hint, left_of, right_of, how_many, LiveAt}
 use Rattle.search_node.specs.Node.{Standing, Wordly, StateFound, OpenState, NodeBy}
 
 -- the values that slots cannot have: what the table says is so
@@ -76,7 +76,7 @@ pub record Going (p : List ℕ) (x : Sheet) (G : State → Type 0) (ws st set no
 -- alternative k need not be tried: it is not live, it is a listed row like the last one that failed, or the table excludes it
 abbrev pub RefutedAs : Bool → List ℕ → List ℕ → List ℕ → ℕ → ℕ → List ℕ → List ℕ → List ℕ → List ℕ → List ℕ → Type 0
 RefutedAs true p ws node last k below sl sm old set =
-    ((LiveAt p node k → ⊥) × (set ≡ old)) ⊎ (((node_kind node ≡ rows-kind) × Alike p ws below (left_of node k) last k × (set ≡ old)) ⊎ RowExcluded (left_of node k) (right_of p node k) sl sm old set)
+    ((LiveAt p node k → ⊥) × (set ≡ old)) ⊎ (((node_kind node ≡ rows_kind) × Alike p ws below (left_of node k) last k × (set ≡ old)) ⊎ RowExcluded (left_of node k) (right_of p node k) sl sm old set)
 RefutedAs false p ws node last k below sl sm old set = LiveAt p node k × (set ≡ old)
 
 -- what a failure after the step of two rows says before it: a failure that does not rest on the step, or a failure of the two rows, and its slots are
@@ -95,7 +95,7 @@ LeftBy false G ws out u r below old set sl sm = RowLeft G ws out u r below old s
 -- so it is for the words and the table before any step that made two rows one, and every sheet
 abbrev pub UndoneBy : Bool → List ℕ → List ℕ → List ℕ → List ℕ → List ℕ → List ℕ → List ℕ → List ℕ → List ℕ → List ℕ → List ℕ → List ℕ → Type 0
 UndoneBy jump u r ws below sl sm out less old set nl nm =
-    (y : Sheet) (was : List ℕ) → length was ≡ slot-end → Linked top was → RootValues top was u → RootValues top was r → Equated top was ws u r
+    (y : Sheet) (was : List ℕ) → length was ≡ slot_end → Linked top was → RootValues top was u → RootValues top was r → Equated top was ws u r
     → RestsOn (Good y) ws below → Remembers (Good y) ws sl sm → LeftBy jump (Good y) was out u r less old set nl nm
 
 -- ---- from one alternative to the next
@@ -144,9 +144,9 @@ pub record JudgedState (good : Bool) (p : List ℕ) (x y : Sheet) (ws out set no
 
 -- those of copies 0 to i are what they must be, and where nothing below is good nothing is at all
 pub record Heads (x y : Sheet) (ws : List ℕ) (i : ℕ) : Type 0 where
-  pub size : length ws ≡ slot-end
+  pub size : length ws ≡ slot_end
   pub linked : Linked top ws
-  pub stood : (n : ℕ) → n < slot-end → Standing x (get_or ws n 0)
+  pub stood : (n : ℕ) → n < slot_end → Standing x (get_or ws n 0)
   pub heads : (c : Copy) → In c (numbered (jobs y)) → c.number ≤ i → Meets (copy (linked_state top ws) c.number) c.job
   pub back : Refuted top y (linked_state top ws) → Refuted top y (free top)
 

@@ -2,9 +2,9 @@
 #![tactic(auto)]
 
 ghost use Rattle.std.specs.Prelude.{◌≡◌, true, false, List, ℕ, ◌+◌, ◌*◌, ◌-◌, ◌<◌, ◌≤◌, length, get_or};
-ghost use Rattle.query_layout.specs.Layout.{block-head, names};
-ghost use Rattle.sheet_format.specs.Limits.{most-rows};
-ghost use Rattle.tableau_layout.specs.Layout.{most-blocks, most-copies, slot-end};
+ghost use Rattle.query_layout.specs.Layout.{block_head, names};
+ghost use Rattle.sheet_format.specs.Limits.{most_rows};
+ghost use Rattle.tableau_layout.specs.Layout.{most_blocks, most_copies, slot_end};
 ghost use Rattle.query_join.specs.Joins.{value_of, head_row};
 ghost use Rattle.case_verdicts.specs.Verdict.{Sheet};
 ghost use Rattle.case_verdicts.specs.Sheets.{top};
@@ -13,12 +13,12 @@ ghost use Rattle.case_verdicts.specs.Search.{free};
 ghost use Rattle.case_verdicts.specs.Words.{state_of};
 ghost use Rattle.tableau_plan.specs.Plan.{block_numbers, row_count};
 ghost use Rattle.search_slots.specs.Slots.{set_words};
-ghost use Rattle.search_nogoods.specs.Sizes.{memory-numbers, memory-words};
+ghost use Rattle.search_nogoods.specs.Sizes.{memory_numbers, memory_words};
 ghost use Rattle.search_links.specs.Links.{linked_state};
 ghost use Rattle.search_links.specs.Steps.{RootValues, Equated, EquatedBy};
 ghost use Rattle.search_task.specs.Task.{ReadyPlan, sheet_by};
 ghost use Rattle.search_symmetry.specs.Symmetry.{Alike};
-ghost use Rattle.search_node.specs.Choices.{rows-kind, node_kind, left_of, right_of, how_many};
+ghost use Rattle.search_node.specs.Choices.{rows_kind, node_kind, left_of, right_of, how_many};
 ghost use Rattle.search_node.specs.Node.{Wordly};
 ghost use Rattle.search_step.specs.Run.{turn_of, is_its_turn, RefutedAs, UndoneBy, Going, Advanced, Heads, HeadsBy};
 ghost use Rattle.search_task.specs.declared.Goal.{Goal};
@@ -63,7 +63,7 @@ fn is_like_last(
     below: &[u64; SET_WORDS],
     to: &mut [usize; MOST_ROWS],
 ) -> bool
-    ensures { result ≡ true → (node_kind node.now ≡ rows-kind) × Alike p.now ws.now below.now u.now last k }
+    ensures { result ≡ true → (node_kind node.now ≡ rows_kind) × Alike p.now ws.now below.now u.now last k }
 {
     if !search_node::is_of_rows(node) {
         return false;
@@ -85,7 +85,7 @@ fn is_refuted(
     set: &mut [u64; SET_WORDS],
     to: &mut [usize; MOST_ROWS],
 ) -> bool
-    ensures refuted_as { k < most-rows → k < how_many p.now node.now → RefutedAs result p.now ws.now node.now last k below.now sl.now sm.now set.old set.new }
+    ensures refuted_as { k < most_rows → k < how_many p.now node.now → RefutedAs result p.now ws.now node.now last k below.now sl.now sm.now set.old set.new }
     ensures set_len_unchanged { length set.new ≡ length set.old }
 {
     if !search_node::is_live(p, node, k) {
@@ -106,7 +106,7 @@ pub fn take(
     node: &[usize; NODE_NUMBERS],
     k: usize,
 ) -> bool
-    ensures equated_by { k < most-rows → k < how_many p.now node.now → RootValues top ws.old (left_of node.now k) → RootValues top ws.old (right_of p.now node.now k) → EquatedBy result top ws.old ws.new (left_of node.now k) (right_of p.now node.now k) }
+    ensures equated_by { k < most_rows → k < how_many p.now node.now → RootValues top ws.old (left_of node.now k) → RootValues top ws.old (right_of p.now node.now k) → EquatedBy result top ws.old ws.new (left_of node.now k) (right_of p.now node.now k) }
     ensures ws_len_unchanged { length ws.new ≡ length ws.old }
 {
     let u = search_node::left_row(node, k);
@@ -121,7 +121,7 @@ pub fn untake(
     node: &[usize; NODE_NUMBERS],
     k: usize,
 )
-    ensures ws_after { k < most-rows → k < how_many p.now node.now → (was : List ℕ) → RootValues top was (left_of node.now k) → RootValues top was (right_of p.now node.now k) → Equated top was ws.old (left_of node.now k) (right_of p.now node.now k) → ws.new ≡ was }
+    ensures ws_after { k < most_rows → k < how_many p.now node.now → (was : List ℕ) → RootValues top was (left_of node.now k) → RootValues top was (right_of p.now node.now k) → Equated top was ws.old (left_of node.now k) (right_of p.now node.now k) → ws.new ≡ was }
     ensures ws_len_unchanged { length ws.new ≡ length ws.old }
 {
     let u = search_node::left_row(node, k);
@@ -140,7 +140,7 @@ fn undo(
     sl: &mut [usize; MEMORY_NUMBERS],
     sm: &mut [u64; MEMORY_WORDS],
 ) -> bool
-    requires { (length u.now ≡ 4) × (length row.now ≡ 4) × (length below.old ≡ set_words) × (length sl.old ≡ memory-numbers) × (length sm.old ≡ memory-words) }
+    requires { (length u.now ≡ 4) × (length row.now ≡ 4) × (length below.old ≡ set_words) × (length sl.old ≡ memory_numbers) × (length sm.old ≡ memory_words) }
     ensures undone_by { UndoneBy result u.now row.now ws.old below.old sl.old sm.old ws.new below.new set.old set.new sl.new sm.new }
     ensures ws_len_unchanged { (length ws.new ≡ length ws.old) × (length below.new ≡ length below.old) × (length sl.new ≡ length sl.old) × (length sm.new ≡ length sm.old) × (length set.new ≡ length set.old) }
 {
@@ -168,8 +168,8 @@ pub fn leave(
     sl: &mut [usize; MEMORY_NUMBERS],
     sm: &mut [u64; MEMORY_WORDS],
 ) -> bool
-    requires { (length below.old ≡ set_words) × (length sl.old ≡ memory-numbers) × (length sm.old ≡ memory-words) }
-    ensures undone_by { k < most-rows → k < how_many p.now node.now → UndoneBy result (left_of node.now k) (right_of p.now node.now k) ws.old below.old sl.old sm.old ws.new below.new set.old set.new sl.new sm.new }
+    requires { (length below.old ≡ set_words) × (length sl.old ≡ memory_numbers) × (length sm.old ≡ memory_words) }
+    ensures undone_by { k < most_rows → k < how_many p.now node.now → UndoneBy result (left_of node.now k) (right_of p.now node.now k) ws.old below.old sl.old sm.old ws.new below.new set.old set.new sl.new sm.new }
     ensures ws_len_unchanged { (length ws.new ≡ length ws.old) × (length below.new ≡ length below.old) × (length sl.new ≡ length sl.old) × (length sm.new ≡ length sm.old) × (length set.new ≡ length set.old) }
 {
     let u = search_node::left_row(node, k);
@@ -191,7 +191,7 @@ pub fn next(
     sm: &[u64; MEMORY_WORDS],
 ) -> usize
     ensures advanced { (x : Sheet) → ReadyPlan p.now x → (goal : Goal) → Wordly x (sheet_by goal x) ws.old → Going p.now x (Good (sheet_by goal x)) ws.old ws.old set.old node.now from below.now last sl.now sm.now → Advanced p.now x (Good (sheet_by goal x)) ws.old set.new node.now result ws.new sl.now sm.now }
-    ensures lower_bound { (0 < result → (from < result) × (result ≤ 2 * most-rows)) × (length ws.new ≡ length ws.old) × (length set.new ≡ length set.old) }
+    ensures lower_bound { (0 < result → (from < result) × (result ≤ 2 * most_rows)) × (length ws.new ≡ length ws.old) × (length set.new ≡ length set.old) }
 {
     let mut to = [0; MOST_ROWS];
     let count = search_node::alternatives(p, node);
@@ -216,8 +216,8 @@ pub fn next(
 
 // Column c of the head of block b, under the valuation of copy k.
 fn head_value(p: &[usize; PLAN_NUMBERS], ws: &[usize], b: usize, k: usize, c: usize) -> usize
-    requires { (b < most-blocks) × (k < most-copies) × (c < 4) }
-    ensures { result ≡ value_of (λ x. linked_state top ws.now (k * names + x)) (get_or (block_numbers p.now b) (block-head + c) 0) }
+    requires { (b < most_blocks) × (k < most_copies) × (c < 4) }
+    ensures { result ≡ value_of (λ x. linked_state top ws.now (k * names + x)) (get_or (block_numbers p.now b) (block_head + c) 0) }
 {
     let t = p[BLOCKS_AT + b * BLOCK_NUMBERS + HEAD_AT + c];
     if t < NAMES {
@@ -228,7 +228,7 @@ fn head_value(p: &[usize; PLAN_NUMBERS], ws: &[usize], b: usize, k: usize, c: us
 
 // The head of block b under the valuation of copy k.
 fn head_of(p: &[usize; PLAN_NUMBERS], ws: &[usize], b: usize, k: usize) -> [usize; 4]
-    requires { (b < most-blocks) × (k < most-copies) }
+    requires { (b < most_blocks) × (k < most_copies) }
     ensures { result ≡ head_row (λ x. linked_state top ws.now (k * names + x)) (block_numbers p.now b) }
 {
     [
@@ -241,7 +241,7 @@ fn head_of(p: &[usize; PLAN_NUMBERS], ws: &[usize], b: usize, k: usize) -> [usiz
 
 // Makes the head of listed row i's copy the row. False where that cannot be.
 fn settle_row(p: &[usize; PLAN_NUMBERS], ws: &mut [usize], i: usize) -> bool
-    requires { i < most-rows }
+    requires { i < most_rows }
     ensures { (x : Sheet) → ReadyPlan p.now x → (goal : Goal) → i < row_count p.now → Heads x (sheet_by goal x) ws.old i → HeadsBy result x (sheet_by goal x) ws.new (i + 1) }
 {
     let v = tableau_parts::view_at(p, i);
@@ -255,7 +255,7 @@ fn settle_row(p: &[usize; PLAN_NUMBERS], ws: &mut [usize], i: usize) -> bool
 
 // Makes the head of each listed row's copy the row. False where that cannot be.
 pub fn settle(p: &[usize; PLAN_NUMBERS], ws: &mut [usize]) -> bool
-    requires { length ws.old ≡ slot-end }
+    requires { length ws.old ≡ slot_end }
     ensures { (x : Sheet) → ReadyPlan p.now x → (goal : Goal) → state_of top ws.old ≡ free top → HeadsBy result x (sheet_by goal x) ws.new (row_count p.now) }
 {
     let listed = tableau_parts::row_count(p);

@@ -7,7 +7,7 @@ use Prim.Native.Nat.{ℕ, zero, suc, ◌+◌, ◌-◌, ◌*◌, ◌/◌, ◌%◌
 use native.Mathlib.Omega.{arith}
 use lib.ListN.{length, get_or, get_or-eq_default}
 use Rattle.query_layout.specs.Layout.{names}
-use Rattle.tableau_layout.specs.Layout.{most-copies, slot-end}
+use Rattle.tableau_layout.specs.Layout.{most_copies, slot_end}
 use Rattle.list_laws.proofs.Lists.{inside}
 use Rattle.list_laws.proofs.Order.{less?}
 use Rattle.case_verdicts.specs.Verdict.{Sheet}
@@ -30,7 +30,7 @@ use Rattle.search_symmetry.specs.Symmetry.{exchanged, copy_becomes, Alike}
 use Rattle.search_symmetry.proofs.Symmetry.{Symmetric, good-turned}
 use Rattle.search_symmetry.proofs.Turned.{symmetric, turn_small}
 
-module _ (p : List ℕ) (x : Sheet) (r : ReadyPlan p x) (goal : Goal) (ws set u : List ℕ) (size : length ws ≡ slot-end) (roots : RootValues top ws u)
+module _ (p : List ℕ) (x : Sheet) (r : ReadyPlan p x) (goal : Goal) (ws set u : List ℕ) (size : length ws ≡ slot_end) (roots : RootValues top ws u)
     (one other : ℕ) (m : Alike p ws set u one other) where
   abbrev turn : ℕ → ℕ
   turn = exchanged (row_values p one) (row_values p other)
@@ -55,14 +55,14 @@ module _ (p : List ℕ) (x : Sheet) (r : ReadyPlan p x) (goal : Goal) (ws set u 
   abbrev slot : ℕ → ℕ
   slot n = to (n / names) * names + n % names
 
-  copy-few : (k : ℕ) → k < most-copies → to k < most-copies
+  copy-few : (k : ℕ) → k < most_copies → to k < most_copies
   copy-few zero lt = omega arith
   copy-few (suc i) lt = let (a, b) = m.rows.twice i (omega arith) in omega arith
 
-  slot-few : (n : ℕ) → n < slot-end → slot n < slot-end
+  slot-few : (n : ℕ) → n < slot_end → slot n < slot_end
   slot-few n lt = let f = copy-few (n / names) (omega arith) in omega arith
 
-  word_at : (n : ℕ) → n < slot-end → state_of top ws n ≡ get_or ws n 0
+  word_at : (n : ℕ) → n < slot_end → state_of top ws n ≡ get_or ws n 0
   word_at n lt = inside ws n (top + n) 0 (omega arith)
 
   -- a state with values and copies exchanged
@@ -80,7 +80,7 @@ module _ (p : List ℕ) (x : Sheet) (r : ReadyPlan p x) (goal : Goal) (ws set u 
   good t = good-turned (sheet_by goal x) (ready_task p x r goal).accepted turn to symmetry t (turned t) (turns t)
 
   -- it obeys the words of the set's slots where the state does
-  slot-obeys : (t : State) → Obeys t ws set → (n : ℕ) → n < slot-end → in_set set n ≡ true → value_under top (turned t) (state_of top ws n) ≡ turned t n
+  slot-obeys : (t : State) → Obeys t ws set → (n : ℕ) → n < slot_end → in_set set n ≡ true → value_under top (turned t) (state_of top ws n) ≡ turned t n
   slot-obeys t o n lt e =
       let q : n / names * names + n % names ≡ n = omega arith in
       go (subst (λ i. (get_or ws i 0 ≡ top + i) ⊎ ((get_or ws i 0 < top) × (in_set set (slot n) ≡ true) × (get_or ws (slot n) 0 ≡ turn (get_or ws i 0)))) q
@@ -98,7 +98,7 @@ module _ (p : List ℕ) (x : Sheet) (r : ReadyPlan p x) (goal : Goal) (ws set u 
 
   obeys : (t : State) → Obeys t ws set → Obeys (turned t) ws set
   obeys t o n e = ⊎_elim (λ lt. slot-obeys t o n lt e)
-      (λ le. ap (value_under top (turned t)) (get_or-eq_default ws (top + n) (omega arith)) ∙ under-own top (turned t) n) (less? n slot-end)
+      (λ le. ap (value_under top (turned t)) (get_or-eq_default ws (top + n) (omega arith)) ∙ under-own top (turned t) n) (less? n slot_end)
 
   -- and it makes the stray row `one` where the state makes it `other`
   column : (t : State) → Met (value_under top t) (equations u (row_values p other)) → (c : ℕ) → c < length u → c < 4

@@ -15,9 +15,9 @@ use lib.ListN.{length, get_or, drop, set, length-set}
 use lib.Pow.{shr-shr}
 use lib.Seq.{drop-cons, drop-length, get_or-set_same, get_or-set_other}
 use Rattle.list_laws.proofs.Order.{less?}
-use Rattle.tableau_layout.specs.Layout.{blocks_at, most-copies, rows_at, sizes-at, slot-end}
-use Rattle.query_layout.specs.Layout.{block-head, block-width, names}
-use Rattle.sheet_format.specs.Limits.{most-rows}
+use Rattle.tableau_layout.specs.Layout.{blocks_at, most_copies, rows_at, sizes_at, slot_end}
+use Rattle.query_layout.specs.Layout.{block_head, block_width, names}
+use Rattle.sheet_format.specs.Limits.{most_rows}
 use Rattle.case_verdicts.specs.Sheets.{top}
 use Rattle.tableau_plan.specs.Plan.{row_at, row_values, row_count, view_count, block_size}
 use Rattle.search_slots.specs.Slots.{has_digit, set_word, in_set}
@@ -72,8 +72,8 @@ agrees-more u a c s h = record { each = below_more (λ (d : ℕ). get_or u d 0 <
 
 -- ---- rows that come back
 
-pub back_more : (to : List ℕ) (i : ℕ) → ComeBack to i → get_or to i 0 < most-rows → get_or to (get_or to i 0) 0 ≡ i → ComeBack to (i + 1)
-back_more to i s lt e = record { each = below_more (λ (j : ℕ). (get_or to j 0 < most-rows) × (get_or to (get_or to j 0) 0 ≡ j)) i s.each (lt, e) }
+pub back_more : (to : List ℕ) (i : ℕ) → ComeBack to i → get_or to i 0 < most_rows → get_or to (get_or to i 0) 0 ≡ i → ComeBack to (i + 1)
+back_more to i s lt e = record { each = below_more (λ (j : ℕ). (get_or to j 0 < most_rows) × (get_or to (get_or to j 0) 0 ≡ j)) i s.each (lt, e) }
 
 pub copy-on : (to : List ℕ) (k : ℕ) → (k ≡ 0 → ⊥) → get_or to (k - 1) 0 + 1 ≡ copy_becomes to k
 copy-on to zero n = absurd (n refl)
@@ -81,13 +81,13 @@ copy-on to (suc k) n = ap (λ (j : ℕ). get_or to j 0 + 1) (let e : suc k - 1 �
 
 -- ---- the copies of a stray row's made-up values
 
-pub unmoved_more : (to u : List ℕ) (c : ℕ) → Unmoved to u c → ((k x : ℕ) → k < most-copies → x < names → get_or u c 0 ≡ top + (k * names + x) → copy_becomes to k ≡ k) → Unmoved to u (c + 1)
-unmoved_more to u c s h = record { each = λ d k x lt. below_more (λ (e : ℕ). (i y : ℕ) → i < most-copies → y < names → get_or u e 0 ≡ top + (i * names + y) → copy_becomes to i ≡ i) c (λ e l i y. s.each e i y l) h d lt k x }
+pub unmoved_more : (to u : List ℕ) (c : ℕ) → Unmoved to u c → ((k x : ℕ) → k < most_copies → x < names → get_or u c 0 ≡ top + (k * names + x) → copy_becomes to k ≡ k) → Unmoved to u (c + 1)
+unmoved_more to u c s h = record { each = λ d k x lt. below_more (λ (e : ℕ). (i y : ℕ) → i < most_copies → y < names → get_or u e 0 ≡ top + (i * names + y) → copy_becomes to i ≡ i) c (λ e l i y. s.each e i y l) h d lt k x }
 
 pub unmoved_constant : (to u : List ℕ) (c : ℕ) → Unmoved to u c → get_or u c 0 < top → Unmoved to u (c + 1)
 unmoved_constant to u c s lt = unmoved_more to u c s (λ k x a b e. absurd (omega arith))
 
-pub unmoved_outside : (to u : List ℕ) (c : ℕ) → Unmoved to u c → slot-end ≤ get_or u c 0 - top → Unmoved to u (c + 1)
+pub unmoved_outside : (to u : List ℕ) (c : ℕ) → Unmoved to u c → slot_end ≤ get_or u c 0 - top → Unmoved to u (c + 1)
 unmoved_outside to u c s ge = unmoved_more to u c s (λ k x a b e. absurd (omega arith))
 
 pub unmoved_slot : (to u : List ℕ) (c m : ℕ) → Unmoved to u c → m ≡ (get_or u c 0 - top) / names → copy_becomes to m ≡ m → Unmoved to u (c + 1)
@@ -115,7 +115,7 @@ becomes-more p a b i j c s h = record { view = s.view; values = below_more (λ (
 
 -- ---- where rows go
 
-pub written-more : (p a b : List ℕ) (rows : ℕ) (to : List ℕ) (i j : ℕ) → i < most-rows → WrittenCopies p a b rows to i → (i < rows → Goes p a b rows i j) → WrittenCopies p a b rows (set to i j) (i + 1)
+pub written-more : (p a b : List ℕ) (rows : ℕ) (to : List ℕ) (i j : ℕ) → i < most_rows → WrittenCopies p a b rows to i → (i < rows → Goes p a b rows i j) → WrittenCopies p a b rows (set to i j) (i + 1)
 written-more p a b rows to i j lt s h = record {
   long = length-set to i j ∙ s.long;
   each = below_more (λ (k : ℕ). k < rows → Goes p a b rows k (get_or (set to i j) k 0)) i
@@ -180,21 +180,21 @@ AlikeFound p ws set u one other to a b =
     SameFor u a 4
     → Swapped a b 4
     → SheetTurned p a b (row_count p) (view_count p) to
-    → SlotsTurned ws set a b to slot-end
+    → SlotsTurned ws set a b to slot_end
     → Alike p ws set u one other
 
-used-at : (p : List ℕ) (b k : ℕ) → k < block-width → (k / 5 < block_size p b) ⊎ (block-head ≤ k) → Used p (b * block-width + k)
+used-at : (p : List ℕ) (b k : ℕ) → k < block_width → (k / 5 < block_size p b) ⊎ (block_head ≤ k) → Used p (b * block_width + k)
 used-at p b k lt used =
-    let e : (b * block-width + k) % block-width ≡ k = omega arith in
-    let f : (b * block-width + k) / block-width ≡ b = omega arith in
-    ⊎_elim (λ h. inl (subst (λ (n : ℕ). (b * block-width + k) % block-width / 5 < get_or p (sizes-at + n) 0) (sym f) (subst (λ (n : ℕ). n / 5 < block_size p b) (sym e) h))) (λ h. inr (omega arith)) used
+    let e : (b * block_width + k) % block_width ≡ k = omega arith in
+    let f : (b * block_width + k) / block_width ≡ b = omega arith in
+    ⊎_elim (λ h. inl (subst (λ (n : ℕ). (b * block_width + k) % block_width / 5 < get_or p (sizes_at + n) 0) (sym f) (subst (λ (n : ℕ). n / 5 < block_size p b) (sym e) h))) (λ h. inr (omega arith)) used
 
 all_mirrored : (p ws set u : List ℕ) (one other : ℕ) (to : List ℕ)
     → TwoListed p one other
     → Unmoved to u 4
     → AlikeFound p ws set u one other to (row_values p one) (row_values p other)
 all_mirrored p ws set u one other to few un ag sw st ct = record {
-  few = (few.one_inside, few.other-inside);
+  few = (few.one_inside, few.other_inside);
   to = to;
   exchanges = record {
     there = λ c lt. exchanged-at p (row_values p one) (row_values p other) one other c lt (sw.there c lt);
@@ -203,11 +203,11 @@ all_mirrored p ws set u one other to few un ag sw st ct = record {
   fixed = record {
     each = λ b k lb lk used.
         subst (λ (n : ℕ). names ≤ get_or p n 0 → exchanged (row_values p one) (row_values p other) (get_or p n 0 - names) ≡ get_or p n 0 - names)
-        (let e : blocks_at + (b * block-width + k) ≡ blocks_at + b * block-width + k = omega arith in e)
-        (st.constants.each (b * block-width + k) (omega arith) (used-at p b k lk used));
+        (let e : blocks_at + (b * block_width + k) ≡ blocks_at + b * block_width + k = omega arith in e)
+        (st.constants.each (b * block_width + k) (omega arith) (used-at p b k lk used));
   };
   rows = record {
-    row = λ i lt. let go = st.rows-go.each i (let h = few.few-rows in omega arith) lt in record { inside = go.inside; view = go.becomes.view; values = go.becomes.values };
+    row = λ i lt. let go = st.rows_go.each i (let h = few.few_rows in omega arith) lt in record { inside = go.inside; view = go.becomes.view; values = go.becomes.values };
     twice = st.rows_back.each;
   };
   slots = record {

@@ -8,8 +8,8 @@ use native.Mathlib.Omega.{arith}
 use borrow.Author.Tests.{eqb-true}
 use lib.Dec.{eqb}
 use lib.ListN.{length, get_or}
-use Rattle.query_layout.specs.Layout.{block-head, block-width, names}
-use Rattle.tableau_layout.specs.Layout.{blocks_at, list-block, view-block}
+use Rattle.query_layout.specs.Layout.{block_head, block_width, names}
+use Rattle.tableau_layout.specs.Layout.{blocks_at, list_block, view_block}
 use Rattle.sheet_format.specs.Table.{Table}
 use Rattle.query_meaning.specs.Meaning.{con, var, Atom, Block, In, row}
 use Rattle.query_meaning.specs.Blocks.{View, nth}
@@ -68,12 +68,12 @@ exchange_twice p one other ex v = go (exchange_cases (row_values p one) (row_val
 
 -- a constant of a block in numbers
 still-block : {table : Table} (p : List ℕ) (b : ℕ) (blk : Block) (turn : ℕ → ℕ) → BlockNumbers (block_numbers p b) (block_size p b) blk → Shaped table blk
-    → ((k : ℕ) → k < block-width → (k / 5 < block_size p b) ⊎ (block-head ≤ k) → names ≤ get_or p (blocks_at + b * block-width + k) 0 → turn (get_or p (blocks_at + b * block-width + k) 0 - names) ≡ get_or p (blocks_at + b * block-width + k) 0 - names) → StillBlock turn blk
+    → ((k : ℕ) → k < block_width → (k / 5 < block_size p b) ⊎ (block_head ≤ k) → names ≤ get_or p (blocks_at + b * block_width + k) 0 → turn (get_or p (blocks_at + b * block_width + k) 0 - names) ≡ get_or p (blocks_at + b * block_width + k) 0 - names) → StillBlock turn blk
 still-block p b blk turn bn sh fixed = record {
   head = λ c m.
       let (i, lt, e) = in-at (con 0) (con c) blk.head m in
       let s = sh.short in
-      number-still c (block-head + i) (omega arith) (inr (omega arith)) (bn.head i (omega arith) ∙ ap term_number e);
+      number-still c (block_head + i) (omega arith) (inr (omega arith)) (bn.head i (omega arith) ∙ ap term_number e);
   atoms = λ a m c n.
       let (j, lt, e) = in-at (record { rel = 0; terms = [] }) a blk.atoms m in
       let (i, li, f) = in-at (con 0) (con c) a.terms n in
@@ -84,10 +84,10 @@ still-block p b blk turn bn sh fixed = record {
   plain = sh.plain;
 }
   where
-    number-still : (c k : ℕ) → k < block-width → (k / 5 < block_size p b) ⊎ (block-head ≤ k) → get_or (block_numbers p b) k 0 ≡ c + names → turn c ≡ c
+    number-still : (c k : ℕ) → k < block_width → (k / 5 < block_size p b) ⊎ (block_head ≤ k) → get_or (block_numbers p b) k 0 ≡ c + names → turn c ≡ c
     number-still c k lt used e =
-        let q : get_or p (blocks_at + b * block-width + k) 0 ≡ c + names = sym (block_at p b k lt) ∙ e in
-        let z : get_or p (blocks_at + b * block-width + k) 0 - names ≡ c = omega arith in
+        let q : get_or p (blocks_at + b * block_width + k) 0 ≡ c + names = sym (block_at p b k lt) ∙ e in
+        let z : get_or p (blocks_at + b * block_width + k) 0 - names ≡ c = omega arith in
         sym (ap turn z) ∙ fixed k lt used (omega arith) ∙ z
 
 -- ---- listed rows
@@ -120,18 +120,18 @@ module _ (p : List ℕ) (x : Sheet) (r : ReadyPlan p x) (one other : ℕ) (to : 
   abbrev to_copy : ℕ → ℕ
   to_copy = copy_becomes to
 
-  fixed-block : {table : Table} (b : ℕ) (blk : Block) → b < view-block (view_count p) → BlockNumbers (block_numbers p b) (block_size p b) blk → Shaped table blk → StillBlock turn blk
+  fixed-block : {table : Table} (b : ℕ) (blk : Block) → b < view_block (view_count p) → BlockNumbers (block_numbers p b) (block_size p b) blk → Shaped table blk → StillBlock turn blk
   fixed-block b blk lt bn sh = still-block p b blk turn bn sh (λ k small used le. fixed.each b k lt small used le)
 
   still-view : (v : ℕ) → v < view_count p → StillBlock turn (nth x.views v).block
-  still-view v lt = fixed-block (view-block v) _ (omega arith) (r.plan.view v lt) (r.views v lt)
+  still-view v lt = fixed-block (view_block v) _ (omega arith) (r.plan.view v lt) (r.views v lt)
 
   rows-turned : (w : View) → In w x.views → (t : List ℕ) → In t w.rows → In (map turn t) w.rows
   rows-turned w m t n =
       let (v, lt, e) = in-nth x.views w m in
       let c = r.plan.views in
       let n' = subst (λ (z : View). In t z.rows) e n in
-      let (i, li, a, b) = r.plan.every-row v (omega arith) t n' in
+      let (i, li, a, b) = r.plan.every_row v (omega arith) t n' in
       let k = rows.row i li in
       let j = get_or to i 0 in
       let o = r.plan.rows j k.inside in
@@ -173,8 +173,8 @@ module _ (p : List ℕ) (x : Sheet) (r : ReadyPlan p x) (one other : ℕ) (to : 
   still-list : (goal : Goal) (l : Block) → In l (sheet_by goal x).lists → StillBlock turn l
   still-list Counterexample l m =
       let (i, lt, e) = list_index p x r l m in
-      let few = r.plan.lists-few in
-      subst (StillBlock turn) e (fixed-block (list-block i) (saved_list_at x i) (omega arith) (r.plan.list i lt) (list-shaped p x r i lt))
+      let few = r.plan.lists_few in
+      subst (StillBlock turn) e (fixed-block (list_block i) (saved_list_at x i) (omega arith) (r.plan.list i lt) (list-shaped p x r i lt))
   still-list Agreement l m = absurd m
 
   still-views : (w : View) → In w x.views → StillBlock turn w.block

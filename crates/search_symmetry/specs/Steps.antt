@@ -1,8 +1,8 @@
 -- What single checks find of two rows' values a and b, of the first n of what each goes through. No promise to a caller rests on these.
 use Rattle.std.specs.Prelude.{◌≡◌, true, false, List, ◌⊎◌, ℕ, ◌+◌, ◌-◌, ◌*◌, ◌/◌, ◌%◌, ◌<◌, ◌≤◌, length, get_or}
-use Rattle.query_layout.specs.Layout.{block-head, block-width, names}
-use Rattle.tableau_layout.specs.Layout.{blocks_at, most-copies, sizes-at, view-block}
-use Rattle.sheet_format.specs.Limits.{most-rows, most-views}
+use Rattle.query_layout.specs.Layout.{block_head, block_width, names}
+use Rattle.tableau_layout.specs.Layout.{blocks_at, most_copies, sizes_at, view_block}
+use Rattle.sheet_format.specs.Limits.{most_rows, most_views}
 use Rattle.case_verdicts.specs.Sheets.{top}
 use Rattle.tableau_plan.specs.Plan.{row_at, row_count, view_count}
 use Rattle.search_slots.specs.Slots.{in_set}
@@ -23,7 +23,7 @@ pub record Swapped (a b : List ℕ) (n : ℕ) : Type 0 where
 
 -- number k of the blocks is one of an atom that its block has, or of its head
 abbrev pub Used : List ℕ → ℕ → Type 0
-Used p k = (k % block-width / 5 < get_or p (sizes-at + k / block-width) 0) ⊎ (block-head ≤ k % block-width)
+Used p k = (k % block_width / 5 < get_or p (sizes_at + k / block_width) 0) ⊎ (block_head ≤ k % block_width)
 
 -- it stays, if it is a constant
 abbrev pub StaysAt : List ℕ → List ℕ → List ℕ → ℕ → Type 0
@@ -45,29 +45,29 @@ pub record Goes (p a b : List ℕ) (rows i r : ℕ) : Type 0 where
 
 -- the first n listed rows are written where they go
 pub record WrittenCopies (p a b : List ℕ) (rows : ℕ) (to : List ℕ) (n : ℕ) : Type 0 where
-  pub long : length to ≡ most-rows
+  pub long : length to ≡ most_rows
   pub each : (i : ℕ) → i < n → i < rows → Goes p a b rows i (get_or to i 0)
 
 -- the first n come back
 pub record ComeBack (to : List ℕ) (n : ℕ) : Type 0 where
-  pub each : (i : ℕ) → i < n → (get_or to i 0 < most-rows) × (get_or to (get_or to i 0) 0 ≡ i)
+  pub each : (i : ℕ) → i < n → (get_or to i 0 < most_rows) × (get_or to (get_or to i 0) 0 ≡ i)
 
 -- the sheet stays: the constants of its blocks do, and each listed row goes to one and comes back
 pub record SheetTurned (p a b : List ℕ) (rows views : ℕ) (to : List ℕ) : Type 0 where
-  pub constants : Stays p a b (view-block views * block-width)
-  pub rows-go : WrittenCopies p a b rows to most-rows
-  pub rows_back : ComeBack to most-rows
+  pub constants : Stays p a b (view_block views * block_width)
+  pub rows_go : WrittenCopies p a b rows to most_rows
+  pub rows_back : ComeBack to most_rows
 
 -- two of the listed rows, where not more rows and views stand in the plan than may
 pub record TwoListed (p : List ℕ) (one other : ℕ) : Type 0 where
-  pub few-rows : row_count p ≤ most-rows
-  pub few-views : view_count p ≤ most-views
+  pub few_rows : row_count p ≤ most_rows
+  pub few_views : view_count p ≤ most_views
   pub one_inside : one < row_count p
-  pub other-inside : other < row_count p
+  pub other_inside : other < row_count p
 
 -- the copies of a stray row's made-up values stay
 pub record Unmoved (to u : List ℕ) (n : ℕ) : Type 0 where
-  pub each : (c k x : ℕ) → c < n → k < most-copies → x < names → get_or u c 0 ≡ top + (k * names + x) → copy_becomes to k ≡ k
+  pub each : (c k x : ℕ) → c < n → k < most_copies → x < names → get_or u c 0 ≡ top + (k * names + x) → copy_becomes to k ≡ k
 
 -- the slots from n to m are not in the set
 pub record SlotsPassed (set : List ℕ) (n m : ℕ) : Type 0 where

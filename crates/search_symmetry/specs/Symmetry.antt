@@ -1,9 +1,9 @@
 -- When two listed rows are alike: exchanging their values changes neither the sheet nor the values of the slots that a failure rests on. No
 -- promise to a caller rests on these.
 use Rattle.std.specs.Prelude.{◌≡◌, true, cond, List, [], ◌∷◌, ◌⊎◌, ℕ, zero, suc, ◌+◌, ◌-◌, ◌*◌, ◌/◌, ◌<◌, ◌≤◌, eqb, get_or}
-use Rattle.query_layout.specs.Layout.{block-head, block-width, names}
-use Rattle.tableau_layout.specs.Layout.{blocks_at, most-copies, view-block}
-use Rattle.sheet_format.specs.Limits.{most-rows}
+use Rattle.query_layout.specs.Layout.{block_head, block_width, names}
+use Rattle.tableau_layout.specs.Layout.{blocks_at, most_copies, view_block}
+use Rattle.sheet_format.specs.Limits.{most_rows}
 use Rattle.case_verdicts.specs.Sheets.{top}
 use Rattle.tableau_plan.specs.Plan.{row_at, row_values, row_count, view_count, block_size}
 use Rattle.search_slots.specs.Slots.{in_set}
@@ -30,7 +30,7 @@ pub record Exchanges (p : List ℕ) (one other : ℕ) : Type 0 where
 
 -- no constant of a block is another one then: of its atoms and of its head, which stands from number 30 on
 pub record FixedValue (p : List ℕ) (one other : ℕ) : Type 0 where
-  pub each : (b k : ℕ) → b < view-block (view_count p) → k < block-width → (k / 5 < block_size p b) ⊎ (block-head ≤ k) → names ≤ get_or p (blocks_at + b * block-width + k) 0 → turned p one other (get_or p (blocks_at + b * block-width + k) 0 - names) ≡ get_or p (blocks_at + b * block-width + k) 0 - names
+  pub each : (b k : ℕ) → b < view_block (view_count p) → k < block_width → (k / 5 < block_size p b) ⊎ (block_head ≤ k) → names ≤ get_or p (blocks_at + b * block_width + k) 0 → turned p one other (get_or p (blocks_at + b * block_width + k) 0 - names) ≡ get_or p (blocks_at + b * block_width + k) 0 - names
 
 -- listed row j is what listed row i becomes
 pub record RowTo (p : List ℕ) (one other i j : ℕ) : Type 0 where
@@ -41,11 +41,11 @@ pub record RowTo (p : List ℕ) (one other i j : ℕ) : Type 0 where
 -- each listed row becomes one, and comes back
 pub record RowsTo (p : List ℕ) (one other : ℕ) (to : List ℕ) : Type 0 where
   pub row : (i : ℕ) → i < row_count p → RowTo p one other i (get_or to i 0)
-  pub twice : (i : ℕ) → i < most-rows → (get_or to i 0 < most-rows) × (get_or to (get_or to i 0) 0 ≡ i)
+  pub twice : (i : ℕ) → i < most_rows → (get_or to i 0 < most_rows) × (get_or to (get_or to i 0) 0 ≡ i)
 
 -- a slot of the set has its own made-up value, or a constant, and then becomes one of the set, as its value does
 pub record SlotsTo (p ws set : List ℕ) (one other : ℕ) (to : List ℕ) : Type 0 where
-  pub each : (k x : ℕ) → k < most-copies → x < names → in_set set (k * names + x) ≡ true
+  pub each : (k x : ℕ) → k < most_copies → x < names → in_set set (k * names + x) ≡ true
       → (get_or ws (k * names + x) 0 ≡ top + (k * names + x)) ⊎ ((get_or ws (k * names + x) 0 < top)
       × (in_set set (copy_becomes to k * names + x) ≡ true)
       × (get_or ws (copy_becomes to k * names + x) 0 ≡ turned p one other (get_or ws (k * names + x) 0)))
@@ -53,7 +53,7 @@ pub record SlotsTo (p ws set : List ℕ) (one other : ℕ) (to : List ℕ) : Typ
 -- a stray row stays: its constants are those of row `one`, and its made-up values are of copies that stay
 pub record StrayStays (p u : List ℕ) (one : ℕ) (to : List ℕ) : Type 0 where
   pub constants : (c : ℕ) → c < 4 → get_or u c 0 < top → get_or u c 0 ≡ row_at p one (1 + c)
-  pub slots : (c k x : ℕ) → c < 4 → k < most-copies → x < names → get_or u c 0 ≡ top + (k * names + x) → copy_becomes to k ≡ k
+  pub slots : (c k x : ℕ) → c < 4 → k < most_copies → x < names → get_or u c 0 ≡ top + (k * names + x) → copy_becomes to k ≡ k
 
 -- all of this
 pub record Alike (p ws set u : List ℕ) (one other : ℕ) : Type 0 where

@@ -3,9 +3,9 @@
 #![tactic(auto)]
 
 ghost use Rattle.std.specs.Prelude.{◌≡◌, true, false, ◌<◌, ◌≤◌, ◌*◌, length};
-ghost use Rattle.query_layout.specs.Layout.{block-width};
-ghost use Rattle.sheet_format.specs.Limits.{most-rows, most-views};
-ghost use Rattle.tableau_layout.specs.Layout.{most-copies, slot-end, most-blocks};
+ghost use Rattle.query_layout.specs.Layout.{block_width};
+ghost use Rattle.sheet_format.specs.Limits.{most_rows, most_views};
+ghost use Rattle.tableau_layout.specs.Layout.{most_copies, slot_end, most_blocks};
 ghost use Rattle.search_slots.specs.Slots.{set_words};
 ghost use Rattle.search_symmetry.specs.Symmetry.{exchanged, copy_becomes, Alike};
 ghost use Rattle.search_symmetry.specs.Steps.{Fours, SameFor, Swapped, Used, StaysAt, Stays, TurnsInto, Goes, WrittenCopies, ComeBack, Unmoved, SheetTurned, TwoListed, SlotsPassed, SlotTurned, SlotsTurned};
@@ -72,7 +72,7 @@ fn is_swapped(a: &[usize; 4], b: &[usize; 4]) -> bool
 
 // Whether number k of the blocks is one of an atom that its block has, or of its head.
 fn is_used(p: &[usize; PLAN_NUMBERS], k: usize) -> bool
-    requires { k < most-blocks * block-width }
+    requires { k < most_blocks * block_width }
     ensures { result ≡ false → Used p.now k → ⊥ }
 {
     let j = k % BLOCK_NUMBERS;
@@ -84,7 +84,7 @@ fn is_used(p: &[usize; PLAN_NUMBERS], k: usize) -> bool
 
 // Whether number k of the blocks stays, if it is a constant.
 fn stays_at(p: &[usize; PLAN_NUMBERS], a: &[usize; 4], b: &[usize; 4], k: usize) -> bool
-    requires { (k < most-blocks * block-width) × Fours a.now b.now }
+    requires { (k < most_blocks * block_width) × Fours a.now b.now }
     ensures { result ≡ true → StaysAt p.now a.now b.now k }
 {
     let t = p[BLOCKS_AT + k];
@@ -99,7 +99,7 @@ fn stays_at(p: &[usize; PLAN_NUMBERS], a: &[usize; 4], b: &[usize; 4], k: usize)
 
 // Whether the constants among the first n numbers of blocks stay.
 fn stays(p: &[usize; PLAN_NUMBERS], a: &[usize; 4], b: &[usize; 4], n: usize) -> bool
-    requires { (n ≤ most-blocks * block-width) × Fours a.now b.now }
+    requires { (n ≤ most_blocks * block_width) × Fours a.now b.now }
     ensures { result ≡ true → Stays p.now a.now b.now n }
 {
     let mut k = 0;
@@ -114,7 +114,7 @@ fn stays(p: &[usize; PLAN_NUMBERS], a: &[usize; 4], b: &[usize; 4], n: usize) ->
 
 // Whether listed row i becomes row j.
 fn becomes(p: &[usize; PLAN_NUMBERS], a: &[usize; 4], b: &[usize; 4], i: usize, j: usize) -> bool
-    requires { (i < most-rows) × (j < most-rows) × Fours a.now b.now }
+    requires { (i < most_rows) × (j < most_rows) × Fours a.now b.now }
     ensures { result ≡ true → TurnsInto p.now a.now b.now i j 4 }
 {
     if p[ROWS_AT + j * FACT_NUMBERS] != p[ROWS_AT + i * FACT_NUMBERS] {
@@ -133,8 +133,8 @@ fn becomes(p: &[usize; PLAN_NUMBERS], a: &[usize; 4], b: &[usize; 4], i: usize, 
 
 // The listed row that listed row i becomes, itself before others; 40 where there is none.
 fn goes(p: &[usize; PLAN_NUMBERS], a: &[usize; 4], b: &[usize; 4], rows: usize, i: usize) -> usize
-    requires { (rows ≤ most-rows) × (i < rows) × Fours a.now b.now }
-    ensures { result < most-rows → Goes p.now a.now b.now rows i result }
+    requires { (rows ≤ most_rows) × (i < rows) × Fours a.now b.now }
+    ensures { result < most_rows → Goes p.now a.now b.now rows i result }
 {
     if becomes(p, a, b, i, i) {
         return i;
@@ -157,8 +157,8 @@ fn write_rows(
     rows: usize,
     to: &mut [usize],
 ) -> bool
-    requires { (rows ≤ most-rows) × (length to.old ≡ most-rows) × Fours a.now b.now }
-    ensures { result ≡ true → WrittenCopies p.now a.now b.now rows to.new most-rows }
+    requires { (rows ≤ most_rows) × (length to.old ≡ most_rows) × Fours a.now b.now }
+    ensures { result ≡ true → WrittenCopies p.now a.now b.now rows to.new most_rows }
 {
     let mut i = 0;
     while i < MOST_ROWS {
@@ -177,8 +177,8 @@ fn write_rows(
 
 // Whether each row comes back.
 fn come_back(to: &[usize]) -> bool
-    requires { length to.now ≡ most-rows }
-    ensures { result ≡ true → ComeBack to.now most-rows }
+    requires { length to.now ≡ most_rows }
+    ensures { result ≡ true → ComeBack to.now most_rows }
 {
     let mut i = 0;
     while i < MOST_ROWS {
@@ -196,8 +196,8 @@ fn come_back(to: &[usize]) -> bool
 
 // The copy that copy k becomes.
 fn copy_to(to: &[usize], k: usize) -> usize
-    requires { (k < most-copies) × (length to.now ≡ most-rows) × ComeBack to.now most-rows }
-    ensures { (result < most-copies) × (result ≡ copy_becomes to.now k) }
+    requires { (k < most_copies) × (length to.now ≡ most_rows) × ComeBack to.now most_rows }
+    ensures { (result < most_copies) × (result ≡ copy_becomes to.now k) }
 {
     if k == 0 {
         return 0;
@@ -207,7 +207,7 @@ fn copy_to(to: &[usize], k: usize) -> usize
 
 // Whether the copies of a stray row's made-up values stay.
 fn is_unmoved(to: &[usize], u: &[usize; 4]) -> bool
-    requires { (length to.now ≡ most-rows) × ComeBack to.now most-rows }
+    requires { (length to.now ≡ most_rows) × ComeBack to.now most_rows }
     ensures { result ≡ true → Unmoved to.now u.now 4 }
 {
     let mut c = 0;
@@ -231,7 +231,7 @@ fn is_unmoved(to: &[usize], u: &[usize; 4]) -> bool
 
 // The next slot from n on that the set has in the word of n, or the end of this word: none before it is in the set.
 fn next_slot(set: &[u64], n: usize) -> usize
-    requires { (n < slot-end) × (length set.now ≡ set_words) }
+    requires { (n < slot_end) × (length set.now ≡ set_words) }
     ensures { (n ≤ result) × SlotsPassed set.now n result }
 {
     let w = n / 64;
@@ -252,7 +252,7 @@ fn is_slot_turned(
     to: &[usize],
     n: usize,
 ) -> bool
-    requires { (n < slot-end) × (length ws.now ≡ slot-end) × Fours a.now b.now × (length to.now ≡ most-rows) × ComeBack to.now most-rows }
+    requires { (n < slot_end) × (length ws.now ≡ slot_end) × Fours a.now b.now × (length to.now ≡ most_rows) × ComeBack to.now most_rows }
     ensures { result ≡ true → SlotTurned ws.now set.now a.now b.now to.now n }
 {
     let v = ws[n];
@@ -268,8 +268,8 @@ fn is_slot_turned(
 
 // Whether it is so with every slot of the set.
 fn are_slots_turned(ws: &[usize], set: &[u64], a: &[usize; 4], b: &[usize; 4], to: &[usize]) -> bool
-    requires { (length ws.now ≡ slot-end) × (length set.now ≡ set_words) × Fours a.now b.now × (length to.now ≡ most-rows) × ComeBack to.now most-rows }
-    ensures { result ≡ true → SlotsTurned ws.now set.now a.now b.now to.now slot-end }
+    requires { (length ws.now ≡ slot_end) × (length set.now ≡ set_words) × Fours a.now b.now × (length to.now ≡ most_rows) × ComeBack to.now most_rows }
+    ensures { result ≡ true → SlotsTurned ws.now set.now a.now b.now to.now slot_end }
 {
     let mut n = 0;
     while n < SLOTS {
@@ -296,7 +296,7 @@ fn is_sheet_turned(
     views: usize,
     to: &mut [usize],
 ) -> bool
-    requires { (rows ≤ most-rows) × (views ≤ most-views) × (length to.old ≡ most-rows) × Fours a.now b.now }
+    requires { (rows ≤ most_rows) × (views ≤ most_views) × (length to.old ≡ most_rows) × Fours a.now b.now }
     ensures { result ≡ true → SheetTurned p.now a.now b.now rows views to.new }
 {
     if !stays(p, a, b, (VIEW_BLOCKS + views) * BLOCK_NUMBERS) {

@@ -6,7 +6,7 @@ use Prim.Native.Nat.{ℕ, suc, ◌+◌, ◌*◌, ◌<◌}
 use native.Mathlib.Omega.{arith}
 use lib.ListN.{length, get_or, length-map}
 use Rattle.query_layout.specs.Layout.{names}
-use Rattle.tableau_layout.specs.Layout.{view-block}
+use Rattle.tableau_layout.specs.Layout.{view_block}
 use Rattle.query_meaning.specs.Meaning.{con, In, row}
 use Rattle.query_meaning.specs.Blocks.{View, nth}
 use Rattle.query_join.specs.Joins.{head_row}
@@ -96,7 +96,7 @@ module _ (p : List ℕ) (x : Sheet) (r : ReadyPlan p x) where
     head-long s = length-map view.block.head _ ∙ sym (r.accepted.lengths view view_in (r.plan.rows i lt).row (r.plan.rows i lt).listed)
 
     -- the head in numbers
-    pub head-numbers : (s : State) (k b : ℕ) → k ≡ suc i → b ≡ view-block (row_at p i 0) → head_row (λ z. s (k * names + z)) (block_numbers p b) ≡ padded (head s)
+    pub head-numbers : (s : State) (k b : ℕ) → k ≡ suc i → b ≡ view_block (row_at p i 0) → head_row (λ z. s (k * names + z)) (block_numbers p b) ≡ padded (head s)
     unfolding width
     head-numbers s k b e f =
         let v = (r.plan.rows i lt).view in

@@ -7,7 +7,7 @@ use native.Mathlib.Nat.{min-eq_left}
 use native.Mathlib.Omega.{arith}
 use lib.IntN.{pos}
 use lib.ListN.{length, drop, length-map}
-use Rattle.tableau_layout.specs.Layout.{list-block, view-block, table_at}
+use Rattle.tableau_layout.specs.Layout.{list_block, view_block, table_at}
 use Rattle.sheet_format.specs.Table.{columns_of}
 use Rattle.sheet_format.proofs.TableLaws.{Narrow}
 use Rattle.sheet_format.proofs.Lists.{append-nil}
@@ -53,10 +53,10 @@ in-nth (u ∷ ws) w (inr m) = let (v, lt, e) = in-nth ws w m in (suc v, omega ar
 -- any log in numbers
 module _ (p : List ℕ) (x y : Sheet) (plan : Plan p x) (task : Task p x y) (log : Log) (ns : List ℕ) (fn : FactNumbers ns log) where
   -- a view's answer in numbers
-  view-given : (v : ℕ) → v < view_count p → (r : List ℕ) → Answer log (nth x.views v).block r → GivenAt p (view-block v) ns (padded r)
+  view-given : (v : ℕ) → v < view_count p → (r : List ℕ) → Answer log (nth x.views v).block r → GivenAt p (view_block v) ns (padded r)
   view-given v lt r a =
       let bn = plan.view v lt in
-      subst (λ n. Given (block_numbers p (view-block v)) n ns (padded r)) (sym (min-eq_left bn.few)) (answer-given bn (task.shaped v lt) fn a)
+      subst (λ n. Given (block_numbers p (view_block v)) n ns (padded r)) (sym (min-eq_left bn.few)) (answer-given bn (task.shaped v lt) fn a)
 
   -- a row that is listed in the plan is listed in the sheet
   listed-row : (v : ℕ) → v < view_count p → (r : List ℕ) → length r ≡ length (nth x.views v).block.head → ListedRow p v (padded r) → In r (nth x.views v).rows
@@ -93,29 +93,29 @@ module _ (p : List ℕ) (x y : Sheet) (plan : Plan p x) (task : Task p x y) (s :
       let bn = plan.view v lt in
       let sh = task.shaped v lt in
       let w = nth x.views v in
-      let g = subst (λ n. Given (block_numbers p (view-block v)) n ns u) (min-eq_left bn.few) st.given in
+      let g = subst (λ n. Given (block_numbers p (view_block v)) n ns u) (min-eq_left bn.few) st.given in
       let holds = holds_by bn sh fn shaped-log g.val g.met in
       let e : u ≡ padded (row g.val w.block.head) = sym g.gives ∙ head-row bn sh g.val in
       let m = subst (λ ws. In w ws) (sym task.same) (nth_in x.views v (omega arith)) in
       step (view-gives y task.accepted s w m g.val holds) (λ alt i.
       let none : lines g.val w.block ≡ [] = ap (map _) sh.plain in
       let (r, j, q) = from-map (equations (row g.val w.block.head)) w.rows alt (subst (λ l. In alt l) (ap (λ l. map (equations (row g.val w.block.head)) w.rows ++ l) none ∙ append-nil (map (equations (row g.val w.block.head)) w.rows)) i) in
-      let (k, lk, a, b) = plan.every-row v lt r j in
+      let (k, lk, a, b) = plan.every_row v lt r j in
       let len : length (row g.val w.block.head) ≡ length r = length-map w.block.head _ ∙ sym (task.accepted.lengths w m r j) in
       subst (λ t. RefutedBy top y s t) (sym q) (refuted-padded top y s (row g.val w.block.head) r len
       (subst (λ t. RefutedBy top y s (equations (padded (row g.val w.block.head)) t)) b (subst (λ t. RefutedBy top y s (equations t (row_values p k))) e (each k lk a)))))
 
   -- a list gives the question's head: nothing below is good
-  pub list-refuted : (i : ℕ) (l : Block) → In l y.lists → Shaped y.table l → BlockNumbers (block_numbers p (list-block i)) (block_size p (list-block i)) l → GivenAt p (list-block i) ns (padded (head_of y s)) → length l.head ≡ length (head_of y s) → Refuted top y s
+  pub list-refuted : (i : ℕ) (l : Block) → In l y.lists → Shaped y.table l → BlockNumbers (block_numbers p (list_block i)) (block_size p (list_block i)) l → GivenAt p (list_block i) ns (padded (head_of y s)) → length l.head ≡ length (head_of y s) → Refuted top y s
   list-refuted i l m sh bn g len =
-      let h = subst (λ n. Given (block_numbers p (list-block i)) n ns (padded (head_of y s))) (min-eq_left bn.few) g in
+      let h = subst (λ n. Given (block_numbers p (list_block i)) n ns (padded (head_of y s))) (min-eq_left bn.few) g in
       let holds = holds_by bn sh fn shaped-log h.val h.met in
       let e : row h.val l.head ≡ head_of y s = pad_same (row h.val l.head) (head_of y s) (length-map l.head _ ∙ len) (sym (head-row bn sh h.val) ∙ h.gives) in
       none_left (subst (λ a. Alternatives top y s a) (ap (map _) sh.plain) (list-gives y task.accepted s l m h.val holds e))
 
   -- a list lacks it
-  pub list_lacks : (i : ℕ) (l : Block) → Shaped y.table l → BlockNumbers (block_numbers p (list-block i)) (block_size p (list-block i)) l → (GivenAt p (list-block i) ns (padded (head_of y s)) → ⊥) → Answer (tableau_log y s) l (head_of y s) → ⊥
-  list_lacks i l sh bn none a = none (subst (λ n. Given (block_numbers p (list-block i)) n ns (padded (head_of y s))) (sym (min-eq_left bn.few)) (answer-given bn sh fn a))
+  pub list_lacks : (i : ℕ) (l : Block) → Shaped y.table l → BlockNumbers (block_numbers p (list_block i)) (block_size p (list_block i)) l → (GivenAt p (list_block i) ns (padded (head_of y s)) → ⊥) → Answer (tableau_log y s) l (head_of y s) → ⊥
+  list_lacks i l sh bn none a = none (subst (λ n. Given (block_numbers p (list_block i)) n ns (padded (head_of y s))) (sym (min-eq_left bn.few)) (answer-given bn sh fn a))
 
   -- the head of row i's copy, with what it must be
   pub head-refuted : (i : ℕ) → i < row_count p → (u : List ℕ) → u ≡ padded (row (copy s (suc i)) (nth x.views (row_at p i 0)).block.head) → RefutedBy top y s (equations u (row_values p i)) → Refuted top y s

@@ -7,8 +7,8 @@ use Prim.Native.Nat.{ℕ, ◌+◌, ◌-◌, ◌*◌, ◌/◌, ◌<◌, ◌≤◌
 use native.Mathlib.Omega.{arith}
 use lib.ListN.{length, length-map}
 use Rattle.query_layout.specs.Layout.{names}
-use Rattle.sheet_format.specs.Limits.{most-atoms}
-use Rattle.tableau_layout.specs.Layout.{tableau_atoms, list-block}
+use Rattle.sheet_format.specs.Limits.{most_atoms}
+use Rattle.tableau_layout.specs.Layout.{tableau_atoms, list_block}
 use Rattle.query_meaning.specs.Meaning.{Block, In, row, Answer}
 use Rattle.query_meaning.specs.Blocks.{nowhere}
 use Rattle.query_join.specs.Joins.{SafeBlock}
@@ -31,8 +31,8 @@ use Rattle.search_task.proofs.ReadyLaws.{ready_task, ready-facts}
 use Rattle.search_task.specs.declared.Goal.{Goal}
 use Rattle.search_task.specs.declared.Goal.TheVariants.{Counterexample, Agreement}
 
-safe_at : {blk : List ℕ} {n : ℕ} {b : Block} → BlockNumbers blk n b → SafeBlock blk n → SafeBlock blk (min n most-atoms)
-safe_at {blk} {n} bn s = subst (λ m. SafeBlock blk m) (let f = bn.few in let e : n ≡ min n most-atoms = omega arith in e) s
+safe_at : {blk : List ℕ} {n : ℕ} {b : Block} → BlockNumbers blk n b → SafeBlock blk n → SafeBlock blk (min n most_atoms)
+safe_at {blk} {n} bn s = subst (λ m. SafeBlock blk m) (let f = bn.few in let e : n ≡ min n most_atoms = omega arith in e) s
 
 -- a copy's valuation, with the width in digits
 copy_at : (s : State) (k : ℕ) → (λ (z : ℕ). s (k * names + z)) ≡ copy s k
@@ -69,17 +69,17 @@ module _ (p : List ℕ) (x : Sheet) (r : ReadyPlan p x) where
   list-shaped i lt = (r.lists (saved_list_at x i) (list_in i lt)).0
 
   safe : SafePlan p
-  safe b (inl e) = subst (λ c. SafeBlock (block_numbers p c) (min (block_size p c) most-atoms)) (sym e) (safe_at r.plan.question (safe-block r.plan.question r.question))
-  safe b (inr (inl (i, lt, e))) = subst (λ c. SafeBlock (block_numbers p c) (min (block_size p c) most-atoms)) (sym e) (safe_at (r.plan.list i lt) (safe-block (r.plan.list i lt) (list-shaped i lt)))
-  safe b (inr (inr (v, lt, e))) = subst (λ c. SafeBlock (block_numbers p c) (min (block_size p c) most-atoms)) (sym e) (safe_at (r.plan.view v lt) (safe-block (r.plan.view v lt) (r.views v lt)))
+  safe b (inl e) = subst (λ c. SafeBlock (block_numbers p c) (min (block_size p c) most_atoms)) (sym e) (safe_at r.plan.question (safe-block r.plan.question r.question))
+  safe b (inr (inl (i, lt, e))) = subst (λ c. SafeBlock (block_numbers p c) (min (block_size p c) most_atoms)) (sym e) (safe_at (r.plan.list i lt) (safe-block (r.plan.list i lt) (list-shaped i lt)))
+  safe b (inr (inr (v, lt, e))) = subst (λ c. SafeBlock (block_numbers p c) (min (block_size p c) most_atoms)) (sym e) (safe_at (r.plan.view v lt) (safe-block (r.plan.view v lt) (r.views v lt)))
 
   pub ready-views : walks.FormedPlan p
   ready-views = record {
     size = r.plan.size;
     rows_few = r.plan.rows_few;
-    lists-few = r.plan.lists-few;
-    views-few = r.plan.views-few;
-    row-views = λ i lt. (r.plan.rows i lt).view;
+    lists_few = r.plan.lists_few;
+    views_few = r.plan.views_few;
+    row_views = λ i lt. (r.plan.rows i lt).view;
     safe = safe;
   }
 
@@ -93,7 +93,7 @@ module _ (p : List ℕ) (x : Sheet) (r : ReadyPlan p x) where
   -- a list is given the head: nothing below is good
   pub shut : (s : State) (ns : List ℕ) → FactNumbers ns (tableau_log x s) → GivenToList p ns (asked_row p s) → Refuted top x s
   shut s ns fn (i, lt, g) =
-      list-refuted p x x r.plan (ready_task p x r Counterexample) s ns fn i (saved_list_at x i) (list_in i lt) (list-shaped i lt) (r.plan.list i lt) (subst (GivenAt p (list-block i) ns) (asked-head s) g)
+      list-refuted p x x r.plan (ready_task p x r Counterexample) s ns fn i (saved_list_at x i) (list_in i lt) (list-shaped i lt) (r.plan.list i lt) (subst (GivenAt p (list_block i) ns) (asked-head s) g)
       ((r.lists (saved_list_at x i) (list_in i lt)).1 ∙ sym (head-length s))
 
   -- none is, keys hold, and there is no stray row: good, once the copies' heads are settled
@@ -104,7 +104,7 @@ module _ (p : List ℕ) (x : Sheet) (r : ReadyPlan p x) where
       (λ l m.
       let (i, lt, e) = list_index l m in
       subst (λ b. Answer (tableau_log x s) b (head_of x s) → ⊥) e
-      (list_lacks p x x r.plan (ready_task p x r Counterexample) s ns fn i (saved_list_at x i) (list-shaped i lt) (r.plan.list i lt) (λ g. lacks refl (i, lt, subst (GivenAt p (list-block i) ns) (sym (asked-head s)) g))))
+      (list_lacks p x x r.plan (ready_task p x r Counterexample) s ns fn i (saved_list_at x i) (list-shaped i lt) (r.plan.list i lt) (λ g. lacks refl (i, lt, subst (GivenAt p (list_block i) ns) (sym (asked-head s)) g))))
   closed Agreement s ns fn lacks keys clean st = good-state p x (bare x) r.plan (ready_task p x r Agreement) s ns fn st keys clean (λ k m. absurd m)
 
   pub from-few : (goal : Goal) → from_by goal p ≤ tableau_size p

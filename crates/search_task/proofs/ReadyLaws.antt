@@ -5,7 +5,7 @@ use mathlib.Core.Logic.{inl, inr}
 use Prim.Native.Nat.{ℕ, zero, suc, ◌-◌, ◌<◌, ◌≤◌}
 use native.Mathlib.Omega.{arith}
 use lib.ListN.{length, get_or, replicate}
-use Rattle.tableau_layout.specs.Layout.{most-copies}
+use Rattle.tableau_layout.specs.Layout.{most_copies}
 use Rattle.query_meaning.specs.Meaning.{con, In}
 use Rattle.query_meaning.specs.Blocks.{nth}
 use Rattle.query_encoding.specs.Encoding.{FactNumbers, padded}
@@ -78,7 +78,7 @@ module _ (p : List ℕ) (x : Sheet) (r : ReadyPlan p x) where
   jobs-count Counterexample = r.plan.copies
   jobs-count Agreement = r.plan.copies
 
-  pub jobs-few : (goal : Goal) → length (jobs (sheet_by goal x)) ≤ most-copies
+  pub jobs-few : (goal : Goal) → length (jobs (sheet_by goal x)) ≤ most_copies
   jobs-few goal = let c = jobs-count goal in let f = r.plan.rows_few in omega arith
 
   -- listed rows are made of constants

@@ -1,7 +1,7 @@
 -- What is searched for, and what a plan of an accepted sheet says of it. No promise to a caller rests on these.
 use Rattle.std.specs.Prelude.{◌≡◌, Bool, true, false, List, ℕ, ◌+◌, ◌-◌, ◌*◌, ◌<◌, length}
 use Rattle.query_layout.specs.Layout.{names}
-use Rattle.tableau_layout.specs.Layout.{question-block}
+use Rattle.tableau_layout.specs.Layout.{question_block}
 use Rattle.query_meaning.specs.Meaning.{Block, In}
 use Rattle.query_meaning.specs.Blocks.{nth}
 use Rattle.query_encoding.specs.Encoding.{Shaped}
@@ -46,4 +46,4 @@ HeadsSettled y s = (c : Copy) → In c (numbered (jobs y)) → Meets (copy s c.n
 
 -- the question's head
 abbrev pub asked_row : List ℕ → State → List ℕ
-asked_row p s = head_row (λ z. s (0 * names + z)) (block_numbers p question-block)
+asked_row p s = head_row (λ z. s (0 * names + z)) (block_numbers p question_block)

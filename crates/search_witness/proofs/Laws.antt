@@ -9,9 +9,9 @@ use borrow.Author.Count.{below_more}
 use borrow.Author.Tests.{lt-ltb, le-ltb}
 use lib.ListN.{length, get_or}
 use Rattle.list_laws.proofs.Order.{less?}
-use Rattle.sheet_format.specs.Limits.{most-atoms}
-use Rattle.query_layout.specs.Layout.{block-head, block-width, names}
-use Rattle.tableau_layout.specs.Layout.{blocks_at, question-block, slot-end}
+use Rattle.sheet_format.specs.Limits.{most_atoms}
+use Rattle.query_layout.specs.Layout.{block_head, block_width, names}
+use Rattle.tableau_layout.specs.Layout.{blocks_at, question_block, slot_end}
 use Rattle.query_meaning.specs.Meaning.{In}
 use Rattle.query_join.specs.Joins.{value_of, head_row}
 use Rattle.case_verdicts.specs.Sheets.{top}
@@ -35,7 +35,7 @@ pub place-variable : (first : List ℕ) (a : ℕ) → a < names → witness_plac
 unfolding witness_place
 place-variable first a h = rw (lt-ltb a names h)
 
-pub place-constant : (first : List ℕ) (a : ℕ) → names ≤ a → witness_place first a ≡ slot-end + (a - names)
+pub place-constant : (first : List ℕ) (a : ℕ) → names ≤ a → witness_place first a ≡ slot_end + (a - names)
 unfolding witness_place
 place-constant first a h = rw (le-ltb a names h)
 
@@ -45,24 +45,24 @@ unfolding value_of
 term-value first t a = ⊎_elim
     (λ h. ap (slot_value t) (place-variable first a h) ∙ sym (ap (λ b. cond b (read_at first t a) (a - names)) (lt-ltb a names h)))
     (λ h.
-    ap (slot_value t) (place-constant first a h) ∙ constant-value t (slot-end + (a - names)) (omega arith)
-    ∙ (let e : slot-end + (a - names) - slot-end ≡ a - names = omega arith in e) ∙ sym (ap (λ b. cond b (read_at first t a) (a - names)) (le-ltb a names h)))
+    ap (slot_value t) (place-constant first a h) ∙ constant-value t (slot_end + (a - names)) (omega arith)
+    ∙ (let e : slot_end + (a - names) - slot_end ≡ a - names = omega arith in e) ∙ sym (ap (λ b. cond b (read_at first t a) (a - names)) (le-ltb a names h)))
     (less? a names)
 
 -- ---- one atom
 
 -- z is the place of the term in column c of atom j of block b
-module _ (p ws first : List ℕ) (b j i c z : ℕ) (old set : List ℕ) (hj : j < most-atoms) (hc : c < 4)
-    (place : z ≡ witness_place first (get_or p (blocks_at + b * block-width + j * 5 + 1 + c) 0)) where
+module _ (p ws first : List ℕ) (b j i c z : ℕ) (old set : List ℕ) (hj : j < most_atoms) (hc : c < 4)
+    (place : z ≡ witness_place first (get_or p (blocks_at + b * block_width + j * 5 + 1 + c) 0)) where
   pub column_agreed : (r : Bool) → r ≡ true → AgreesBy r ws (get_or p (i * 5 + 1 + c) 0) z old set → ColumnRead p ws first b j i c old set
   column_agreed false e m = absurd (true≢false (sym e))
   column_agreed true e m = record {
     more = m.more;
     column = λ t o.
         ap (λ k. slot_value t (get_or p k 0)) (let q : i * 5 + (1 + c) ≡ i * 5 + 1 + c = omega arith in q) ∙ m.same t o ∙ ap (slot_value t) place
-        ∙ term-value first t (get_or p (blocks_at + b * block-width + j * 5 + 1 + c) 0)
+        ∙ term-value first t (get_or p (blocks_at + b * block_width + j * 5 + 1 + c) 0)
         ∙ ap (value_of (read_at first t)) (sym (block_at p b (j * 5 + 1 + c) (omega arith)
-        ∙ ap (λ k. get_or p k 0) (let q : blocks_at + b * block-width + (j * 5 + 1 + c) ≡ blocks_at + b * block-width + j * 5 + 1 + c = omega arith in q)));
+        ∙ ap (λ k. get_or p k 0) (let q : blocks_at + b * block_width + (j * 5 + 1 + c) ≡ blocks_at + b * block_width + j * 5 + 1 + c = omega arith in q)));
   }
 
 -- the first n columns of atom i of the tableau have the values of those of atom j of block b
@@ -81,7 +81,7 @@ module _ (p ws first : List ℕ) (b j i : ℕ) where
         (λ c h t o. a.columns c h t (obeys-less t ws set next r.more o)) r.column;
   }
 
-  pub columns-all : (n : ℕ) {old set : List ℕ} → j < most-atoms → 4 ≤ n → get_or p (i * 5) 0 ≡ get_or p (blocks_at + b * block-width + j * 5) 0
+  pub columns-all : (n : ℕ) {old set : List ℕ} → j < most_atoms → 4 ≤ n → get_or p (i * 5) 0 ≡ get_or p (blocks_at + b * block_width + j * 5) 0
       → ColumnsRead p ws first b j i n old set → AtomRead p ws first b j i old set
   columns-all n hj h e a = record {
     more = a.more;
@@ -108,16 +108,16 @@ module _ (p ws first : List ℕ) (from b : ℕ) (at : List ℕ) where
 -- ---- the head
 
 module _ (p ws first : List ℕ) (b : ℕ) where
-  pub head-marked : (c : ℕ) {old set : List ℕ} → c < 4 → Place (witness_place first (get_or p (blocks_at + b * block-width + block-head + c) 0))
-      → WayMarked ws (witness_place first (get_or p (blocks_at + b * block-width + block-head + c) 0)) old set
-      → HeadRead p ws first b c old set (place_root top ws (witness_place first (get_or p (blocks_at + b * block-width + block-head + c) 0)))
+  pub head-marked : (c : ℕ) {old set : List ℕ} → c < 4 → Place (witness_place first (get_or p (blocks_at + b * block_width + block_head + c) 0))
+      → WayMarked ws (witness_place first (get_or p (blocks_at + b * block_width + block_head + c) 0)) old set
+      → HeadRead p ws first b c old set (place_root top ws (witness_place first (get_or p (blocks_at + b * block_width + block_head + c) 0)))
   head-marked c hc here m = record {
     more = m.more;
     value = λ t o.
-        ap (value_of (read_at first t)) (block_at p b (block-head + c) (omega arith)
-        ∙ ap (λ k. get_or p k 0) (let e : blocks_at + b * block-width + (block-head + c) ≡ blocks_at + b * block-width + block-head + c = omega arith in e))
-        ∙ sym (term-value first t (get_or p (blocks_at + b * block-width + block-head + c) 0)) ∙ m.way t o;
-    root = λ linked whole. place-root top ws linked whole (witness_place first (get_or p (blocks_at + b * block-width + block-head + c) 0)) (λ h. omega arith);
+        ap (value_of (read_at first t)) (block_at p b (block_head + c) (omega arith)
+        ∙ ap (λ k. get_or p k 0) (let e : blocks_at + b * block_width + (block_head + c) ≡ blocks_at + b * block_width + block_head + c = omega arith in e))
+        ∙ sym (term-value first t (get_or p (blocks_at + b * block_width + block_head + c) 0)) ∙ m.way t o;
+    root = λ linked whole. place-root top ws linked whole (witness_place first (get_or p (blocks_at + b * block_width + block_head + c) 0)) (λ h. omega arith);
   }
 
   -- four columns, one after the other
@@ -136,14 +136,14 @@ module _ (p ws first : List ℕ) (b : ℕ) where
       from1 : SetWithin s1 s4
       from1 k m = from2 k (f.more k m)
 
-      value : (c : ℕ) → c < 4 → (t : State) → Obeys t ws s4 → value_of (read_at first t) (get_or (block_numbers p b) (block-head + c) 0) ≡ value_under top t (get_or (u ∷ v ∷ w ∷ x ∷ []) c 0)
+      value : (c : ℕ) → c < 4 → (t : State) → Obeys t ws s4 → value_of (read_at first t) (get_or (block_numbers p b) (block_head + c) 0) ≡ value_under top t (get_or (u ∷ v ∷ w ∷ x ∷ []) c 0)
       value zero l t o = e.value t (obeys-less t ws s1 s4 from1 o)
       value (suc zero) l t o = f.value t (obeys-less t ws s2 s4 from2 o)
       value (suc (suc zero)) l t o = g.value t (obeys-less t ws s3 s4 h.more o)
       value (suc (suc (suc zero))) l t o = h.value t o
       value (suc (suc (suc (suc c)))) l t o = absurd (omega arith)
 
-      root : Linked top ws → length ws ≡ slot-end → (c : ℕ) → c < 4 → RootValue top ws (get_or (u ∷ v ∷ w ∷ x ∷ []) c 0)
+      root : Linked top ws → length ws ≡ slot_end → (c : ℕ) → c < 4 → RootValue top ws (get_or (u ∷ v ∷ w ∷ x ∷ []) c 0)
       root linked whole zero l = e.root linked whole
       root linked whole (suc zero) l = f.root linked whole
       root linked whole (suc (suc zero)) l = g.root linked whole
@@ -161,7 +161,7 @@ four (u ∷ v ∷ w ∷ []) e = absurd (omega arith)
 four (u ∷ v ∷ w ∷ x ∷ y ∷ l) e = absurd (omega arith)
 
 module _ (p ws first : List ℕ) (from b : ℕ) (at : List ℕ) (n : ℕ) {row old mid set : List ℕ} (a : AtomsRead p ws first from b at n old mid) (r : RowRead p ws first b row mid set) where
-  pub row-shown : n ≡ min (block_size p b) most-atoms → RowShown p ws from b row old set
+  pub row-shown : n ≡ min (block_size p b) most_atoms → RowShown p ws from b row old set
   row-shown count = record { more = λ k e. r.more k (a.more k e); size = r.size; given = given; roots = roots }
     where
       given : (t : State) → Obeys t ws set → GivenAt p b (tableau_facts p t from (tableau_size p - from)) (map (value_under top t) row)
@@ -187,10 +187,10 @@ module _ (p ws first : List ℕ) (from b : ℕ) (at : List ℕ) (n : ℕ) {row o
         gives = (λ i. heads 0 (omega arith) i ∷ heads 1 (omega arith) i ∷ heads 2 (omega arith) i ∷ heads 3 (omega arith) i ∷ []) ∙ ap (map (value_under top t)) (sym (four row r.size));
       }
         where
-          heads : (c : ℕ) → c < 4 → value_of (read_at first t) (get_or (block_numbers p b) (block-head + c) 0) ≡ value_under top t (get_or row c 0)
+          heads : (c : ℕ) → c < 4 → value_of (read_at first t) (get_or (block_numbers p b) (block_head + c) 0) ≡ value_under top t (get_or row c 0)
           heads c h = r.value c h t o
 
-      roots : Linked top ws → length ws ≡ slot-end → RootValues top ws row
+      roots : Linked top ws → length ws ≡ slot_end → RootValues top ws row
       roots linked whole v m = go (subst (λ (l : List ℕ). In v l) (four row r.size) m)
         where
           go : In v (get_or row 0 0 ∷ get_or row 1 0 ∷ get_or row 2 0 ∷ get_or row 3 0 ∷ []) → RootValue top ws v
@@ -210,11 +210,11 @@ own_read first t own a = ⊎_elim
     (λ h. rw (le-ltb a names h) refl)
     (less? a names)
 
-pub asked-shown : (p ws first : List ℕ) {row old set : List ℕ} → ((x : ℕ) → x < names → get_or first x 0 ≡ x) → RowRead p ws first question-block row old set → AskedShown p ws row old set
+pub asked-shown : (p ws first : List ℕ) {row old set : List ℕ} → ((x : ℕ) → x < names → get_or first x 0 ≡ x) → RowRead p ws first question_block row old set → AskedShown p ws row old set
 asked-shown p ws first {row} {old} {set} own r = record { more = r.more; size = r.size; row_is = row_is }
   where
-    row_is : (t : State) → Obeys t ws set → head_row (λ z. t (0 * names + z)) (block_numbers p question-block) ≡ map (value_under top t) row
+    row_is : (t : State) → Obeys t ws set → head_row (λ z. t (0 * names + z)) (block_numbers p question_block) ≡ map (value_under top t) row
     row_is t o = (λ i. heads 0 (omega arith) i ∷ heads 1 (omega arith) i ∷ heads 2 (omega arith) i ∷ heads 3 (omega arith) i ∷ []) ∙ ap (map (value_under top t)) (sym (four row r.size))
       where
-        heads : (c : ℕ) → c < 4 → value_of (λ z. t (0 * names + z)) (get_or (block_numbers p question-block) (block-head + c) 0) ≡ value_under top t (get_or row c 0)
-        heads c h = sym (own_read first t own (get_or (block_numbers p question-block) (block-head + c) 0)) ∙ r.value c h t o
+        heads : (c : ℕ) → c < 4 → value_of (λ z. t (0 * names + z)) (get_or (block_numbers p question_block) (block_head + c) 0) ≡ value_under top t (get_or row c 0)
+        heads c h = sym (own_read first t own (get_or (block_numbers p question_block) (block_head + c) 0)) ∙ r.value c h t o

@@ -4,8 +4,8 @@
 
 ghost use Rattle.std.specs.Prelude.{◌≡◌, true, ℕ, ◌+◌, ◌<◌, ◌≤◌, length, get_or};
 ghost use Rattle.query_layout.specs.Layout.{names};
-ghost use Rattle.sheet_format.specs.Limits.{most-atoms};
-ghost use Rattle.tableau_layout.specs.Layout.{most-blocks, tableau_atoms};
+ghost use Rattle.sheet_format.specs.Limits.{most_atoms};
+ghost use Rattle.tableau_layout.specs.Layout.{most_blocks, tableau_atoms};
 ghost use Rattle.case_verdicts.specs.Sheets.{top};
 ghost use Rattle.search_witness.specs.Witness.{witness_place, ColumnRead, AtomRead, AtomsRead, HeadRead, RowRead, RowShown, AskedShown};
 
@@ -39,7 +39,7 @@ fn first_places(
     n: usize,
     at: &[usize; MOST_ATOMS],
 ) -> [usize; NAMES]
-    requires { (b < most-blocks) × (n ≤ most-atoms) }
+    requires { (b < most_blocks) × (n ≤ most_atoms) }
 {
     let mut first = [NOWHERE; NAMES];
     let mut k = n * FACT_NUMBERS;
@@ -80,7 +80,7 @@ fn reads_column(
     c: usize,
     set: &mut [u64],
 ) -> bool
-    requires { (b < most-blocks) × (j < most-atoms) × (i < tableau_atoms) × (c < 4) }
+    requires { (b < most_blocks) × (j < most_atoms) × (i < tableau_atoms) × (c < 4) }
     ensures column_read { result ≡ true → ColumnRead p.now ws.now first.now b j i c set.old set.new }
     ensures set_len_unchanged { length set.new ≡ length set.old }
 {
@@ -109,7 +109,7 @@ fn reads_atom(
     i: usize,
     set: &mut [u64],
 ) -> bool
-    requires { (b < most-blocks) × (j < most-atoms) × (i < tableau_atoms) }
+    requires { (b < most_blocks) × (j < most_atoms) × (i < tableau_atoms) }
     ensures atom_read { result ≡ true → AtomRead p.now ws.now first.now b j i set.old set.new }
     ensures set_len_unchanged { length set.new ≡ length set.old }
 {
@@ -137,7 +137,7 @@ fn reads_atoms(
     n: usize,
     set: &mut [u64],
 ) -> bool
-    requires { (b < most-blocks) × (n ≤ most-atoms) }
+    requires { (b < most_blocks) × (n ≤ most_atoms) }
     ensures atoms_read { result ≡ true → AtomsRead p.now ws.now first.now from b at.now n set.old set.new }
     ensures set_len_unchanged { length set.new ≡ length set.old }
 {
@@ -171,7 +171,7 @@ fn reads_head(
     c: usize,
     set: &mut [u64],
 ) -> HeadValue
-    requires { (b < most-blocks) × (c < 4) }
+    requires { (b < most_blocks) × (c < 4) }
     ensures head_read { result.ok ≡ true → HeadRead p.now ws.now first.now b c set.old set.new result.value }
     ensures set_len_unchanged { length set.new ≡ length set.old }
 {
@@ -202,7 +202,7 @@ fn reads_row(
     b: usize,
     set: &mut [u64],
 ) -> ShownRow
-    requires { b < most-blocks }
+    requires { b < most_blocks }
     ensures row_read { result.ok ≡ true → RowRead p.now ws.now first.now b result.row set.old set.new }
     ensures set_len_unchanged { length set.new ≡ length set.old }
 {

@@ -2,7 +2,7 @@
 #![tactic(auto)]
 
 ghost use Rattle.std.specs.Prelude.{◌≡◌, false, not, [], ◌+◌, ◌/◌, ◌≤◌, ◌<◌, length, get_or, drop};
-ghost use Rattle.sheet_format.specs.Limits.{line-words};
+ghost use Rattle.sheet_format.specs.Limits.{line_word_count};
 ghost use Rattle.sheet_format.specs.Line.{all, null, word_line, word_lines};
 ghost use Rattle.sheet_format.specs.Table.{table_in};
 ghost use Rattle.sheet_format.specs.Cause.{kind, rest, terms, is_head, is_atom, atoms, occurs, bound, unsafe, heads, start, scan, refusal_of};
@@ -12,7 +12,7 @@ use sheet_format::{LINE_WORDS, LineStep, MISPLACED, Refusal, SAVED_KIND, Seen, U
 
 // The words of line i, counted from 0.
 fn line_at(ws: &[i32], i: usize) -> [i32; LINE_WORDS]
-    requires { i < length ws.now / line-words }
+    requires { i < length ws.now / line_word_count }
     ensures { word_line result ≡ get_or (word_lines ws.now) i [] }
 {
     let at = LINE_WORDS * i;
@@ -109,7 +109,7 @@ fn is_bound(ws: &[i32], i: usize, z: i32) -> bool
 // Whether the atoms after line i bind each of its terms.
 fn all_bound(ws: &[i32], i: usize) -> bool
     requires formed_lines { FormedLines (word_lines ws.now) }
-    requires i_in_bounds { i < length ws.now / line-words }
+    requires i_in_bounds { i < length ws.now / line_word_count }
     ensures { result ≡ all (bound (atoms (drop (i + 1) (word_lines ws.now)))) (rest (get_or (word_lines ws.now) i [])) }
 {
     let l = line_at(ws, i);
@@ -127,7 +127,7 @@ fn all_bound(ws: &[i32], i: usize) -> bool
 // Whether line i is a head without atoms, or with a variable that none of them has.
 fn is_unsafe(ws: &[i32], i: usize) -> bool
     requires formed_lines { FormedLines (word_lines ws.now) }
-    requires i_in_bounds { i < length ws.now / line-words }
+    requires i_in_bounds { i < length ws.now / line_word_count }
     ensures { result ≡ unsafe (get_or (word_lines ws.now) i []) (atoms (drop (i + 1) (word_lines ws.now))) }
 {
     let l = line_at(ws, i);

@@ -10,7 +10,7 @@ use lib.IntN.{ℤ, pos, negsuc}
 use lib.ListN.{length, replicate, length-append, length-replicate}
 use lib.Seq.{append_snoc}
 use borrow.Author.Tests.{ltb-true, ltb-false, lt-ltb, le-ltb, eqb-true, eqb-false, ne_eqb}
-use Rattle.sheet_format.specs.Limits.{field_end, field-minus-end}
+use Rattle.sheet_format.specs.Limits.{field_end, field_minus_end}
 use Rattle.sheet_format.specs.Field.{digit, byte, run, told, field_of, lead, decimal, field_bytes, fits}
 use Rattle.sheet_format.specs.Line.{all}
 use Rattle.sheet_format.specs.declared.Digits.{Digits}
@@ -121,7 +121,7 @@ run-decimal (suc k) neg v h =
 pub field_back : (z : ℤ) → fits z ≡ true → field_of (field_bytes z) ≡ Number z
 unfolding Room
 field_back (pos n) e = ap told (run-decimal 8 false n (ltb-true n field_end e))
-field_back (negsuc n) e = ap told (run-decimal 8 true (suc n) (omega arith, ltb-true (suc n) field-minus-end e))
+field_back (negsuc n) e = ap told (run-decimal 8 true (suc n) (omega arith, ltb-true (suc n) field_minus_end e))
 
 -- ---- reading
 
@@ -201,7 +201,7 @@ told-shown Blank s z h e = none e
 told-shown Minus s z h e = none e
 told-shown (Run false v) s z h e = subst (λ x. (field_bytes x ≡ s) × (fits x ≡ true)) (same (pos v) z e) (sym h.0, lt-ltb v field_end h.1)
 told-shown (Run true zero) s z h e = absurd (omega arith)
-told-shown (Run true (suc n)) s z h e = subst (λ x. (field_bytes x ≡ s) × (fits x ≡ true)) (same (negsuc n) z e) (sym h.0, lt-ltb (suc n) field-minus-end h.1.1)
+told-shown (Run true (suc n)) s z h e = subst (λ x. (field_bytes x ≡ s) × (fits x ≡ true)) (same (negsuc n) z e) (sym h.0, lt-ltb (suc n) field_minus_end h.1.1)
 told-shown Broken s z h e = none e
 
 pub field-shown : (s : List ℕ) (z : ℤ) → length s ≡ 8 → field_of s ≡ Number z → field_bytes z ≡ s

@@ -6,13 +6,13 @@ use Prim.Native.Nat.{◌≤◌}
 use native.Mathlib.Omega.{arith}
 use borrow.Author.Tests.{not-true}
 use lib.ListN.{length}
-use Rattle.sheet_format.specs.Limits.{most-fields}
+use Rattle.sheet_format.specs.Limits.{most_fields}
 use Rattle.sheet_format.specs.Field.{fits}
 use Rattle.sheet_format.specs.Line.{Line, all, null}
 use Rattle.sheet_format.proofs.Lists.{and_left, and_right}
 
 pub record FittingLine (l : Line) : Type 0 where
-  pub few : length l ≤ most-fields
+  pub few : length l ≤ most_fields
   pub fitting : all fits l ≡ true
 
 abbrev pub Goods : List Line → Type 0

@@ -9,7 +9,7 @@ use lib.Dec.{eqb, leb}
 use lib.IntN.{ℤ, pos, negsuc}
 use lib.ListN.{length, take, drop, replicate, length-append, length-take, length-drop, length-map, take-append-drop, length-replicate}
 use lib.Seq.{take-append_seam, drop-append_seam, take_at, drop_at}
-use Rattle.sheet_format.specs.Limits.{field-bytes, most-fields, line-words}
+use Rattle.sheet_format.specs.Limits.{field_byte_count, most_fields, line_word_count}
 use Rattle.sheet_format.specs.Field.{field_of, field_bytes, fits}
 use Rattle.sheet_format.specs.Line.{Line, all, gather, null, closed_from, closed, open_from, eights, is_number, number, fields_in, is_well_formed, line_of, byte_lines, line_bytes, bytes_of, natural, is_zero, count, well_formed_words, word_line, sevens, word_lines, line_words, words_of}
 use Rattle.sheet_format.specs.declared.Field.{Field}
@@ -78,51 +78,51 @@ is-number Malformed e = no_way e
 
 pub eights-length : (k : ℕ) (s : List ℕ) → length (eights k s) ≡ k
 eights-length zero s = refl
-eights-length (suc k) s = ap suc (eights-length k (drop field-bytes s))
+eights-length (suc k) s = ap suc (eights-length k (drop field_byte_count s))
 
 fields-length : (k : ℕ) (s : List ℕ) → length (map number (map field_of (eights k s))) ≡ k
 fields-length k s = length-map (map field_of (eights k s)) number ∙ length-map (eights k s) field_of ∙ eights-length k s
 
-first-eight : (k : ℕ) (s : List ℕ) → suc k * 8 ≤ length s → length (take field-bytes s) ≡ 8
+first-eight : (k : ℕ) (s : List ℕ) → suc k * 8 ≤ length s → length (take field_byte_count s) ≡ 8
 first-eight k s le = simp length-take (omega arith)
 
 all_fit : (k : ℕ) (s : List ℕ) → k * 8 ≤ length s → all is_number (map field_of (eights k s)) ≡ true → all fits (map number (map field_of (eights k s))) ≡ true
 all_fit zero s le h = refl
 all_fit (suc k) s le h =
-    let f = field_of (take field-bytes s) in
-    let r = map field_of (eights k (drop field-bytes s)) in
+    let f = field_of (take field_byte_count s) in
+    let r = map field_of (eights k (drop field_byte_count s)) in
     and_both (fits (number f)) (all fits (map number r))
-    (field_fits (take field-bytes s) (number f) (first-eight k s le) (is-number f (and_left (is_number f) (all is_number r) h)))
-    (all_fit k (drop field-bytes s) (simp length-drop (omega arith)) (and_right (is_number f) (all is_number r) h))
+    (field_fits (take field_byte_count s) (number f) (first-eight k s le) (is-number f (and_left (is_number f) (all is_number r) h)))
+    (all_fit k (drop field_byte_count s) (simp length-drop (omega arith)) (and_right (is_number f) (all is_number r) h))
 
 all_shown : (k : ℕ) (s : List ℕ) → length s ≡ k * 8 → all is_number (map field_of (eights k s)) ≡ true → gather field_bytes (map number (map field_of (eights k s))) ≡ s
 all_shown zero [] e h = refl
 all_shown zero (b ∷ s) e h = absurd (omega arith)
 all_shown (suc k) s e h =
-    let f = field_of (take field-bytes s) in
-    let r = map field_of (eights k (drop field-bytes s)) in
-    ap (λ x. x ++ gather field_bytes (map number r)) (field-shown (take field-bytes s) (number f) (first-eight k s (omega arith)) (is-number f (and_left (is_number f) (all is_number r) h)))
-    ∙ ap (λ x. take field-bytes s ++ x) (all_shown k (drop field-bytes s) (simp length-drop (omega arith)) (and_right (is_number f) (all is_number r) h))
-    ∙ take-append-drop field-bytes s
+    let f = field_of (take field_byte_count s) in
+    let r = map field_of (eights k (drop field_byte_count s)) in
+    ap (λ x. x ++ gather field_bytes (map number r)) (field-shown (take field_byte_count s) (number f) (first-eight k s (omega arith)) (is-number f (and_left (is_number f) (all is_number r) h)))
+    ∙ ap (λ x. take field_byte_count s ++ x) (all_shown k (drop field_byte_count s) (simp length-drop (omega arith)) (and_right (is_number f) (all is_number r) h))
+    ∙ take-append-drop field_byte_count s
 
 -- what a well-formed line has
 pub record WellFormed (s : List ℕ) : Type 0 where
-  pub whole : length s ≡ length s / field-bytes * 8
-  pub some : 1 ≤ length s / field-bytes
-  pub few : length s / field-bytes ≤ most-fields
+  pub whole : length s ≡ length s / field_byte_count * 8
+  pub some : 1 ≤ length s / field_byte_count
+  pub few : length s / field_byte_count ≤ most_fields
   pub numbers : all is_number (fields_in s) ≡ true
 
 well_formed_parts : (s : List ℕ) → is_well_formed s ≡ true → WellFormed s
 well_formed_parts s e =
-    let n = length s / field-bytes in
-    let a = and_right (eqb (length s % field-bytes) 0) (leb 1 n && (leb n most-fields && all is_number (fields_in s))) e in
-    let b = and_right (leb 1 n) (leb n most-fields && all is_number (fields_in s)) a in
-    let m = eqb-true (length s % field-bytes) 0 (and_left (eqb (length s % field-bytes) 0) (leb 1 n && (leb n most-fields && all is_number (fields_in s))) e) in
+    let n = length s / field_byte_count in
+    let a = and_right (eqb (length s % field_byte_count) 0) (leb 1 n && (leb n most_fields && all is_number (fields_in s))) e in
+    let b = and_right (leb 1 n) (leb n most_fields && all is_number (fields_in s)) a in
+    let m = eqb-true (length s % field_byte_count) 0 (and_left (eqb (length s % field_byte_count) 0) (leb 1 n && (leb n most_fields && all is_number (fields_in s))) e) in
     record {
       whole = omega arith;
-      some = leb-true 1 n (and_left (leb 1 n) (leb n most-fields && all is_number (fields_in s)) a);
-      few = leb-true n most-fields (and_left (leb n most-fields) (all is_number (fields_in s)) b);
-      numbers = and_right (leb n most-fields) (all is_number (fields_in s)) b;
+      some = leb-true 1 n (and_left (leb 1 n) (leb n most_fields && all is_number (fields_in s)) a);
+      few = leb-true n most_fields (and_left (leb n most_fields) (all is_number (fields_in s)) b);
+      numbers = and_right (leb n most_fields) (all is_number (fields_in s)) b;
     }
 
 -- a line's fields are none where it is malformed
@@ -135,15 +135,15 @@ line-good s = go (is_well_formed s) refl
   where
     go : (t : Bool) → is_well_formed s ≡ t → FittingLine (line_of s)
     go false e = subst FittingLine (sym (line-by s false e)) nil_good
-    go true e = let w = well_formed_parts s e in let f = w.few in let l = fields-length (length s / field-bytes) s in
-        subst FittingLine (sym (line-by s true e)) (record { few = omega arith; fitting = all_fit (length s / field-bytes) s (let q = w.whole in omega arith) w.numbers })
+    go true e = let w = well_formed_parts s e in let f = w.few in let l = fields-length (length s / field_byte_count) s in
+        subst FittingLine (sym (line-by s true e)) (record { few = omega arith; fitting = all_fit (length s / field_byte_count) s (let q = w.whole in omega arith) w.numbers })
 
 pub line-shown : (s : List ℕ) → null (line_of s) ≡ false → gather field_bytes (line_of s) ≡ s
 line-shown s h = go (is_well_formed s) refl
   where
     go : (t : Bool) → is_well_formed s ≡ t → gather field_bytes (line_of s) ≡ s
     go false e = no_way (sym (ap null (sym (line-by s false e)) ∙ h))
-    go true e = let w = well_formed_parts s e in ap (gather field_bytes) (line-by s true e) ∙ all_shown (length s / field-bytes) s w.whole w.numbers
+    go true e = let w = well_formed_parts s e in ap (gather field_bytes) (line-by s true e) ∙ all_shown (length s / field_byte_count) s w.whole w.numbers
 
 -- ---- numbers that fit, as a line's bytes
 
@@ -179,9 +179,9 @@ line-back (z ∷ l) g h =
     let s = gather field_bytes (z ∷ l) in
     let n = bytes-length (z ∷ l) in
     let f = g.few in
-    let k : length s / field-bytes ≡ length (z ∷ l) = omega arith in
+    let k : length s / field_byte_count ≡ length (z ∷ l) = omega arith in
     let w : fields_in s ≡ map Number (z ∷ l) = ap (λ i. map field_of (eights i s)) k ∙ fields_back (z ∷ l) g.fitting in
-    let t : is_well_formed s ≡ true = rw (eq-eqb (length s % field-bytes) 0 (omega arith), le-leb 1 (length s / field-bytes) (omega arith), le-leb (length s / field-bytes) most-fields (omega arith), w) (all-number l) in
+    let t : is_well_formed s ≡ true = rw (eq-eqb (length s % field_byte_count) 0 (omega arith), le-leb 1 (length s / field_byte_count) (omega arith), le-leb (length s / field_byte_count) most_fields (omega arith), w) (all-number l) in
     ap (λ b. cond b (map number (fields_in s)) []) t ∙ ap (map number) w ∙ numbers-same (z ∷ l)
 
 -- ---- lines of words
@@ -203,21 +203,21 @@ word_back [] g = refl
 word_back (z ∷ l) g =
     let n = length (z ∷ l) in
     let f = g.few in
-    let r = replicate (most-fields - n) (pos 0) in
+    let r = replicate (most_fields - n) (pos 0) in
     let t : take n ((z ∷ l) ++ r) ≡ z ∷ l = take-append_seam (z ∷ l) r in
     let d : drop n ((z ∷ l) ++ r) ≡ r = drop-append_seam (z ∷ l) r in
     let ft : all fits (take n ((z ∷ l) ++ r)) ≡ true = ap (all fits) t ∙ g.fitting in
-    let zs : all is_zero (drop n ((z ∷ l) ++ r)) ≡ true = ap (all is_zero) d ∙ all_replicate is_zero (most-fields - n) (pos 0) refl in
+    let zs : all is_zero (drop n ((z ∷ l) ++ r)) ≡ true = ap (all is_zero) d ∙ all_replicate is_zero (most_fields - n) (pos 0) refl in
     let w : well_formed_words (pos n ∷ (z ∷ l) ++ r) ≡ true =
-    and_both (leb 1 n) (leb n most-fields && (all fits (take n ((z ∷ l) ++ r)) && all is_zero (drop n ((z ∷ l) ++ r)))) (le-leb 1 n (omega arith))
-    (and_both (leb n most-fields) (all fits (take n ((z ∷ l) ++ r)) && all is_zero (drop n ((z ∷ l) ++ r))) (le-leb n most-fields f)
+    and_both (leb 1 n) (leb n most_fields && (all fits (take n ((z ∷ l) ++ r)) && all is_zero (drop n ((z ∷ l) ++ r)))) (le-leb 1 n (omega arith))
+    (and_both (leb n most_fields) (all fits (take n ((z ∷ l) ++ r)) && all is_zero (drop n ((z ∷ l) ++ r))) (le-leb n most_fields f)
     (and_both (all fits (take n ((z ∷ l) ++ r))) (all is_zero (drop n ((z ∷ l) ++ r))) ft zs)) in
     ap (λ b. cond b (take n ((z ∷ l) ++ r)) []) w ∙ t
 
 -- what well-formed words have
 pub record FormedWords (ws : List ℤ) : Type 0 where
   pub some : 1 ≤ count ws
-  pub few : count ws ≤ most-fields
+  pub few : count ws ≤ most_fields
   pub fitting : all fits (take (count ws) (drop 1 ws)) ≡ true
   pub unused : all is_zero (drop (count ws) (drop 1 ws)) ≡ true
 
@@ -226,11 +226,11 @@ formed-words ws e =
     let n = count ws in
     let f = all fits (take n (drop 1 ws)) in
     let z = all is_zero (drop n (drop 1 ws)) in
-    let a = and_right (leb 1 n) (leb n most-fields && (f && z)) e in
-    let b = and_right (leb n most-fields) (f && z) a in
+    let a = and_right (leb 1 n) (leb n most_fields && (f && z)) e in
+    let b = and_right (leb n most_fields) (f && z) a in
     record {
-      some = leb-true 1 n (and_left (leb 1 n) (leb n most-fields && (f && z)) e);
-      few = leb-true n most-fields (and_left (leb n most-fields) (f && z) a);
+      some = leb-true 1 n (and_left (leb 1 n) (leb n most_fields && (f && z)) e);
+      few = leb-true n most_fields (and_left (leb n most_fields) (f && z) a);
       fitting = and_left f z b;
       unused = and_right f z b;
     }
@@ -265,8 +265,8 @@ shown-words z fs e w =
     let n = natural z in
     let f : n ≤ 6 = w.few in
     let k : length (take n fs) ≡ n = simp length-take (omega arith) in
-    let d : length (drop n fs) ≡ most-fields - n = simp length-drop (omega arith) in
-    ap (λ i. (pos i ∷ take n fs) ++ replicate (most-fields - i) (pos 0)) k
+    let d : length (drop n fs) ≡ most_fields - n = simp length-drop (omega arith) in
+    ap (λ i. (pos i ∷ take n fs) ++ replicate (most_fields - i) (pos 0)) k
     ∙ ap (λ i. (pos n ∷ take n fs) ++ replicate i (pos 0)) (sym d)
     ∙ ap (λ r. (pos n ∷ take n fs) ++ r) (sym (zeros (drop n fs) w.unused))
     ∙ ap (λ r. pos n ∷ r) (take-append-drop n fs)
@@ -297,22 +297,22 @@ words_back ls g = let n = all-words-length ls g in ap (λ k. sevens k (words_of 
 pub sevens-length : (k : ℕ) (ws : List ℤ) → length (sevens k ws) ≡ k
 unfolding sevens
 sevens-length zero ws = refl
-sevens-length (suc k) ws = ap suc (sevens-length k (drop line-words ws))
+sevens-length (suc k) ws = ap suc (sevens-length k (drop line_word_count ws))
 
 pub sevens-good : (k : ℕ) (ws : List ℤ) → Goods (sevens k ws)
 unfolding sevens
 sevens-good zero ws = tt
-sevens-good (suc k) ws = (word_good (take line-words ws), sevens-good k (drop line-words ws))
+sevens-good (suc k) ws = (word_good (take line_word_count ws), sevens-good k (drop line_word_count ws))
 
 pub sevens-shown : (k : ℕ) (ws : List ℤ) → length ws ≡ k * 7 → LinesNonempty (sevens k ws) → words_of (sevens k ws) ≡ ws
 unfolding sevens words_of
 sevens-shown zero [] e h = refl
 sevens-shown zero (w ∷ ws) e h = absurd (omega arith)
 sevens-shown (suc k) ws e h =
-    let t : length (take line-words ws) ≡ 7 = simp length-take (omega arith) in
-    ap (λ x. x ++ words_of (sevens k (drop line-words ws))) (word-shown (take line-words ws) t (formed-head (word_line (take line-words ws)) (sevens k (drop line-words ws)) h))
-    ∙ ap (λ x. take line-words ws ++ x) (sevens-shown k (drop line-words ws) (simp length-drop (omega arith)) (formed_tail (word_line (take line-words ws)) (sevens k (drop line-words ws)) h))
-    ∙ take-append-drop line-words ws
+    let t : length (take line_word_count ws) ≡ 7 = simp length-take (omega arith) in
+    ap (λ x. x ++ words_of (sevens k (drop line_word_count ws))) (word-shown (take line_word_count ws) t (formed-head (word_line (take line_word_count ws)) (sevens k (drop line_word_count ws)) h))
+    ∙ ap (λ x. take line_word_count ws ++ x) (sevens-shown k (drop line_word_count ws) (simp length-drop (omega arith)) (formed_tail (word_line (take line_word_count ws)) (sevens k (drop line_word_count ws)) h))
+    ∙ take-append-drop line_word_count ws
 
 pub bytes_cons : (l : Line) (ls : List Line) → bytes_of (l ∷ ls) ≡ gather field_bytes l ++ 10 ∷ bytes_of ls
 unfolding bytes_of line_bytes

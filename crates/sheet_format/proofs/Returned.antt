@@ -6,7 +6,7 @@ use Prim.Native.Nat.{ℕ}
 use lib.Dec.{eqb, ltb}
 use lib.IntN.{ℤ}
 use lib.ListN.{length}
-use Rattle.sheet_format.specs.Limits.{most-words, most_bytes}
+use Rattle.sheet_format.specs.Limits.{most_words, most_bytes}
 use Rattle.sheet_format.specs.Table.{Table}
 use Rattle.sheet_format.specs.Line.{byte_lines, bytes_of, word_lines}
 use Rattle.sheet_format.specs.Sheet.{returned, refused_by, done_with, answered, ending, sheet_refusal, words_refusal, read_ending, read_returned, write_ending, write_returned}
@@ -26,7 +26,7 @@ module _ (table : Table) where
   -- reading: the answer, and with it its numbers
   pub read-numbers : {r : Ending} {A : Type 0} (s : List ℕ) (room : ℕ) → (r ≡ read_ending table s room) × A → (r ≡ read_ending table s room) × A × (returned r ≡ read_returned table s room)
   unfolding read_ending
-  read-numbers s room (e, a) = (e, a, ap returned e ∙ returned-ending (sheet_refusal table s) room most-words (length (byte_lines s)))
+  read-numbers s room (e, a) = (e, a, ap returned e ∙ returned-ending (sheet_refusal table s) room most_words (length (byte_lines s)))
 
   -- writing: the same
   pub write_numbers : {r : Ending} {A : Type 0} (ws : List ℤ) (room : ℕ) → (r ≡ write_ending table ws room) × A → (r ≡ write_ending table ws room) × A × (returned r ≡ write_returned table ws room)

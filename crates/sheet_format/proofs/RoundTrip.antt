@@ -9,7 +9,7 @@ use lib.Dec.{eqb, ltb}
 use lib.IntN.{ℤ}
 use lib.ListN.{length, take, drop}
 use lib.Seq.{take_at}
-use Rattle.sheet_format.specs.Limits.{most-sheet-bytes, most-words, most_bytes, line-words}
+use Rattle.sheet_format.specs.Limits.{most_sheet_bytes, most_words, most_bytes, line_word_count}
 use Rattle.sheet_format.specs.Line.{Line, byte_lines, bytes_of, word_lines, words_of}
 use Rattle.sheet_format.specs.Table.{Table}
 use Rattle.sheet_format.specs.Cause.{refusal, refusal_of}
@@ -46,51 +46,51 @@ module _ (table : Table) where
 
   pub record CleanWords (ws : List ℤ) : Type 0 where
     pub clean : (refusal_of table (word_lines ws)).number ≡ 0
-    pub whole : length ws ≡ length ws / line-words * 7
+    pub whole : length ws ≡ length ws / line_word_count * 7
 
   words-clean : (ws : List ℤ) → (words_refusal table ws).number ≡ 0 → CleanWords ws
   unfolding words_refusal
-  words-clean ws e = go (ltb most-words (length ws)) (eqb (length ws % line-words) 0) refl e
+  words-clean ws e = go (ltb most_words (length ws)) (eqb (length ws % line_word_count) 0) refl e
     where
-      go : (t u : Bool) → eqb (length ws % line-words) 0 ≡ u → (cond t (refusal 1 0) (cond u (refusal_of table (word_lines ws)) (refusal 2 0))).number ≡ 0 → CleanWords ws
+      go : (t u : Bool) → eqb (length ws % line_word_count) 0 ≡ u → (cond t (refusal 1 0) (cond u (refusal_of table (word_lines ws)) (refusal 2 0))).number ≡ 0 → CleanWords ws
       go true u b f = absurd (omega arith)
       go false false b f = absurd (omega arith)
-      go false true b f = let m = eqb-true (length ws % line-words) 0 b in record { clean = f; whole = omega arith }
+      go false true b f = let m = eqb-true (length ws % line_word_count) 0 b in record { clean = f; whole = omega arith }
 
   -- what is read from the bytes of accepted lines
-  read-lines : (ls : List Line) → Goods ls → (refusal_of table ls).number ≡ 0 → (room : ℕ) → most-words ≤ room → read_ending table (bytes_of ls) room ≡ Done (length ls)
+  read-lines : (ls : List Line) → Goods ls → (refusal_of table ls).number ≡ 0 → (room : ℕ) → most_words ≤ room → read_ending table (bytes_of ls) room ≡ Done (length ls)
   unfolding read_ending sheet_refusal
   read-lines ls g e room le =
       let b = bytes_back ls g (accepted-lines table ls e) in
       let n = accepted-length table ls e in
       let m = bytes-size ls g in
-      rw (le-ltb most-sheet-bytes (length (bytes_of ls)) (omega arith), b) (ending-is (refusal_of table ls) room most-words (length ls) e le)
+      rw (le-ltb most_sheet_bytes (length (bytes_of ls)) (omega arith), b) (ending-is (refusal_of table ls) room most_words (length ls) e le)
 
   pub write_read :
-      (ws : List ℤ) (buf : List ℕ) (n : ℕ) → write_ending table ws (length buf) ≡ Done n → (out : List ℤ) → most-words ≤ length out
-      → (read_ending table (take n (write_bytes table ws buf)) (length out) ≡ Done (length ws / line-words)) × (read_words table (take n (write_bytes table ws buf)) out ≡ over ws out)
+      (ws : List ℤ) (buf : List ℕ) (n : ℕ) → write_ending table ws (length buf) ≡ Done n → (out : List ℤ) → most_words ≤ length out
+      → (read_ending table (take n (write_bytes table ws buf)) (length out) ≡ Done (length ws / line_word_count)) × (read_words table (take n (write_bytes table ws buf)) out ≡ over ws out)
   unfolding write_ending write_bytes read_words
   write_read ws buf n e out le =
       let ls = word_lines ws in
       let a = ending-done (words_refusal table ws) (length buf) most_bytes (length (bytes_of ls)) n e in
       let w = words-clean ws a.clean in
-      let g = sevens-good (length ws / line-words) ws in
+      let g = sevens-good (length ws / line_word_count) ws in
       let t : take n (lent_by (write_ending table ws (length buf)) (bytes_of ls) buf) ≡ bytes_of ls =
       ap (λ r. take n (lent_by r (bytes_of ls) buf)) e ∙ take_at (bytes_of ls) (drop (length (bytes_of ls)) buf) n a.count in
       let r = read-lines ls g w.clean (length out) le in
       let f = accepted-lines table ls w.clean in
       rw t (
-        (r ∙ ap Done (sevens-length (length ws / line-words) ws)),
+        (r ∙ ap Done (sevens-length (length ws / line_word_count) ws)),
         (ap (λ x. lent_by x (words_of (byte_lines (bytes_of ls))) out) r
             ∙ ap (λ x. over (words_of x) out) (bytes_back ls g f)
-            ∙ ap (λ x. over x out) (sevens-shown (length ws / line-words) ws w.whole f)),
+            ∙ ap (λ x. over x out) (sevens-shown (length ws / line_word_count) ws w.whole f)),
       )
 
   -- ---- the bytes that read accepts
 
   pub bytes-clean : (s : List ℕ) → (sheet_refusal table s).number ≡ 0 → (refusal_of table (byte_lines s)).number ≡ 0
   unfolding sheet_refusal
-  bytes-clean s e = go (ltb most-sheet-bytes (length s)) e
+  bytes-clean s e = go (ltb most_sheet_bytes (length s)) e
     where
       go : (t : Bool) → (cond t (refusal 1 0) (refusal_of table (byte_lines s))).number ≡ 0 → (refusal_of table (byte_lines s)).number ≡ 0
       go true f = absurd (omega arith)
@@ -103,7 +103,7 @@ module _ (table : Table) where
       let b = words_back ls g in
       let n = accepted-length table ls e in
       let m = all-words-length ls g in
-      rw (le-ltb most-words (length (words_of ls)) (omega arith), eq-eqb (length (words_of ls) % line-words) 0 (omega arith), b) (ending-is (refusal_of table ls) room most_bytes (length (bytes_of ls)) e le)
+      rw (le-ltb most_words (length (words_of ls)) (omega arith), eq-eqb (length (words_of ls) % line_word_count) 0 (omega arith), b) (ending-is (refusal_of table ls) room most_bytes (length (bytes_of ls)) e le)
 
   pub read_write :
       (s : List ℕ) (out : List ℤ) (n : ℕ) → read_ending table s (length out) ≡ Done n → (buf : List ℕ) → most_bytes ≤ length buf
@@ -111,7 +111,7 @@ module _ (table : Table) where
   unfolding read_ending read_words write_bytes
   read_write s out n e buf le =
       let ls = byte_lines s in
-      let a = ending-done (sheet_refusal table s) (length out) most-words (length ls) n e in
+      let a = ending-done (sheet_refusal table s) (length out) most_words (length ls) n e in
       let c = bytes-clean s a.clean in
       let g = bytes_good s in
       let m = all-words-length ls g in

@@ -7,7 +7,7 @@ use native.Mathlib.Omega.{arith}
 use lib.Dec.{eqb, ltb, leb}
 use lib.ListN.{length}
 use borrow.Author.Tests.{eqb-true, eqb-false, leb-true, leb-false, ltb-true, ltb-false, not-false}
-use Rattle.sheet_format.specs.Limits.{most-lists, most-views, most-rows, most-lines}
+use Rattle.sheet_format.specs.Limits.{most_lists, most_views, most_rows, most_lines}
 use Rattle.sheet_format.specs.Line.{Line, all, null}
 use Rattle.sheet_format.specs.Table.{Table}
 use Rattle.sheet_format.specs.Cause.{Kind, question, saved, view, atom, row, other, kind, in_place, possible, misplaced, wrong_columns, out_of_range, too_many_blocks, atoms_of, cause, start, next_by, next, refusal, missing, scan, heads, unsafe, atoms, refusal_of}
@@ -30,9 +30,9 @@ record LinesWithin (g : Seen) (k : ℕ) : Type 0 where
   lasts : g.last ≤ 5 * g.block
   no-atoms : g.atoms ≤ 6 * g.block
   some-atoms : g.atoms ≤ 6 - 3 * (g.block - 2)
-  some-lists : g.lists ≤ most-lists
-  some-views : g.views ≤ most-views
-  some-rows : g.rows ≤ most-rows
+  some-lists : g.lists ≤ most_lists
+  some-views : g.views ≤ most_views
+  some-rows : g.rows ≤ most_rows
 
 within-start : LinesWithin start 0
 within-start = omega arith
@@ -46,10 +46,10 @@ atoms-left g b e = go (eqb g.block 3) refl (leb-false (atoms_of g.block) g.atoms
 
 within-next : (g : Seen) (c : Kind) (n k : ℕ) → LinesWithin g k → in_place g c ≡ true → too_many_blocks g c ≡ false → LinesWithin (next_by g c n) (k + 1)
 within-next g question n k w p r = let e = eqb-true g.block 0 p in omega arith
-within-next g saved n k w p r = let q = both (leb 1 g.block) (leb g.block 2) p in let e = leb-true 1 g.block q.0 in let f = leb-true g.block 2 q.1 in let h = leb-false most-lists g.lists r in omega arith
-within-next g view n k w p r = let e = leb-true 2 g.block p in let f = leb-false most-views g.views r in omega arith
+within-next g saved n k w p r = let q = both (leb 1 g.block) (leb g.block 2) p in let e = leb-true 1 g.block q.0 in let f = leb-true g.block 2 q.1 in let h = leb-false most_lists g.lists r in omega arith
+within-next g view n k w p r = let e = leb-true 2 g.block p in let f = leb-false most_views g.views r in omega arith
 within-next g atom n k w p r = let e = leb-true 1 g.last (both _ _ p).0 in let f = atoms-left g w.blocks r in omega arith
-within-next g row n k w p r = let e = eqb-true g.block 3 (both _ _ p).0 in let f = leb-false most-rows g.rows r in omega arith
+within-next g row n k w p r = let e = eqb-true g.block 3 (both _ _ p).0 in let f = leb-false most_rows g.rows r in omega arith
 within-next g other n k w p r = true-false (sym p)
 
 module _ (table : Table) where
@@ -137,7 +137,7 @@ module _ (table : Table) where
 
   -- ---- how many lines there can be
 
-  scan-long-from : (p : List Line) (g : Seen) (b : Line) (n k : ℕ) → 1 ≤ n → LinesWithin g k → most-lines < k + length p → 0 < (scan table g b n p).line
+  scan-long-from : (p : List Line) (g : Seen) (b : Line) (n k : ℕ) → 1 ≤ n → LinesWithin g k → most_lines < k + length p → 0 < (scan table g b n p).line
   unfolding next
   scan-long-from [] g b n k le w h = absurd (omega arith)
   scan-long-from (l ∷ p) g b n k le w h =
@@ -146,7 +146,7 @@ module _ (table : Table) where
       scan-long-from p (next g l) l (n + 1) (k + 1) (omega arith) (within-next g (kind l) _ k w q.placed q.room) (omega arith))
 
   -- more lines than that are refused at a line
-  pub scan-long : (p : List Line) → most-lines < length p → 0 < (scan table start [] 1 p).line
+  pub scan-long : (p : List Line) → most_lines < length p → 0 < (scan table start [] 1 p).line
   scan-long p h = scan-long-from p start [] 1 0 (omega arith) within-start (omega arith)
 
   -- ---- nothing is refused
@@ -176,10 +176,10 @@ module _ (table : Table) where
   accepted-lines p h = lines-formed p start [] 1 (accepted-scan p h)
 
   -- there are no more lines than that
-  pub accepted-length : (p : List Line) → (refusal_of table p).number ≡ 0 → length p ≤ most-lines
-  accepted-length p h = go (ltb most-lines (length p)) refl
+  pub accepted-length : (p : List Line) → (refusal_of table p).number ≡ 0 → length p ≤ most_lines
+  accepted-length p h = go (ltb most_lines (length p)) refl
     where
-      go : (t : Bool) → ltb most-lines (length p) ≡ t → length p ≤ most-lines
+      go : (t : Bool) → ltb most_lines (length p) ≡ t → length p ≤ most_lines
       go true e = true-false (sym (accepted-scan p h) ∙ scan-number p start [] 1 (scan-long p (ltb-true _ _ e)))
       go false e = ltb-false _ _ e
 

@@ -1,7 +1,7 @@
 -- The causes 2 to 9 for sending a sheet back, line by line and in the order of the table of causes. Relations go by a table, t.
 use Rattle.std.specs.Prelude.{Bool, true, false, cond, not, ◌&&◌, ◌||◌, List, [], ◌∷◌, ℕ, zero, suc, ◌+◌, eqb, ltb, leb, ℤ, pos, negsuc, length}
 use Rattle.std.specs.Int.Signed.{lt_z}
-use Rattle.sheet_format.specs.Limits.{constant-end, most-variables, most-atoms, most-view-atoms, most-lists, most-views, most-rows}
+use Rattle.sheet_format.specs.Limits.{constant_end, most_variables, most_atoms, most_view_atoms, most_lists, most_views, most_rows}
 use Rattle.sheet_format.specs.Table.{Table, columns_of}
 use Rattle.sheet_format.specs.Line.{Line, all, null}
 use Rattle.sheet_format.specs.declared.Refusal.{Refusal}
@@ -47,8 +47,8 @@ or_out true t = t
 or_out false t = OutOfRange
 
 unfoldable pub term_of : ℤ → FieldTerm
-term_of (pos n) = or_out (ltb n constant-end) (Constant n)
-term_of (negsuc n) = or_out (ltb n most-variables) (Variable (suc n))
+term_of (pos n) = or_out (ltb n constant_end) (Constant n)
+term_of (negsuc n) = or_out (ltb n most_variables) (Variable (suc n))
 
 abbrev pub is_term : FieldTerm → Bool
 is_term (Constant n) = true
@@ -110,14 +110,14 @@ out_of_range other l = false
 
 -- 6: more atoms, lists, views or rows than there may be
 abbrev pub atoms_of : ℕ → ℕ
-atoms_of b = cond (eqb b 3) most-view-atoms most-atoms
+atoms_of b = cond (eqb b 3) most_view_atoms most_atoms
 
 abbrev pub too_many_blocks : Seen → Kind → Bool
 too_many_blocks g question = false
-too_many_blocks g saved = leb most-lists g.lists
-too_many_blocks g view = leb most-views g.views
+too_many_blocks g saved = leb most_lists g.lists
+too_many_blocks g view = leb most_views g.views
 too_many_blocks g atom = leb (atoms_of g.block) g.atoms
-too_many_blocks g row = leb most-rows g.rows
+too_many_blocks g row = leb most_rows g.rows
 too_many_blocks g other = false
 
 -- 7: a list's head and the question's differ in length, or a row and its head

@@ -1,7 +1,7 @@
 -- A field: eight bytes that end in a decimal number without zeros in front, with its sign "-" (45) where it is below 0, and blanks (32) in
 -- all columns to the left. A "+" is no sign, and 0 has none.
 use Rattle.std.specs.Prelude.{Bool, true, false, cond, List, [], ◌∷◌, ◌++◌, ℕ, zero, suc, ◌+◌, ◌-◌, ◌*◌, ◌/◌, ◌%◌, eqb, ltb, leb, ℤ, pos, negsuc, length, take, drop, replicate}
-use Rattle.sheet_format.specs.Limits.{field-bytes, field_end, field-minus-end}
+use Rattle.sheet_format.specs.Limits.{field_byte_count, field_end, field_minus_end}
 use Rattle.sheet_format.specs.declared.Digits.{Digits}
 use Rattle.sheet_format.specs.declared.Digits.TheVariants.{Blank, Minus, Run, Broken}
 use Rattle.sheet_format.specs.declared.Field.{Field}
@@ -46,7 +46,7 @@ field_of s = told (run Blank s)
 
 -- the field at a place of a sheet's bytes
 abbrev pub field_at : List ℕ → ℕ → Field
-field_at s at = cond (leb (at + field-bytes) (length s)) (field_of (take field-bytes (drop at s))) Malformed
+field_at s at = cond (leb (at + field_byte_count) (length s)) (field_of (take field_byte_count (drop at s))) Malformed
 
 -- ---- writing
 
@@ -61,10 +61,10 @@ decimal zero neg v = []
 decimal (suc k) neg v = cond (ltb v 10) (lead k neg) (decimal k neg (v / 10)) ++ ((48 + v % 10) ∷ [])
 
 abbrev pub field_bytes : ℤ → List ℕ
-field_bytes (pos n) = decimal field-bytes false n
-field_bytes (negsuc n) = decimal field-bytes true (suc n)
+field_bytes (pos n) = decimal field_byte_count false n
+field_bytes (negsuc n) = decimal field_byte_count true (suc n)
 
 -- the number is not too wide for a field
 abbrev pub fits : ℤ → Bool
 fits (pos n) = ltb n field_end
-fits (negsuc n) = ltb (suc n) field-minus-end
+fits (negsuc n) = ltb (suc n) field_minus_end

@@ -1,6 +1,6 @@
 -- Lines: 1 to 6 fields each. A line that is malformed (cause 2) has no fields.
 use Rattle.std.specs.Prelude.{Bool, true, false, cond, ◌&&◌, List, [], ◌∷◌, ◌++◌, map, ℕ, zero, suc, ◌+◌, ◌-◌, ◌*◌, ◌/◌, ◌%◌, eqb, ltb, leb, ℤ, pos, negsuc, length, take, drop, get_or, replicate}
-use Rattle.sheet_format.specs.Limits.{field-bytes, most-fields, line-words}
+use Rattle.sheet_format.specs.Limits.{field_byte_count, most_fields, line_word_count}
 use Rattle.sheet_format.specs.Field.{field_of, field_bytes, fits}
 use Rattle.sheet_format.specs.declared.Field.{Field}
 use Rattle.sheet_format.specs.declared.Field.TheVariants.{Number, Malformed}
@@ -44,7 +44,7 @@ line_at s (suc k) = get_or (closed s) k []
 -- k fields of eight bytes
 abbrev pub eights : ℕ → List ℕ → List (List ℕ)
 eights zero s = []
-eights (suc k) s = take field-bytes s ∷ eights k (drop field-bytes s)
+eights (suc k) s = take field_byte_count s ∷ eights k (drop field_byte_count s)
 
 abbrev pub is_number : Field → Bool
 is_number (Number z) = true
@@ -55,11 +55,11 @@ number (Number z) = z
 number Malformed = pos 0
 
 abbrev pub fields_in : List ℕ → List Field
-fields_in s = map field_of (eights (length s / field-bytes) s)
+fields_in s = map field_of (eights (length s / field_byte_count) s)
 
 -- a line's length is 8 to 48 by eights, and its fields are numbers
 abbrev pub is_well_formed : List ℕ → Bool
-is_well_formed s = eqb (length s % field-bytes) 0 && (leb 1 (length s / field-bytes) && (leb (length s / field-bytes) most-fields && all is_number (fields_in s)))
+is_well_formed s = eqb (length s % field_byte_count) 0 && (leb 1 (length s / field_byte_count) && (leb (length s / field_byte_count) most_fields && all is_number (fields_in s)))
 
 unfoldable pub line_of : List ℕ → Line
 line_of s = cond (is_well_formed s) (map number (fields_in s)) []
@@ -89,20 +89,20 @@ count ws = natural (get_or ws 0 (pos 0))
 
 -- the field count is 1 to 6, unused words are 0, no number is too wide
 abbrev pub well_formed_words : List ℤ → Bool
-well_formed_words ws = leb 1 (count ws) && (leb (count ws) most-fields && (all fits (take (count ws) (drop 1 ws)) && all is_zero (drop (count ws) (drop 1 ws))))
+well_formed_words ws = leb 1 (count ws) && (leb (count ws) most_fields && (all fits (take (count ws) (drop 1 ws)) && all is_zero (drop (count ws) (drop 1 ws))))
 
 unfoldable pub word_line : List ℤ → Line
 word_line ws = cond (well_formed_words ws) (take (count ws) (drop 1 ws)) []
 
 unfoldable pub sevens : ℕ → List ℤ → List Line
 sevens zero ws = []
-sevens (suc k) ws = word_line (take line-words ws) ∷ sevens k (drop line-words ws)
+sevens (suc k) ws = word_line (take line_word_count ws) ∷ sevens k (drop line_word_count ws)
 
 abbrev pub word_lines : List ℤ → List Line
-word_lines ws = sevens (length ws / line-words) ws
+word_lines ws = sevens (length ws / line_word_count) ws
 
 unfoldable pub line_words : Line → List ℤ
-line_words l = (pos (length l) ∷ l) ++ replicate (most-fields - length l) (pos 0)
+line_words l = (pos (length l) ∷ l) ++ replicate (most_fields - length l) (pos 0)
 
 unfoldable pub words_of : List Line → List ℤ
 words_of ls = gather line_words ls

@@ -1,6 +1,6 @@
 -- What reading, writing and handing back a line give, for all input.
 use Rattle.std.specs.Prelude.{Bool, true, false, cond, List, [], ◌∷◌, ◌++◌, ℕ, zero, suc, ◌+◌, ◌%◌, eqb, ltb, ℤ, length, drop}
-use Rattle.sheet_format.specs.Limits.{most-sheet-bytes, most-words, most_bytes, line-words}
+use Rattle.sheet_format.specs.Limits.{most_sheet_bytes, most_words, most_bytes, line_word_count}
 use Rattle.sheet_format.specs.Table.{Table}
 use Rattle.sheet_format.specs.Line.{byte_lines, bytes_of, word_lines, words_of}
 use Rattle.sheet_format.specs.Cause.{refusal, refusal_of}
@@ -44,13 +44,13 @@ lent_by (Refused c l) new old = old
 
 -- 1, then the causes of the lines
 unfoldable pub sheet_refusal : Table → List ℕ → Refusal
-sheet_refusal t s = cond (ltb most-sheet-bytes (length s)) (refusal 1 0) (refusal_of t (byte_lines s))
+sheet_refusal t s = cond (ltb most_sheet_bytes (length s)) (refusal 1 0) (refusal_of t (byte_lines s))
 
 unfoldable pub read_ending : Table → List ℕ → ℕ → Ending
-read_ending t s room = ending (sheet_refusal t s) room most-words (length (byte_lines s))
+read_ending t s room = ending (sheet_refusal t s) room most_words (length (byte_lines s))
 
 abbrev pub read_returned : Table → List ℕ → ℕ → Returned
-read_returned t s room = answered (sheet_refusal t s) room most-words (length (byte_lines s))
+read_returned t s room = answered (sheet_refusal t s) room most_words (length (byte_lines s))
 
 unfoldable pub read_words : Table → List ℕ → List ℤ → List ℤ
 read_words t s out = lent_by (read_ending t s (length out)) (words_of (byte_lines s)) out
@@ -59,7 +59,7 @@ read_words t s out = lent_by (read_ending t s (length out)) (words_of (byte_line
 
 -- 1, then 2 for the word count, then the causes of the lines
 unfoldable pub words_refusal : Table → List ℤ → Refusal
-words_refusal t ws = cond (ltb most-words (length ws)) (refusal 1 0) (cond (eqb (length ws % line-words) 0) (refusal_of t (word_lines ws)) (refusal 2 0))
+words_refusal t ws = cond (ltb most_words (length ws)) (refusal 1 0) (cond (eqb (length ws % line_word_count) 0) (refusal_of t (word_lines ws)) (refusal 2 0))
 
 unfoldable pub write_ending : Table → List ℤ → ℕ → Ending
 write_ending t ws room = ending (words_refusal t ws) room most_bytes (length (bytes_of (word_lines ws)))

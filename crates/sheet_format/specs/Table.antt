@@ -1,6 +1,6 @@
 -- Tables of relations: what a table says of a relation, the tables of which the theorems speak, and the library's own.
 use Rattle.std.specs.Prelude.{◌≡◌, List, [], ◌∷◌, ℕ, zero, suc, ◌+◌, ◌*◌, ◌<◌, min, ℤ, pos, negsuc, get_or}
-use Rattle.sheet_format.specs.Limits.{most-columns, relation-numbers}
+use Rattle.sheet_format.specs.Limits.{most_columns, relation_number_count}
 use Rattle.sheet_format.specs.Relations.{relations, key_numbers, parent_numbers}
 
 -- A relation's number of columns. Where `key` is not 0, rows that are alike in the first `key` columns are alike in all; where `parent`
@@ -53,4 +53,4 @@ ten = table_by ten_relations
 
 -- the table that plain numbers give: columns, key and parent of each relation, no more columns than a fact has values; 0 past the numbers' end
 abbrev pub table_in : List ℕ → Table
-table_in ns n = record { columns = min most-columns (get_or ns (n * relation-numbers) 0); key = min most-columns (get_or ns (n * relation-numbers + 1) 0); parent = get_or ns (n * relation-numbers + 2) 0 }
+table_in ns n = record { columns = min most_columns (get_or ns (n * relation_number_count) 0); key = min most_columns (get_or ns (n * relation_number_count + 1) 0); parent = get_or ns (n * relation_number_count + 2) 0 }

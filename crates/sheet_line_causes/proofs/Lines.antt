@@ -11,7 +11,7 @@ use lib.Dec.{eqb, leb}
 use lib.IntN.{ℤ, pos}
 use lib.ListN.{length, get_or, take, drop}
 use lib.Seq.{slice, slice-cons, slice_empty, length-slice, take_all, take-nil, drop-drop}
-use Rattle.sheet_format.specs.Limits.{most-lists}
+use Rattle.sheet_format.specs.Limits.{most_lists}
 use Rattle.sheet_format.specs.Field.{fits}
 use Rattle.sheet_format.specs.Line.{Line, all, count, is_zero, word_line, well_formed_words}
 use Rattle.sheet_format.specs.Cause.{Kind, rest, second, terms, term, constant, above, atoms_of, cause, in_place, possible, wrong_columns, out_of_range, too_many_blocks, kind_of, next, next_by, step_of}
@@ -173,7 +173,7 @@ module _ {ws : List ℤ} {n : ℕ} (h : CountedFields ws n) where
     question-cause = rw (fields-rest n ws, fields-length)
 
     pub saved-cause : cause_by table g [] saved (fields n ws)
-        ≡ cond (not ((leb 1 g.block && leb g.block 2) && leb n 5)) 3 (cond (not (all term (slice 2 (n + 1) ws))) 5 (cond (leb most-lists g.lists) 6 (cond (not (eqb (n - 1) g.asked)) 7 0)))
+        ≡ cond (not ((leb 1 g.block && leb g.block 2) && leb n 5)) 3 (cond (not (all term (slice 2 (n + 1) ws))) 5 (cond (leb most_lists g.lists) 6 (cond (not (eqb (n - 1) g.asked)) 7 0)))
     saved-cause = rw (fields-rest n ws, fields-length, rest-length)
 
     pub view-cause : cause_by table g [] view (fields n ws)

@@ -9,7 +9,7 @@ use lib.Signed.{lt_z, le_z}
 use mir.Syntax.{w32}
 use mir.Val.{SFits, of_z}
 use borrow.Author.Tests.{ltb-true, ltb-false, leb-true, leb-false, lt-ltb, le-ltb, le-leb, lt-leb, ne_eqb, not-true, not-false}
-use Rattle.sheet_format.specs.Limits.{field_end, field-minus-end}
+use Rattle.sheet_format.specs.Limits.{field_end, field_minus_end}
 use Rattle.list_laws.proofs.Words.{word_of}
 use Rattle.sheet_format.proofs.Lists.{no_way}
 use Rattle.sheet_format.specs.Field.{fits}
@@ -25,13 +25,13 @@ failed {r} e n = sym e ∙ not-true r n
 pub held : {r t : Bool} → r ≡ t → not r ≡ false → t ≡ true
 held {r} e n = sym e ∙ not-false r n
 
-pub wide_low : (z : ℤ) → le_z z (negsuc (field-minus-end - 1)) ≡ true → false ≡ fits z
+pub wide_low : (z : ℤ) → le_z z (negsuc (field_minus_end - 1)) ≡ true → false ≡ fits z
 wide_low (pos n) e = no_way e
-wide_low (negsuc n) e = sym (le-ltb (suc n) field-minus-end (let h = leb-true (field-minus-end - 1) n e in omega arith))
+wide_low (negsuc n) e = sym (le-ltb (suc n) field_minus_end (let h = leb-true (field_minus_end - 1) n e in omega arith))
 
-pub narrow : (z : ℤ) → le_z z (negsuc (field-minus-end - 1)) ≡ false → lt_z z (pos field_end) ≡ fits z
+pub narrow : (z : ℤ) → le_z z (negsuc (field_minus_end - 1)) ≡ false → lt_z z (pos field_end) ≡ fits z
 narrow (pos n) e = refl
-narrow (negsuc n) e = sym (lt-ltb (suc n) field-minus-end (let h = leb-false (field-minus-end - 1) n e in omega arith))
+narrow (negsuc n) e = sym (lt-ltb (suc n) field_minus_end (let h = leb-false (field_minus_end - 1) n e in omega arith))
 
 pub zero_bits : (z : ℤ) → SFits w32 z → eqb (of_z w32 z) 0 ≡ is_zero z
 zero_bits (pos n) h = refl

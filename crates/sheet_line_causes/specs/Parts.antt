@@ -1,7 +1,7 @@
 -- The parts that a line's step is made of.
 use Rattle.std.specs.Prelude.{◌≡◌, Bool, cond, not, ◌&&◌, List, ℕ, ◌+◌, ◌≤◌, leb, ℤ, length}
 use Rattle.std.proofs.Math.Seq.{slice}
-use Rattle.sheet_format.specs.Limits.{line-words, most-fields}
+use Rattle.sheet_format.specs.Limits.{line_word_count, most_fields}
 use Rattle.sheet_format.specs.Field.{fits}
 use Rattle.sheet_format.specs.Line.{Line, is_zero, natural}
 use Rattle.sheet_format.specs.Table.{Table}
@@ -19,13 +19,13 @@ passes ConstantTerm z = constant z
 
 -- a first word as a field count; 0 where it is none
 abbrev pub count_of_fields : ℤ → ℕ
-count_of_fields z = cond (leb (natural z) most-fields) (natural z) 0
+count_of_fields z = cond (leb (natural z) most_fields) (natural z) 0
 
 -- the words of a line, with its field count
 pub record CountedFields (ws : List ℤ) (n : ℕ) : Type 0 where
-  pub seven : length ws ≡ line-words
+  pub seven : length ws ≡ line_word_count
   pub least : 1 ≤ n
-  pub most : n ≤ most-fields
+  pub most : n ≤ most_fields
 
 -- the n fields after the field count
 abbrev pub fields : ℕ → List ℤ → Line

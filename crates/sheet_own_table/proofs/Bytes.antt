@@ -11,7 +11,7 @@ use lib.ListN.{length, get_or, take, replicate, length-append, drop_of_length-le
 use lib.Seq.{get_or-append-add, get_or-append_seam, take-length}
 use Rattle.list_laws.specs.Wrote.{Wrote}
 use Rattle.list_laws.proofs.Laws.{wrote-over}
-use Rattle.sheet_format.specs.Limits.{table-numbers}
+use Rattle.sheet_format.specs.Limits.{table_number_count}
 use Rattle.sheet_format.specs.Relations.{relations, key_numbers, parent_numbers}
 use Rattle.sheet_format.specs.Table.{Relation, unknown, ten_relations}
 use Rattle.sheet_format.specs.Field.{field_bytes}
@@ -19,8 +19,8 @@ use Rattle.sheet_format.specs.Line.{Line, all, gather, line_bytes, bytes_of}
 use Rattle.sheet_format.proofs.Lists.{both, all-at}
 use Rattle.sheet_format.proofs.FieldLaws.{field-length}
 use Rattle.sheet_format.proofs.LineLaws.{bytes-length}
-use Rattle.sheet_format.proofs.TableLaws.{line_of}
-use Rattle.sheet_own_table.specs.Own.{lines_of, own_lines, own_bytes, own-table-bytes}
+use Rattle.sheet_format.proofs.TableLaws.{numbers_of_relation}
+use Rattle.sheet_own_table.specs.Own.{lines_of, own_lines, own_bytes, own_table_bytes}
 
 -- ---- lines of four fields
 
@@ -99,15 +99,15 @@ lines_at (r ∷ rs) m (suc n) lt =
 -- line n, from 0
 pub own_line : (n : ℕ) → n < 10 → get_or own_lines n [] ≡ pos (n + 1) ∷ pos (get_or relations n 0) ∷ pos (get_or key_numbers n 0) ∷ pos (get_or parent_numbers n 0) ∷ []
 own_line n lt =
-    let (c, k, p) = line_of relations key_numbers parent_numbers n refl refl in
+    let (c, k, p) = numbers_of_relation relations key_numbers parent_numbers n refl refl in
     lines_at ten_relations 1 n lt ∙ rw (c, k, p) (ap (λ m. pos m ∷ pos (get_or relations n 0) ∷ pos (get_or key_numbers n 0) ∷ pos (get_or parent_numbers n 0) ∷ []) (let q : 1 + n ≡ n + 1 = omega arith in q))
 
-pub own-length : length own_bytes ≡ own-table-bytes
+pub own-length : length own_bytes ≡ own_table_bytes
 unfolding own_bytes
 own-length = lines-length own_lines refl
 
 -- the byte at a place: of a field, or a line's end
-pub own-field-byte : (i : ℕ) → i < own-table-bytes → i % 33 < 32 → get_or own_bytes i 0 ≡ get_or (field_bytes (get_or (get_or own_lines (i / 33) []) (i % 33 / 8) (pos 0))) (i % 33 % 8) 0
+pub own-field-byte : (i : ℕ) → i < own_table_bytes → i % 33 < 32 → get_or own_bytes i 0 ≡ get_or (field_bytes (get_or (get_or own_lines (i / 33) []) (i % 33 / 8) (pos 0))) (i % 33 % 8) 0
 unfolding own_bytes line_bytes
 own-field-byte i lt h =
     let f = four-at own_lines refl (i / 33) (omega arith) in
@@ -116,7 +116,7 @@ own-field-byte i lt h =
     ∙ ap (λ x. get_or (line_bytes (get_or own_lines (i / 33) [])) x 0) (let q : i % 33 ≡ i % 33 / 8 * 8 + i % 33 % 8 = omega arith in q)
     ∙ fields-byte (get_or own_lines (i / 33) []) (10 ∷ []) (i % 33 / 8) (i % 33 % 8) (omega arith) (omega arith)
 
-pub own-end-byte : (i : ℕ) → i < own-table-bytes → i % 33 ≡ 32 → get_or own_bytes i 0 ≡ 10
+pub own-end-byte : (i : ℕ) → i < own_table_bytes → i % 33 ≡ 32 → get_or own_bytes i 0 ≡ 10
 unfolding own_bytes
 own-end-byte i lt h =
     ap (λ x. get_or (bytes_of own_lines) x 0) (let q : i ≡ i / 33 * 33 + 32 = omega arith in q)
@@ -135,7 +135,7 @@ own_is n j k lt e = sym (ap (λ l. get_or l j (pos 0)) (own_line n lt) ∙ ap (�
 
 -- the ten relations' numbers, and 0 up to the table's end
 abbrev own_numbers : List ℕ
-own_numbers = gather (λ (r : Relation). r.columns ∷ r.key ∷ r.parent ∷ []) ten_relations ++ replicate (table-numbers - 30) 0
+own_numbers = gather (λ (r : Relation). r.columns ∷ r.key ∷ r.parent ∷ []) ten_relations ++ replicate (table_number_count - 30) 0
 
 pub own-numbers : (n : ℕ) → n < 10 → (get_or own_numbers (n * 3) 0 ≡ get_or relations n 0) × (get_or own_numbers (n * 3 + 1) 0 ≡ get_or key_numbers n 0) × (get_or own_numbers (n * 3 + 2) 0 ≡ get_or parent_numbers n 0)
 own-numbers zero lt = (refl, refl, refl)
@@ -154,7 +154,7 @@ pub own-most : (i : ℕ) → i < 96 → get_or own_numbers i 0 ≤ 10
 own-most i lt = leb-true (get_or own_numbers i 0) 10 (all-at (λ n. leb n 10) 0 own_numbers refl i lt)
 
 -- the table's bytes, written from the first on
-pub own-written : (a b : List ℕ) (i : ℕ) → length a ≡ own-table-bytes → i ≡ own-table-bytes → Wrote a b 0 i (take i own_bytes) → b ≡ own_bytes
+pub own-written : (a b : List ℕ) (i : ℕ) → length a ≡ own_table_bytes → i ≡ own_table_bytes → Wrote a b 0 i (take i own_bytes) → b ≡ own_bytes
 own-written a b i l e w =
     let n = own-length in
     let t : take i own_bytes ≡ own_bytes = ap (λ k. take k own_bytes) (let q : i ≡ length own_bytes = omega arith in q) ∙ take-length own_bytes in

@@ -6,7 +6,7 @@ use Prim.Native.Nat.{ℕ}
 use lib.Dec.{leb}
 use lib.ListN.{length}
 use borrow.Author.Tests.{leb-true}
-use Rattle.sheet_format.specs.Limits.{most-fields}
+use Rattle.sheet_format.specs.Limits.{most_fields}
 use Rattle.sheet_format.specs.Table.{relation, table_by, table_in, ten}
 use Rattle.sheet_format.specs.Field.{fits}
 use Rattle.sheet_format.specs.Line.{Line, all, byte_lines}
@@ -18,12 +18,12 @@ use Rattle.sheet_table.specs.Tables.{relation_on_line, line_right, lines_refusal
 use Rattle.sheet_table.specs.Loads.{Loads}
 use Rattle.sheet_own_table.specs.Own.{own_lines, own_bytes}
 
-goods_by : (ls : List Line) → all (λ l. leb (length l) most-fields && all fits l) ls ≡ true → Goods ls
+goods_by : (ls : List Line) → all (λ l. leb (length l) most_fields && all fits l) ls ≡ true → Goods ls
 goods_by [] e = tt
 goods_by (l ∷ ls) e =
-    let (a, b) = both (leb (length l) most-fields && all fits l) (all (λ l. leb (length l) most-fields && all fits l) ls) e in
-    let (x, y) = both (leb (length l) most-fields) (all fits l) a in
-    (record { few = leb-true (length l) most-fields x; fitting = y }, goods_by ls b)
+    let (a, b) = both (leb (length l) most_fields && all fits l) (all (λ l. leb (length l) most_fields && all fits l) ls) e in
+    let (x, y) = both (leb (length l) most_fields) (all fits l) a in
+    (record { few = leb-true (length l) most_fields x; fitting = y }, goods_by ls b)
 
 own-lines : byte_lines own_bytes ≡ own_lines
 unfolding own_bytes

@@ -15,5 +15,5 @@ unfoldable pub own_bytes : List ℕ
 own_bytes = bytes_of own_lines
 
 -- how many these are
-abbrev pub own-table-bytes : ℕ
-own-table-bytes = 330
+abbrev pub own_table_bytes : ℕ
+own_table_bytes = 330

@@ -3,7 +3,7 @@
 
 ghost use Rattle.std.specs.Prelude.{◌≡◌, [], ◌<◌, ◌≤◌, pos, get_or};
 ghost use Rattle.sheet_table.specs.Loads.{Loads};
-ghost use Rattle.sheet_own_table.specs.Own.{own_lines, own_bytes, own-table-bytes};
+ghost use Rattle.sheet_own_table.specs.Own.{own_lines, own_bytes, own_table_bytes};
 
 use sheet_format::{FIELD_BYTES, OWN_RELATIONS, OWN_TABLE, RELATION_NUMBERS, TABLE_FIELDS};
 use sheet_table::Loaded;
@@ -31,7 +31,7 @@ fn own_field(n: usize, j: usize) -> usize
 
 // The byte at a place.
 fn own_byte(i: usize) -> u8
-    requires { i < own-table-bytes }
+    requires { i < own_table_bytes }
     ensures { result ≡ get_or own_bytes i 0 }
 {
     let k = i % LINE_BYTES;

@@ -8,7 +8,7 @@ use lib.Dec.{eqb}
 use lib.IntN.{ℤ, pos}
 use lib.ListN.{length, take, drop, get_or, replicate, length-append, length-drop, drop_of_length-le}
 use lib.Seq.{drop-drop, take-length}
-use Rattle.sheet_format.specs.Limits.{most-lines, line-words}
+use Rattle.sheet_format.specs.Limits.{most_lines, line_word_count}
 use Rattle.sheet_format.specs.Line.{Line, all, null, byte_lines, line_of, line_words, words_of}
 use Rattle.sheet_format.specs.Table.{Table}
 use Rattle.sheet_format.specs.Cause.{scan, start, refusal_of}
@@ -45,23 +45,23 @@ line_stays_open s at lt h = let l = length-drop at s in open_line (drop at s) (o
 pub record Parsing (s : List ℕ) (ws : List ℤ) (n at : ℕ) : Type 0 where
   pub lines : List Line
   pub count : length lines ≡ n
-  pub few : n ≤ most-lines + 1
+  pub few : n ≤ most_lines + 1
   pub inside : at ≤ length s
-  pub room : length ws ≡ (most-lines + 1) * line-words
+  pub room : length ws ≡ (most_lines + 1) * line_word_count
   pub words : take (n * 7) ws ≡ words_of lines
   pub good : Goods lines
   pub rest : byte_lines s ≡ lines ++ byte_lines (drop at s)
 
-pub parsing_none : (s : List ℕ) (ws : List ℤ) → length ws ≡ (most-lines + 1) * line-words → Parsing s ws 0 0
+pub parsing_none : (s : List ℕ) (ws : List ℤ) → length ws ≡ (most_lines + 1) * line_word_count → Parsing s ws 0 0
 unfolding words_of
 parsing_none s ws h = record { lines = []; count = refl; few = omega arith; inside = omega arith; room = h; words = refl; good = tt; rest = refl }
 
 -- lines that are the front of the sheet's, and refused at one of them
-parsed_front : (s : List ℕ) (ws : List ℤ) (n : ℕ) (p q : List Line) → length p ≡ n → n ≤ most-lines + 1 → take (n * 7) ws ≡ words_of p → Goods p → byte_lines s ≡ p ++ q
+parsed_front : (s : List ℕ) (ws : List ℤ) (n : ℕ) (p q : List Line) → length p ≡ n → n ≤ most_lines + 1 → take (n * 7) ws ≡ words_of p → Goods p → byte_lines s ≡ p ++ q
     → ((t : Table) → 0 < (scan t start [] 1 p).line) → ((t : Table) → (refusal_of t p).number ≡ 0 → ⊥) → Parsed s ws n
 parsed_front s ws n p q l f w g e h never = record { lines = p; count = l; few = f; words = w; good = g; alike = λ t. sym (ap (refusal_of t) e ∙ refused-front t p q (h t)); whole = λ t z. absurd (never t z) }
 
-pub parsed_long : (s : List ℕ) (ws : List ℤ) (n at : ℕ) → n ≡ most-lines + 1 → Parsing s ws n at → Parsed s ws n
+pub parsed_long : (s : List ℕ) (ws : List ℤ) (n at : ℕ) → n ≡ most_lines + 1 → Parsing s ws n at → Parsed s ws n
 parsed_long s ws n at e p =
     let c = p.count in
     parsed_front s ws n p.lines (byte_lines (drop at s)) c p.few p.words p.good p.rest (λ t. scan-long t p.lines (omega arith)) (λ t z. let k = accepted-length t p.lines z in omega arith)
@@ -82,7 +82,7 @@ words_more ws us n p l e w = ap (λ k. take k us) (let q : (n + 1) * 7 ≡ n * 7
 count-more : (p : List Line) (l : Line) (n : ℕ) → length p ≡ n → length (p ++ (l ∷ [])) ≡ n + 1
 count-more p l n e = length-append p (l ∷ []) ∙ ap (λ k. k + 1) e
 
-pub parsing_more : (s : List ℕ) (ws us : List ℤ) (n at e : ℕ) → Parsing s ws n at → n < most-lines + 1 → e ≡ at + before_end (drop at s) → e < length s
+pub parsing_more : (s : List ℕ) (ws us : List ℤ) (n at e : ℕ) → Parsing s ws n at → n < most_lines + 1 → e ≡ at + before_end (drop at s) → e < length s
     → Wrote ws us (n * 7) (n * 7 + 7) (line_words (line_of (take (e - at) (drop at s)))) → Parsing s us (n + 1) (e + 1)
 parsing_more s ws us n at e p f is lt w =
     let l = line_of (take (e - at) (drop at s)) in
@@ -103,18 +103,18 @@ not-formed [] h = no_way h
 not-formed ([] ∷ p) h = no_way h
 not-formed ((z ∷ l) ∷ p) h = not-formed p h
 
-parsed_malformed : (s : List ℕ) (ws us : List ℤ) (n at : ℕ) (q : List Line) → Parsing s ws n at → n < most-lines + 1 → byte_lines (drop at s) ≡ [] ∷ q → Wrote ws us (n * 7) (n * 7 + 7) (line_words []) → Parsed s us (n + 1)
+parsed_malformed : (s : List ℕ) (ws us : List ℤ) (n at : ℕ) (q : List Line) → Parsing s ws n at → n < most_lines + 1 → byte_lines (drop at s) ≡ [] ∷ q → Wrote ws us (n * 7) (n * 7 + 7) (line_words []) → Parsed s us (n + 1)
 parsed_malformed s ws us n at q p f e w =
     parsed_front s us (n + 1) (p.lines ++ ([] ∷ [])) q (count-more p.lines [] n p.count) (omega arith) (words_more ws us n p.lines [] p.words w)
     (goods_append p.lines ([] ∷ []) p.good (nil_good, tt)) (p.rest ∙ ap (λ x. p.lines ++ x) e ∙ sym (append_assoc p.lines ([] ∷ []) q))
     (λ t. scan_malformed t p.lines) (λ t z. not-formed p.lines (accepted-lines t (p.lines ++ ([] ∷ [])) z))
 
-pub parsed_open : (s : List ℕ) (ws us : List ℤ) (n at : ℕ) → Parsing s ws n at → n < most-lines + 1 → at < length s → at + before_end (drop at s) ≡ length s
+pub parsed_open : (s : List ℕ) (ws us : List ℤ) (n at : ℕ) → Parsing s ws n at → n < most_lines + 1 → at < length s → at + before_end (drop at s) ≡ length s
     → Wrote ws us (n * 7) (n * 7 + 7) (replicate 7 (pos 0)) → Parsed s us (n + 1)
 unfolding line_words
 parsed_open s ws us n at p f lt h w = parsed_malformed s ws us n at [] p f (line_stays_open s at lt h) w
 
-pub parsed_broken : (s : List ℕ) (ws us : List ℤ) (n at e : ℕ) → Parsing s ws n at → n < most-lines + 1 → e ≡ at + before_end (drop at s) → e < length s
+pub parsed_broken : (s : List ℕ) (ws us : List ℤ) (n at e : ℕ) → Parsing s ws n at → n < most_lines + 1 → e ≡ at + before_end (drop at s) → e < length s
     → line_of (take (e - at) (drop at s)) ≡ [] → Wrote ws us (n * 7) (n * 7 + 7) (line_words (line_of (take (e - at) (drop at s)))) → Parsed s us (n + 1)
 parsed_broken s ws us n at e p f is lt h w =
     parsed_malformed s ws us n at (byte_lines (drop (e + 1) s)) p f (line-closes s at e p.inside is lt ∙ ap (λ x. x ∷ byte_lines (drop (e + 1) s)) h)

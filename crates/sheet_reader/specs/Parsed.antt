@@ -1,6 +1,6 @@
 -- What the contract of a private function cites. No promise to a caller rests on it.
 use Rattle.std.specs.Prelude.{◌≡◌, List, ℕ, ◌+◌, ◌*◌, ◌≤◌, ℤ, length, take}
-use Rattle.sheet_format.specs.Limits.{most-lines}
+use Rattle.sheet_format.specs.Limits.{most_lines}
 use Rattle.sheet_format.specs.Line.{Line, byte_lines, words_of}
 use Rattle.sheet_format.specs.Table.{Table}
 use Rattle.sheet_format.specs.Cause.{refusal_of}
@@ -10,7 +10,7 @@ use Rattle.sheet_format.proofs.Good.{Goods}
 pub record Parsed (s : List ℕ) (ws : List ℤ) (n : ℕ) : Type 0 where
   pub lines : List Line
   pub count : length lines ≡ n
-  pub few : n ≤ most-lines + 1
+  pub few : n ≤ most_lines + 1
   pub words : take (n * 7) ws ≡ words_of lines
   pub good : Goods lines
   pub alike : (t : Table) → refusal_of t lines ≡ refusal_of t (byte_lines s)

@@ -2,7 +2,7 @@
 #![tactic(auto)]
 
 ghost use Rattle.std.specs.Prelude.{◌≡◌, ◌+◌, ◌-◌, ◌*◌, ◌≤◌, length, take, drop};
-ghost use Rattle.sheet_format.specs.Limits.{most-lines, line-words};
+ghost use Rattle.sheet_format.specs.Limits.{most_lines, line_word_count};
 ghost use Rattle.sheet_format.specs.Line.{line_of, line_words};
 ghost use Rattle.sheet_format.specs.Table.{table_in};
 ghost use Rattle.sheet_format.specs.Sheet.{read_ending, read_words, returned, read_returned};
@@ -72,7 +72,7 @@ fn put_line(ws: &mut [i32], n: usize, l: [i32; LINE_WORDS])
 
 // The lines of a sheet as words, up to the first malformed line and to one line more than an accepted sheet has; how many they are.
 fn parse(s: &[u8], ws: &mut [i32]) -> usize
-    requires { length ws.old ≡ (most-lines + 1) * line-words }
+    requires { length ws.old ≡ (most_lines + 1) * line_word_count }
     ensures { Parsed s.now ws.new result }
 {
     let mut n = 0;

@@ -9,7 +9,7 @@ use lib.Dec.{eqb, ltb, leb}
 use lib.IntN.{ℤ, pos, negsuc}
 use lib.ListN.{length, take, drop, get_or, length-map}
 use lib.Seq.{drop-drop}
-use Rattle.sheet_format.specs.Limits.{field-bytes, field_end, most-fields, most-relations}
+use Rattle.sheet_format.specs.Limits.{field_byte_count, field_end, most_fields, most_relations}
 use Rattle.sheet_format.specs.Table.{Relation, unknown, relation}
 use Rattle.sheet_format.specs.Field.{field_of, field_at}
 use Rattle.sheet_format.specs.Line.{all, natural, eights, is_number, number, fields_in, is_well_formed, line_of}
@@ -31,7 +31,7 @@ entry c k p = record { columns = c; key = k; parent = p }
 
 -- ---- a number that no field holds is refused
 
-module _ (rs : List Relation) (m c k p : ℕ) (few : length rs < most-relations) where
+module _ (rs : List Relation) (m c k p : ℕ) (few : length rs < most_relations) where
   bad_number : relation_right rs field_end (entry c k p) ≡ false
   bad_number = rw (ne_eqb field_end (length rs + 1) (λ e. omega arith))
 
@@ -51,7 +51,7 @@ module _ (rs : List Relation) (m c k p : ℕ) (few : length rs < most-relations)
 
 -- ---- four fields
 
-module _ (rs : List Relation) (few : length rs < most-relations) where
+module _ (rs : List Relation) (few : length rs < most_relations) where
   four : (f g h i : Field) → line_right rs (cond (all is_number (f ∷ g ∷ h ∷ i ∷ [])) (map number (f ∷ g ∷ h ∷ i ∷ [])) []) ≡ relation_right rs (plain_of f) (entry (plain_of g) (plain_of h) (plain_of i))
   unfolding line_right
   four Malformed g h i = sym (bad_number rs 0 (plain_of g) (plain_of h) (plain_of i) few)
@@ -108,14 +108,14 @@ plain-four rs f g h i e = go (all is_number (f ∷ g ∷ h ∷ i ∷ [])) refl e
 
 -- ---- the rules over the numbers of the relations before
 
-parent-same : (rs : List Relation) (c k p : ℕ) → length rs < most-relations → parent_obeys (table_numbers rs) (length rs) c p ≡ parent_right rs (entry c k p)
+parent-same : (rs : List Relation) (c k p : ℕ) → length rs < most_relations → parent_obeys (table_numbers rs) (length rs) c p ≡ parent_right rs (entry c k p)
 unfolding parent_obeys relation
 parent-same rs c k zero few = refl
 parent-same rs c k (suc p) few = rw (ne_eqb (suc p) 0 (λ e. omega arith)) (go (leb (suc p) (length rs)) refl)
   where
     -- number j of the parent
-    at : (j : ℕ) → j < 3 → p < most-relations → get_or (table_numbers rs) ((suc p - 1) * 3 + j) 0 ≡ get_or (relation_numbers (get_or rs p unknown)) j 0
-    at j lt h = ap (λ i. get_or (table_numbers rs) (i * 3 + j) 0) (let e : suc p - 1 ≡ p = omega arith in e) ∙ numbers-at most-relations p j rs h lt
+    at : (j : ℕ) → j < 3 → p < most_relations → get_or (table_numbers rs) ((suc p - 1) * 3 + j) 0 ≡ get_or (relation_numbers (get_or rs p unknown)) j 0
+    at j lt h = ap (λ i. get_or (table_numbers rs) (i * 3 + j) 0) (let e : suc p - 1 ≡ p = omega arith in e) ∙ numbers-at most_relations p j rs h lt
 
     go : (b : Bool) → leb (suc p) (length rs) ≡ b
         → (b && (eqb (get_or (table_numbers rs) ((suc p - 1) * 3) 0) c && eqb (get_or (table_numbers rs) ((suc p - 1) * 3 + 2) 0) 0)) ≡ (b && (eqb (get_or rs p unknown).columns c && eqb (get_or rs p unknown).parent 0))
@@ -126,14 +126,14 @@ parent-same rs c k (suc p) few = rw (ne_eqb (suc p) 0 (λ e. omega arith)) (go (
         ap (λ x. eqb x c && eqb (get_or (table_numbers rs) ((suc p - 1) * 3 + 2) 0) 0) z
         ∙ ap (λ x. eqb (get_or rs p unknown).columns c && eqb x 0) (at 2 (omega arith) (omega arith))
 
-rules-same : (rs : List Relation) (m c k p : ℕ) → length rs < most-relations → line_obeys (table_numbers rs) (length rs) m c k p ≡ relation_right rs m (entry c k p)
+rules-same : (rs : List Relation) (m c k p : ℕ) → length rs < most_relations → line_obeys (table_numbers rs) (length rs) m c k p ≡ relation_right rs m (entry c k p)
 unfolding line_obeys
 rules-same rs m c k p few = ap (λ b. eqb m (length rs + 1) && ((leb 1 c && leb c 4) && (ltb k c && b))) (parent-same rs c k p few)
 
 -- ---- the line's bytes
 
-field-there : (s : List ℕ) (at j : ℕ) → at + j + 8 ≤ length s → field_at s (at + j) ≡ field_of (take field-bytes (drop j (drop at s)))
-field-there s at j le = rw (le-leb (at + j + field-bytes) (length s) (omega arith), drop-drop j at s)
+field-there : (s : List ℕ) (at j : ℕ) → at + j + 8 ≤ length s → field_at s (at + j) ≡ field_of (take field_byte_count (drop j (drop at s)))
+field-there s at j le = rw (le-leb (at + j + field_byte_count) (length s) (omega arith), drop-drop j at s)
 
 -- a line of another length has not four fields
 pub other_length : (s : List ℕ) (rs : List Relation) → (length s ≡ 32 → ⊥) → false ≡ line_right rs (line_of s)
@@ -143,8 +143,8 @@ other_length s rs h = go (is_well_formed s) refl
     go : (b : Bool) → is_well_formed s ≡ b → false ≡ line_right rs (line_of s)
     go false e = ap (line_right rs) (sym (line-by s false e))
     go true e =
-        let r = eqb-true (length s % field-bytes) 0 (both (eqb (length s % field-bytes) 0) _ e).0 in
-        let l : length (map number (fields_in s)) ≡ length s / field-bytes = length-map (fields_in s) number ∙ length-map (eights (length s / field-bytes) s) field_of ∙ eights-length (length s / field-bytes) s in
+        let r = eqb-true (length s % field_byte_count) 0 (both (eqb (length s % field_byte_count) 0) _ e).0 in
+        let l : length (map number (fields_in s)) ≡ length s / field_byte_count = length-map (fields_in s) number ∙ length-map (eights (length s / field_byte_count) s) field_of ∙ eights-length (length s / field_byte_count) s in
         let q : four_fields (map number (fields_in s)) ≡ false = rw (ne_eqb (length (map number (fields_in s))) 4 (λ x. h (omega arith))) in
         ap (λ b. b && relation_right rs (number_in (map number (fields_in s))) (relation_on_line (map number (fields_in s)))) (sym q) ∙ ap (line_right rs) (sym (line-by s true e))
 
@@ -161,8 +161,8 @@ module _ (s : List ℕ) (at e : ℕ) (le : at ≤ e) (inside : e ≤ length s) (
       let t = drop at s in
       let d16 : drop 8 (drop 8 t) ≡ drop 16 t = drop-drop 8 8 t in
       let d24 : drop 8 (drop 16 t) ≡ drop 24 t = drop-drop 8 16 t in
-      let z : field_at s at ≡ field_of (take field-bytes t) = ap (field_at s) (let q : at ≡ at + 0 = omega arith in q) ∙ field-there s at 0 (omega arith) in
-      ap (λ k. map field_of (eights k part)) (let q : length part / field-bytes ≡ 4 = omega arith in q)
+      let z : field_at s at ≡ field_of (take field_byte_count t) = ap (field_at s) (let q : at ≡ at + 0 = omega arith in q) ∙ field-there s at 0 (omega arith) in
+      ap (λ k. map field_of (eights k part)) (let q : length part / field_byte_count ≡ 4 = omega arith in q)
       ∙ ap (map field_of) (eights-take 4 (e - at) t (omega arith))
       ∙ rw (d16, d24, z, field-there s at 8 (omega arith), field-there s at 16 (omega arith), field-there s at 24 (omega arith))
 
@@ -170,13 +170,13 @@ module _ (s : List ℕ) (at e : ℕ) (le : at ≤ e) (inside : e ≤ length s) (
   part-formed =
       let l = part_length s at e le inside in
       let k = length part in
-      rw (eq-eqb (k % field-bytes) 0 (omega arith), le-leb 1 (k / field-bytes) (omega arith), le-leb (k / field-bytes) most-fields (omega arith)) (ap (all is_number) part-fields)
+      rw (eq-eqb (k % field_byte_count) 0 (omega arith), le-leb 1 (k / field_byte_count) (omega arith), le-leb (k / field_byte_count) most_fields (omega arith)) (ap (all is_number) part-fields)
 
   part-line : line_of part ≡ cond (all is_number fields) (map number fields) []
   part-line = line-by part (all is_number fields) part-formed ∙ ap (λ x. cond (all is_number fields) (map number x) []) part-fields
 
   -- the line is right where its plain numbers fit
-  pub right_by : (rs : List Relation) → length rs < most-relations
+  pub right_by : (rs : List Relation) → length rs < most_relations
       → line_obeys (table_numbers rs) (length rs) (plain_of (field_at s at)) (plain_of (field_at s (at + 8))) (plain_of (field_at s (at + 16))) (plain_of (field_at s (at + 24))) ≡ line_right rs (line_of part)
   right_by rs few = rules-same rs _ _ _ _ few ∙ sym (ap (line_right rs) part-line ∙ four rs few (field_at s at) (field_at s (at + 8)) (field_at s (at + 16)) (field_at s (at + 24)))
 
@@ -195,7 +195,7 @@ pub not-four : (s : List ℕ) (at e : ℕ) (ns us : List ℕ) (n : ℕ) → at �
 not-four s at e ns us n le inside h =
     record { right = λ rs l q. other_length (take (e - at) (drop at s)) rs (λ x. h (sym (part_length s at e le inside) ∙ x)); put = λ rs l q x. no_way x }
 
-module _ (s : List ℕ) (at e : ℕ) (le : at ≤ e) (inside : e ≤ length s) (size : e - at ≡ 32) (ns : List ℕ) (n : ℕ) (few : n < most-relations) (m c k p : ℕ)
+module _ (s : List ℕ) (at e : ℕ) (le : at ≤ e) (inside : e ≤ length s) (size : e - at ≡ 32) (ns : List ℕ) (n : ℕ) (few : n < most_relations) (m c k p : ℕ)
     (ms : m ≡ plain_of (field_at s at)) (cs : c ≡ plain_of (field_at s (at + 8))) (ks : k ≡ plain_of (field_at s (at + 16))) (ps : p ≡ plain_of (field_at s (at + 24))) where
   abbrev line : List ℤ
   line = line_of (take (e - at) (drop at s))
@@ -208,7 +208,7 @@ module _ (s : List ℕ) (at e : ℕ) (le : at ≤ e) (inside : e ≤ length s) (
     right = λ rs l q. h ∙ fits-right rs l q;
     put = λ rs l q is.
         let x = relation-by s at e le inside size rs (sym (fits-right rs l q) ∙ sym h ∙ is) in
-        rw (q, sym l, cs, ks, ps, x) (numbers_more most-relations rs (entry (plain_of (field_at s (at + 8))) (plain_of (field_at s (at + 16))) (plain_of (field_at s (at + 24)))) (omega arith));
+        rw (q, sym l, cs, ks, ps, x) (numbers_more most_relations rs (entry (plain_of (field_at s (at + 8))) (plain_of (field_at s (at + 16))) (plain_of (field_at s (at + 24)))) (omega arith));
   }
 
 module _ {s : List ℕ} {at e : ℕ} {ns : List ℕ} {n c k p : ℕ} {r : Bool} (d : LineRead s at e ns n c k p r) where

@@ -7,7 +7,7 @@ use native.Mathlib.Omega.{arith}
 use borrow.Author.Tests.{ltb-true, ltb-false}
 use lib.Dec.{ltb}
 use lib.ListN.{length, get_or, get_or-eq_default}
-use Rattle.sheet_format.specs.Limits.{most-columns, most-relations}
+use Rattle.sheet_format.specs.Limits.{most_columns, most_relations}
 use Rattle.sheet_format.specs.Table.{Relation, unknown, table_by, table_in}
 use Rattle.sheet_format.specs.declared.Refusal.{Refusal}
 use Rattle.sheet_table.specs.Tables.{relations_of, table_of}
@@ -18,8 +18,8 @@ use Rattle.sheet_table.proofs.Sound.{RightTable, table-right, table-few}
 
 -- columns that are cut are the relation's own
 record Narrow (r : Relation) : Type 0 where
-  columns : min most-columns r.columns ≡ r.columns
-  key : min most-columns r.key ≡ r.key
+  columns : min most_columns r.columns ≡ r.columns
+  key : min most_columns r.key ≡ r.key
 
 nothing : (j : ℕ) → get_or (relation_numbers unknown) j 0 ≡ 0
 nothing zero = refl
@@ -27,7 +27,7 @@ nothing (suc zero) = refl
 nothing (suc (suc zero)) = refl
 nothing (suc (suc (suc j))) = refl
 
-module _ (rs : List Relation) (right : RightTable rs) (few : length rs ≤ most-relations) where
+module _ (rs : List Relation) (right : RightTable rs) (few : length rs ≤ most_relations) where
   abbrev at : ℕ → Relation
   at n = get_or rs n unknown
 
@@ -44,21 +44,21 @@ module _ (rs : List Relation) (right : RightTable rs) (few : length rs ≤ most-
 
   -- number j of the relation at place n, also past the last
   number-at : (n j : ℕ) → j < 3 → get_or (table_numbers rs) (n * 3 + j) 0 ≡ get_or (relation_numbers (at n)) j 0
-  number-at n j lt = go (ltb n most-relations) refl
+  number-at n j lt = go (ltb n most_relations) refl
     where
-      go : (b : Bool) → ltb n most-relations ≡ b → get_or (table_numbers rs) (n * 3 + j) 0 ≡ get_or (relation_numbers (at n)) j 0
-      go true e = numbers-at most-relations n j rs (ltb-true n most-relations e) lt
+      go : (b : Bool) → ltb n most_relations ≡ b → get_or (table_numbers rs) (n * 3 + j) 0 ≡ get_or (relation_numbers (at n)) j 0
+      go true e = numbers-at most_relations n j rs (ltb-true n most_relations e) lt
       go false e =
-          let h = ltb-false n most-relations e in
-          let l = numbers-length most-relations rs in
+          let h = ltb-false n most_relations e in
+          let l = numbers-length most_relations rs in
           get_or-eq_default (table_numbers rs) 0 (omega arith)
           ∙ sym (ap (λ r. get_or (relation_numbers r) j 0) (get_or-eq_default rs unknown (omega arith)) ∙ nothing j)
 
   at_place : (n : ℕ) → table_in (table_numbers rs) n ≡ table_by rs n
   at_place n =
       let q = narrow n in
-      let c = ap (λ i. min most-columns (get_or (table_numbers rs) i 0)) (let e : n * 3 ≡ n * 3 + 0 = omega arith in e) ∙ ap (min most-columns) (number-at n 0 (omega arith)) ∙ q.columns in
-      let k = ap (min most-columns) (number-at n 1 (omega arith)) ∙ q.key in
+      let c = ap (λ i. min most_columns (get_or (table_numbers rs) i 0)) (let e : n * 3 ≡ n * 3 + 0 = omega arith in e) ∙ ap (min most_columns) (number-at n 0 (omega arith)) ∙ q.columns in
+      let k = ap (min most_columns) (number-at n 1 (omega arith)) ∙ q.key in
       let p = number-at n 2 (omega arith) in
       λ i. record { columns = c i; key = k i; parent = p i }
 

@@ -7,7 +7,7 @@ use native.Mathlib.Omega.{arith}
 use borrow.Author.Tests.{ltb-true, ltb-false, lt-ltb, le-ltb}
 use lib.Dec.{ltb}
 use lib.ListN.{length, take, drop, replicate, length-append, length-drop, length-map, drop_of_length-le}
-use Rattle.sheet_format.specs.Limits.{most-relations}
+use Rattle.sheet_format.specs.Limits.{most_relations}
 use Rattle.sheet_format.specs.Table.{Relation}
 use Rattle.sheet_format.specs.Line.{Line, null, line_of, byte_lines}
 use Rattle.sheet_format.specs.Cause.{refusal, none}
@@ -36,7 +36,7 @@ next-line s at lt = go (ltb (at + before_end (drop at s)) (length s)) refl
 pub record Reading (s ns : List ℕ) (n at : ℕ) : Type 0 where
   pub lines : List Line
   pub count : length lines ≡ n
-  pub few : n ≤ most-relations
+  pub few : n ≤ most_relations
   pub inside : at ≤ length s
   pub numbers : ns ≡ table_numbers (map relation_on_line lines)
   pub rest : byte_lines s ≡ lines ++ byte_lines (drop at s)
@@ -59,17 +59,17 @@ module _ (s ns : List ℕ) (n at : ℕ) (r : Reading s ns n at) where
 
   -- ---- a line that is not right, or is one too many
 
-  refused-here : (l : Line) (q : List Line) → byte_lines (drop at s) ≡ l ∷ q → ltb (length taken) most-relations && line_right taken l ≡ false → table_refusal s ≡ refusal 15 (n + 1)
+  refused-here : (l : Line) (q : List Line) → byte_lines (drop at s) ≡ l ∷ q → ltb (length taken) most_relations && line_right taken l ≡ false → table_refusal s ≡ refusal 15 (n + 1)
   unfolding table_refusal lines_refusal
   refused-here l q e h =
       rw (ap null (r.rest ∙ ap (λ x. r.lines ++ x) e) ∙ not_null r.lines q l)
       (r.so_far ∙ ap (lines_refusal taken) e ∙ rw h (ap (λ k. refusal 15 (k + 1)) taken-length))
 
-  pub too_many : n ≡ most-relations → at < length s → table_refusal s ≡ refusal 15 (n + 1)
+  pub too_many : n ≡ most_relations → at < length s → table_refusal s ≡ refusal 15 (n + 1)
   too_many e lt =
       let t = taken-length in
       let (l, q, is) = next-line s at lt in
-      refused-here l q is (rw (le-ltb (length taken) most-relations (omega arith)))
+      refused-here l q is (rw (le-ltb (length taken) most_relations (omega arith)))
 
   and_no : (a b : Bool) → b ≡ false → (a && b) ≡ false
   and_no true b e = e
@@ -80,7 +80,7 @@ module _ (s ns : List ℕ) (n at : ℕ) (r : Reading s ns n at) where
   no_line = refl
 
   pub unclosed : at < length s → at + before_end (drop at s) ≡ length s → table_refusal s ≡ refusal 15 (n + 1)
-  unclosed lt e = refused-here [] [] (line_stays_open s at lt e) (and_no (ltb (length taken) most-relations) (line_right taken []) no_line)
+  unclosed lt e = refused-here [] [] (line_stays_open s at lt e) (and_no (ltb (length taken) most_relations) (line_right taken []) no_line)
 
   -- ---- a closed line
 
@@ -96,13 +96,13 @@ module _ (s ns : List ℕ) (n at : ℕ) (r : Reading s ns n at) where
 
     not_right : TakenLine s at e ns us n false → table_refusal s ≡ refusal 15 (n + 1)
     not_right w =
-        refused-here line after closes (and_no (ltb (length taken) most-relations) (line_right taken line) (sym (w.right taken taken-length r.numbers)))
+        refused-here line after closes (and_no (ltb (length taken) most_relations) (line_right taken line) (sym (w.right taken taken-length r.numbers)))
 
-    goes_on : n < most-relations → line_right taken line ≡ true → lines_refusal taken (line ∷ after) ≡ lines_refusal (taken ++ (relation_on_line line ∷ [])) after
+    goes_on : n < most_relations → line_right taken line ≡ true → lines_refusal taken (line ∷ after) ≡ lines_refusal (taken ++ (relation_on_line line ∷ [])) after
     unfolding lines_refusal
-    goes_on f h = let t = taken-length in rw (lt-ltb (length taken) most-relations (omega arith), h)
+    goes_on f h = let t = taken-length in rw (lt-ltb (length taken) most_relations (omega arith), h)
 
-    reading-more : n < most-relations → TakenLine s at e ns us n true → Reading s us (n + 1) (e + 1)
+    reading-more : n < most_relations → TakenLine s at e ns us n true → Reading s us (n + 1) (e + 1)
     reading-more f w =
         let m = map_append relation_on_line r.lines (line ∷ []) in
         record {
@@ -150,7 +150,7 @@ module _ (s ns : List ℕ) (n at : ℕ) (r : Reading s ns n at) where
 -- a line that closes at e, taken behind the lines so far; whether it is right
 pub record LineTaken (s ns us : List ℕ) (n at e : ℕ) (r : Bool) : Type 0 where
   pub so_far : Reading s ns n at
-  pub room : n < most-relations
+  pub room : n < most_relations
   pub end : e ≡ at + before_end (drop at s)
   pub from : at ≤ e
   pub closed : e < length s

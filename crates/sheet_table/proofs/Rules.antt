@@ -9,7 +9,7 @@ use lib.Dec.{eqb}
 use lib.IntN.{ℤ, pos, negsuc}
 use lib.ListN.{get_or}
 use lib.Signed.{lt_z}
-use Rattle.sheet_format.specs.Limits.{field_end, most-columns}
+use Rattle.sheet_format.specs.Limits.{field_end, most_columns}
 use Rattle.sheet_table.specs.Numbers.{plain_number, parent_obeys, line_obeys}
 
 pub below-zero : (z : ℤ) → lt_z z (pos 0) ≡ true → field_end ≡ plain_number z
@@ -48,12 +48,12 @@ module _ (ns : List ℕ) (n m c k p : ℕ) where
 
   pub many-columns : m ≡ n + 1 → 1 ≤ c → 4 < c → false ≡ line_obeys ns n m c k p
   unfolding line_obeys
-  many-columns e le lt = rw (eq-eqb m (n + 1) e, le-leb 1 c le, lt-leb c most-columns lt)
+  many-columns e le lt = rw (eq-eqb m (n + 1) e, le-leb 1 c le, lt-leb c most_columns lt)
 
   pub wide_key : m ≡ n + 1 → 1 ≤ c → c ≤ 4 → c ≤ k → false ≡ line_obeys ns n m c k p
   unfolding line_obeys
-  wide_key e le few w = rw (eq-eqb m (n + 1) e, le-leb 1 c le, le-leb c most-columns few, le-ltb k c w)
+  wide_key e le few w = rw (eq-eqb m (n + 1) e, le-leb 1 c le, le-leb c most_columns few, le-ltb k c w)
 
   pub parent-left : m ≡ n + 1 → 1 ≤ c → c ≤ 4 → k < c → parent_obeys ns n c p ≡ line_obeys ns n m c k p
   unfolding line_obeys
-  parent-left e le few lt = rw (eq-eqb m (n + 1) e, le-leb 1 c le, le-leb c most-columns few, lt-ltb k c lt)
+  parent-left e le few lt = rw (eq-eqb m (n + 1) e, le-leb 1 c le, le-leb c most_columns few, lt-ltb k c lt)

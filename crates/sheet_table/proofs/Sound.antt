@@ -9,7 +9,7 @@ use borrow.Author.Tests.{eqb-true, leb-true, ltb-true, ltb-false}
 use lib.Dec.{eqb, ltb, leb}
 use lib.ListN.{length, get_or, length-append, get_or-append, get_or-eq_default}
 use lib.Seq.{get_or-append_seam}
-use Rattle.sheet_format.specs.Limits.{most-relations, most-columns}
+use Rattle.sheet_format.specs.Limits.{most_relations, most_columns}
 use Rattle.sheet_format.specs.Table.{Relation, unknown, relation, Sound, table_by}
 use Rattle.sheet_format.specs.Line.{Line, null, byte_lines}
 use Rattle.sheet_format.specs.Cause.{refusal}
@@ -24,7 +24,7 @@ pub record FittingParent (rs : List Relation) (r : Relation) : Type 0 where
 
 pub record RightRelation (rs : List Relation) (r : Relation) : Type 0 where
   pub some : 1 ≤ r.columns
-  pub few : r.columns ≤ most-columns
+  pub few : r.columns ≤ most_columns
   pub key : r.key < r.columns
   pub parent : (r.parent ≡ 0) ⊎ FittingParent rs r
 
@@ -69,8 +69,8 @@ line-fits rs l e =
     let i = (both (in_order rs (number_in l)) (columns_right r && (key_right r && parent_right rs r)) h).1 in
     let (c, j) = both (columns_right r) (key_right r && parent_right rs r) i in
     let (k, p) = both (key_right r) (parent_right rs r) j in
-    let (s, f) = both (leb 1 r.columns) (leb r.columns most-columns) c in
-    record { some = leb-true 1 r.columns s; few = leb-true r.columns most-columns f; key = ltb-true r.key r.columns k; parent = parent-fits rs r p }
+    let (s, f) = both (leb 1 r.columns) (leb r.columns most_columns) c in
+    record { some = leb-true 1 r.columns s; few = leb-true r.columns most_columns f; key = ltb-true r.key r.columns k; parent = parent-fits rs r p }
 
 one_more : (rs : List Relation) (r : Relation) → RightTable rs → RightRelation rs r → RightTable (rs ++ (r ∷ []))
 one_more rs r h q = record { each = λ n lt. go n lt (ltb n (length rs)) refl }
@@ -87,16 +87,16 @@ one_more rs r h q = record { each = λ n lt. go n lt (ltb n (length rs)) refl }
 
 -- ---- all lines
 
-passed-line : (rs : List Relation) (l : Line) (ls : List Line) → (lines_refusal rs (l ∷ ls)).number ≡ 0 → (length rs < most-relations) × (line_right rs l ≡ true) × ((lines_refusal (rs ++ (relation_on_line l ∷ [])) ls).number ≡ 0)
+passed-line : (rs : List Relation) (l : Line) (ls : List Line) → (lines_refusal rs (l ∷ ls)).number ≡ 0 → (length rs < most_relations) × (line_right rs l ≡ true) × ((lines_refusal (rs ++ (relation_on_line l ∷ [])) ls).number ≡ 0)
 unfolding lines_refusal
-passed-line rs l ls h = go (ltb (length rs) most-relations && line_right rs l) refl h
+passed-line rs l ls h = go (ltb (length rs) most_relations && line_right rs l) refl h
   where
-    go : (b : Bool) → ltb (length rs) most-relations && line_right rs l ≡ b → (cond b (lines_refusal (rs ++ (relation_on_line l ∷ [])) ls) (refusal 15 (length rs + 1))).number ≡ 0
-        → (length rs < most-relations) × (line_right rs l ≡ true) × ((lines_refusal (rs ++ (relation_on_line l ∷ [])) ls).number ≡ 0)
-    go true e z = let (a, b) = both (ltb (length rs) most-relations) (line_right rs l) e in (ltb-true (length rs) most-relations a, b, z)
+    go : (b : Bool) → ltb (length rs) most_relations && line_right rs l ≡ b → (cond b (lines_refusal (rs ++ (relation_on_line l ∷ [])) ls) (refusal 15 (length rs + 1))).number ≡ 0
+        → (length rs < most_relations) × (line_right rs l ≡ true) × ((lines_refusal (rs ++ (relation_on_line l ∷ [])) ls).number ≡ 0)
+    go true e z = let (a, b) = both (ltb (length rs) most_relations) (line_right rs l) e in (ltb-true (length rs) most_relations a, b, z)
     go false e z = absurd (omega arith)
 
-lines-right : (ls : List Line) (rs : List Relation) → (lines_refusal rs ls).number ≡ 0 → RightTable rs → length rs ≤ most-relations → RightTable (rs ++ map relation_on_line ls) × (length (rs ++ map relation_on_line ls) ≤ most-relations)
+lines-right : (ls : List Line) (rs : List Relation) → (lines_refusal rs ls).number ≡ 0 → RightTable rs → length rs ≤ most_relations → RightTable (rs ++ map relation_on_line ls) × (length (rs ++ map relation_on_line ls) ≤ most_relations)
 lines-right [] rs h g le = rw (append-nil rs) (g, le)
 lines-right (l ∷ ls) rs h g le =
     let (lt, r, z) = passed-line rs l ls h in
@@ -122,7 +122,7 @@ unfolding relations_of
 table-right s h = (lines-right (byte_lines s) [] (taken-lines s h) no-relations (omega arith)).0
 
 -- it has at most 32 relations
-pub table-few : (s : List ℕ) → (table_refusal s).number ≡ 0 → length (relations_of s) ≤ most-relations
+pub table-few : (s : List ℕ) → (table_refusal s).number ≡ 0 → length (relations_of s) ≤ most_relations
 unfolding relations_of
 table-few s h = (lines-right (byte_lines s) [] (taken-lines s h) no-relations (omega arith)).1
 

@@ -1,6 +1,6 @@
 -- What the contracts of private functions cite. No promise to a caller rests on it.
 use Rattle.std.specs.Prelude.{◌≡◌, Bool, true, ◌&&◌, ◌||◌, List, [], ◌∷◌, ◌++◌, ℕ, zero, suc, ◌+◌, ◌-◌, ◌*◌, eqb, ltb, leb, ℤ, pos, negsuc, length, take, drop, get_or, set}
-use Rattle.sheet_format.specs.Limits.{field_end, most-columns, most-relations}
+use Rattle.sheet_format.specs.Limits.{field_end, most_columns, most_relations}
 use Rattle.sheet_format.specs.Table.{Relation, unknown}
 use Rattle.sheet_format.specs.Line.{line_of}
 use Rattle.sheet_format.specs.declared.Refusal.{Refusal}
@@ -23,7 +23,7 @@ parent_obeys ns n c p = eqb p 0 || (leb p n && (eqb (get_or ns ((p - 1) * 3) 0) 
 
 -- all rules of a line with the number m
 unfoldable pub line_obeys : List ℕ → ℕ → ℕ → ℕ → ℕ → ℕ → Bool
-line_obeys ns n m c k p = eqb m (n + 1) && ((leb 1 c && leb c most-columns) && (ltb k c && parent_obeys ns n c p))
+line_obeys ns n m c k p = eqb m (n + 1) && ((leb 1 c && leb c most_columns) && (ltb k c && parent_obeys ns n c p))
 
 -- columns, key and parent of each of k relations, one after the other; 0 past the last
 abbrev pub relation_numbers : Relation → List ℕ
@@ -34,7 +34,7 @@ numbers_of zero rs = []
 numbers_of (suc k) rs = relation_numbers (get_or rs 0 unknown) ++ numbers_of k (drop 1 rs)
 
 abbrev pub table_numbers : List Relation → List ℕ
-table_numbers rs = numbers_of most-relations rs
+table_numbers rs = numbers_of most_relations rs
 
 -- relation n put among the numbers
 unfoldable pub relation_put : List ℕ → ℕ → ℕ → ℕ → ℕ → List ℕ

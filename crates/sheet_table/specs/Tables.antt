@@ -1,6 +1,6 @@
 -- What the bytes of a table of relations mean: a line for each relation, its fields the sheet's own.
 use Rattle.std.specs.Prelude.{Bool, true, false, cond, ◌&&◌, ◌||◌, List, [], ◌∷◌, ◌++◌, map, ℕ, ◌+◌, eqb, ltb, leb, ℤ, pos, negsuc, length, get_or}
-use Rattle.sheet_format.specs.Limits.{most-relations, most-columns, table-fields}
+use Rattle.sheet_format.specs.Limits.{most_relations, most_columns, table_fields}
 use Rattle.sheet_format.specs.Table.{Relation, Table, relation, table_by}
 use Rattle.sheet_format.specs.Line.{Line, all, null, natural, byte_lines}
 use Rattle.sheet_format.specs.Cause.{refusal, none}
@@ -25,7 +25,7 @@ not_negative (pos n) = true
 not_negative (negsuc n) = false
 
 abbrev pub four_fields : Line → Bool
-four_fields l = eqb (length l) table-fields && all not_negative l
+four_fields l = eqb (length l) table_fields && all not_negative l
 
 -- numbers are 1 upward in order: rs are the relations of the lines before
 abbrev pub in_order : List Relation → ℕ → Bool
@@ -33,7 +33,7 @@ in_order rs n = eqb n (length rs + 1)
 
 -- 1 to 4 columns
 abbrev pub columns_right : Relation → Bool
-columns_right r = leb 1 r.columns && leb r.columns most-columns
+columns_right r = leb 1 r.columns && leb r.columns most_columns
 
 -- fewer key columns than columns; 0, for no key, are fewer too
 abbrev pub key_right : Relation → Bool
@@ -54,7 +54,7 @@ line_right rs l = four_fields l && relation_right rs (number_in l) (relation_on_
 -- 15 with the first line that is not right, or is the 33rd: rs are the relations of the lines before
 unfoldable pub lines_refusal : List Relation → List Line → Refusal
 lines_refusal rs [] = none
-lines_refusal rs (l ∷ ls) = cond (ltb (length rs) most-relations && line_right rs l) (lines_refusal (rs ++ (relation_on_line l ∷ [])) ls) (refusal 15 (length rs + 1))
+lines_refusal rs (l ∷ ls) = cond (ltb (length rs) most_relations && line_right rs l) (lines_refusal (rs ++ (relation_on_line l ∷ [])) ls) (refusal 15 (length rs + 1))
 
 -- 15 with line 0 for an empty table
 unfoldable pub table_refusal : List ℕ → Refusal

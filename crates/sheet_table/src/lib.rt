@@ -2,7 +2,7 @@
 #![tactic(auto)]
 
 ghost use Rattle.std.specs.Prelude.{◌≡◌, ◌≤◌, ◌<◌, length, replicate};
-ghost use Rattle.sheet_format.specs.Limits.{most-relations};
+ghost use Rattle.sheet_format.specs.Limits.{most_relations};
 ghost use Rattle.sheet_format.specs.Field.{field_at};
 ghost use Rattle.sheet_table.specs.Loads.{Loads};
 ghost use Rattle.sheet_table.specs.Numbers.{plain_number, plain_of, parent_obeys, line_obeys, relation_put, TakenLine, ReadLines};
@@ -40,7 +40,7 @@ fn plain_field(s: &[u8], at: usize) -> usize
 
 // Whether a parent is none, or one of the n relations before, with as many columns and without parent.
 fn parent_fits(ns: &[usize; TABLE_NUMBERS], n: usize, columns: usize, parent: usize) -> bool
-    requires { n ≤ most-relations }
+    requires { n ≤ most_relations }
     ensures { result ≡ parent_obeys ns.now n columns parent }
 {
     if parent == 0 {
@@ -65,7 +65,7 @@ fn line_fits(
     key: usize,
     parent: usize,
 ) -> bool
-    requires { n ≤ most-relations }
+    requires { n ≤ most_relations }
     ensures { result ≡ line_obeys ns.now n number columns key parent }
 {
     if number != n + 1 {
@@ -91,7 +91,7 @@ fn put_relation(
     key: usize,
     parent: usize,
 )
-    requires { n < most-relations }
+    requires { n < most_relations }
     ensures { ns.new ≡ relation_put ns.old n columns key parent }
 {
     let at = n * RELATION_NUMBERS;
@@ -102,7 +102,7 @@ fn put_relation(
 
 // Takes the line between two places as the one that follows n relations; whether it is right.
 fn take_line(s: &[u8], at: usize, e: usize, ns: &mut [usize; TABLE_NUMBERS], n: usize) -> bool
-    requires { (at ≤ e) × (e ≤ length s.now) × (n < most-relations) }
+    requires { (at ≤ e) × (e ≤ length s.now) × (n < most_relations) }
     ensures { TakenLine s.now at e ns.old ns.new n result }
 {
     if e - at != TABLE_LINE_BYTES {

@@ -10,7 +10,7 @@ use lib.IntN.{ℤ, pos, negsuc, ◌-ℤ◌}
 use lib.ListN.{get_or}
 use lib.Signed.{lt_z}
 use borrow.Author.Tests.{ltb-true, ltb-false, lt-ltb, le-ltb, leb-true}
-use Rattle.sheet_format.specs.Limits.{constant-end, most-columns, relation-numbers}
+use Rattle.sheet_format.specs.Limits.{constant_end, most_columns, relation_number_count}
 use Rattle.sheet_format.specs.Line.{all, natural}
 use Rattle.sheet_format.proofs.Lists.{no_way}
 use Rattle.sheet_format.proofs.TableLaws.{Narrow}
@@ -34,15 +34,15 @@ unfolding term_of
 term-low (pos n) e = no_way e
 term-low (negsuc n) e = ap (λ b. or_out b (Variable (suc n))) (sym (le-ltb n 12 (let h = ltb-true 11 n e in omega arith)))
 
-pub constant : (z : ℤ) → lt_z z (pos 0) ≡ false → lt_z z (pos constant-end) ≡ true → (n : ℕ) × (n < constant-end) × (z ≡ pos n)
-constant (pos n) e f = (n, ltb-true n constant-end f, refl)
+pub constant : (z : ℤ) → lt_z z (pos 0) ≡ false → lt_z z (pos constant_end) ≡ true → (n : ℕ) × (n < constant_end) × (z ≡ pos n)
+constant (pos n) e f = (n, ltb-true n constant_end f, refl)
 constant (negsuc n) e f = no_way (sym e)
 
-pub term-constant : (n : ℕ) → n < constant-end → Constant n ≡ term_of (pos n)
+pub term-constant : (n : ℕ) → n < constant_end → Constant n ≡ term_of (pos n)
 unfolding term_of
-term-constant n h = ap (λ b. or_out b (Constant n)) (sym (lt-ltb n constant-end h))
+term-constant n h = ap (λ b. or_out b (Constant n)) (sym (lt-ltb n constant_end h))
 
-pub term-high : (z : ℤ) → lt_z z (pos constant-end) ≡ false → OutOfRange ≡ term_of z
+pub term-high : (z : ℤ) → lt_z z (pos constant_end) ≡ false → OutOfRange ≡ term_of z
 unfolding term_of
 term-high (pos n) e = ap (λ b. or_out b (Constant n)) (sym e)
 term-high (negsuc n) e = no_way (sym e)
@@ -67,15 +67,15 @@ suc_of (suc n) h = (n, refl)
 
 -- a number of a relation that plain numbers give
 module _ (ns : List ℕ) (n : ℕ) where
-  pub columns-at : min most-columns (get_or ns (n * relation-numbers + 0) 0) ≡ columns_of (table_in ns) (pos (suc n))
+  pub columns-at : min most_columns (get_or ns (n * relation_number_count + 0) 0) ≡ columns_of (table_in ns) (pos (suc n))
   unfolding columns_of relation
-  columns-at = ap (λ i. min most-columns (get_or ns i 0)) (add-zero (n * relation-numbers))
+  columns-at = ap (λ i. min most_columns (get_or ns i 0)) (add-zero (n * relation_number_count))
 
-  pub key-at : min most-columns (get_or ns (n * relation-numbers + 1) 0) ≡ (relation (table_in ns) (suc n)).key
+  pub key-at : min most_columns (get_or ns (n * relation_number_count + 1) 0) ≡ (relation (table_in ns) (suc n)).key
   unfolding relation
   key-at = refl
 
-  pub parent-at : get_or ns (n * relation-numbers + 2) 0 ≡ (relation (table_in ns) (suc n)).parent
+  pub parent-at : get_or ns (n * relation_number_count + 2) 0 ≡ (relation (table_in ns) (suc n)).parent
   unfolding relation
   parent-at = refl
 
@@ -91,7 +91,7 @@ columns-most ns (pos zero) = omega arith
 columns-most ns (pos (suc n)) = omega arith
 columns-most ns (negsuc n) = omega arith
 
-pub key-most : (ns : List ℕ) (n : ℕ) → (relation (table_in ns) n).key ≤ most-columns
+pub key-most : (ns : List ℕ) (n : ℕ) → (relation (table_in ns) n).key ≤ most_columns
 unfolding relation
 key-most ns zero = omega arith
 key-most ns (suc n) = omega arith

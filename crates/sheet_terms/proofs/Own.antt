@@ -8,14 +8,14 @@ use borrow.Author.Tests.{eqb-true}
 use lib.Dec.{eqb}
 use lib.ListN.{get_or, drop, length, replicate}
 use lib.Seq.{get_or-drop}
-use Rattle.sheet_format.specs.Limits.{most-columns, relation-numbers, table-numbers}
+use Rattle.sheet_format.specs.Limits.{most_columns, relation_number_count, table_number_count}
 use Rattle.sheet_format.specs.Table.{Relation, Table, unknown, table_in, ten_relations, ten}
 use Rattle.sheet_format.specs.Line.{all, gather}
 use Rattle.sheet_format.proofs.Lists.{both}
 
 -- the ten relations' numbers, and 0 up to the table's end
 abbrev own : List ℕ
-own = gather (λ (r : Relation). r.columns ∷ r.key ∷ r.parent ∷ []) ten_relations ++ replicate (table-numbers - 30) 0
+own = gather (λ (r : Relation). r.columns ∷ r.key ∷ r.parent ∷ []) ten_relations ++ replicate (table_number_count - 30) 0
 
 zeros : (l : List ℕ) → all (λ n. eqb n 0) l ≡ true → (j : ℕ) → get_or l j 0 ≡ 0
 zeros [] e j = refl
@@ -37,9 +37,9 @@ at_place (suc (suc (suc (suc (suc (suc (suc zero))))))) = refl
 at_place (suc (suc (suc (suc (suc (suc (suc (suc zero)))))))) = refl
 at_place (suc (suc (suc (suc (suc (suc (suc (suc (suc zero))))))))) = refl
 at_place (suc (suc (suc (suc (suc (suc (suc (suc (suc (suc n)))))))))) = λ i. record {
-  columns = min most-columns (past (m * relation-numbers) (omega arith) i);
-  key = min most-columns (past (m * relation-numbers + 1) (omega arith) i);
-  parent = past (m * relation-numbers + 2) (omega arith) i;
+  columns = min most_columns (past (m * relation_number_count) (omega arith) i);
+  key = min most_columns (past (m * relation_number_count + 1) (omega arith) i);
+  parent = past (m * relation_number_count + 2) (omega arith) i;
 }
   where
     m : ℕ

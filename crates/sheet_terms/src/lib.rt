@@ -2,7 +2,7 @@
 #![tactic(auto)]
 
 ghost use Rattle.std.specs.Prelude.{◌≡◌, ◌+◌, ◌*◌, ◌<◌, ◌≤◌, min, get_or};
-ghost use Rattle.sheet_format.specs.Limits.{most-columns, relation-numbers};
+ghost use Rattle.sheet_format.specs.Limits.{most_columns, relation_number_count};
 ghost use Rattle.sheet_format.specs.Cause.{term_of};
 ghost use Rattle.sheet_format.specs.Line.{natural};
 ghost use Rattle.sheet_format.specs.Table.{columns_of, relation, table_in, ten};
@@ -31,7 +31,7 @@ pub fn term_of(t: i32) -> FieldTerm
 
 // Number j of the relation at place n of a table, both from 0; 0 past the table's end.
 fn number_in(table: &[usize], n: usize, j: usize) -> usize
-    ensures { j < relation-numbers → result ≡ get_or table.now (n * relation-numbers + j) 0 }
+    ensures { j < relation_number_count → result ≡ get_or table.now (n * relation_number_count + j) 0 }
 {
     if table.len() / RELATION_NUMBERS < n {
         return 0;
@@ -48,7 +48,7 @@ fn number_in(table: &[usize], n: usize, j: usize) -> usize
 
 // A number of columns, cut at as many as a fact has values.
 fn cut(n: usize) -> usize
-    ensures { result ≡ min most-columns n }
+    ensures { result ≡ min most_columns n }
 {
     if MOST_COLUMNS < n {
         return MOST_COLUMNS;
@@ -69,7 +69,7 @@ pub fn columns(table: &[usize], relation: i32) -> usize
 
 // How many of a relation's columns settle the others, 0 where it has no key.
 pub fn key(table: &[usize], number: usize) -> usize
-    ensures { (result ≡ (relation (table_in table.now) number).key) × (result ≤ most-columns) }
+    ensures { (result ≡ (relation (table_in table.now) number).key) × (result ≤ most_columns) }
 {
     if number == 0 {
         return 0;

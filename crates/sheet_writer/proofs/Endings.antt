@@ -7,7 +7,7 @@ use borrow.Author.Tests.{lt-ltb, le-ltb, eq-eqb, ne_eqb}
 use lib.IntN.{ℤ}
 use lib.ListN.{length}
 use Rattle.sheet_format.proofs.Endings.{refused-way, short-way, done-way}
-use Rattle.sheet_format.specs.Limits.{most-words, most_bytes, line-words}
+use Rattle.sheet_format.specs.Limits.{most_words, most_bytes, line_word_count}
 use Rattle.sheet_format.specs.Line.{bytes_of, word_lines}
 use Rattle.sheet_format.specs.Table.{Table}
 use Rattle.sheet_format.specs.Cause.{refusal, refusal_of}
@@ -26,35 +26,35 @@ module _ (table : Table) where
   size ws = length (bytes_of (word_lines ws))
 
   module _ (ws : List ℤ) (out : List ℕ) where
-    long-words : most-words < length ws → refusal 1 0 ≡ words_refusal table ws
+    long-words : most_words < length ws → refusal 1 0 ≡ words_refusal table ws
     unfolding words_refusal
-    long-words lt = rw (lt-ltb most-words (length ws) lt)
+    long-words lt = rw (lt-ltb most_words (length ws) lt)
 
-    odd_words : length ws ≤ most-words → (length ws % line-words ≡ 0 → ⊥) → refusal 2 0 ≡ words_refusal table ws
+    odd_words : length ws ≤ most_words → (length ws % line_word_count ≡ 0 → ⊥) → refusal 2 0 ≡ words_refusal table ws
     unfolding words_refusal
-    odd_words le h = rw (le-ltb most-words (length ws) le, ne_eqb (length ws % line-words) 0 h)
+    odd_words le h = rw (le-ltb most_words (length ws) le, ne_eqb (length ws % line_word_count) 0 h)
 
-    whole_words : length ws ≤ most-words → length ws % line-words ≡ 0 → (r : Refusal) → r ≡ refusal_of table (word_lines ws) → r ≡ words_refusal table ws
+    whole_words : length ws ≤ most_words → length ws % line_word_count ≡ 0 → (r : Refusal) → r ≡ refusal_of table (word_lines ws) → r ≡ words_refusal table ws
     unfolding words_refusal
-    whole_words le e r is = rw (le-ltb most-words (length ws) le, eq-eqb (length ws % line-words) 0 e) is
+    whole_words le e r is = rw (le-ltb most_words (length ws) le, eq-eqb (length ws % line_word_count) 0 e) is
 
-    pub write_long : most-words < length ws → WriteEnded ws out out (Refused 1 0)
+    pub write_long : most_words < length ws → WriteEnded ws out out (Refused 1 0)
     unfolding write_ending write_bytes
     write_long lt = refused-way (words_refusal table ws) most_bytes (size ws) (bytes_of (word_lines ws)) out (refusal 1 0) (long-words lt) (λ e. omega arith)
 
-    pub write_odd : length ws ≤ most-words → (length ws % line-words ≡ 0 → ⊥) → WriteEnded ws out out (Refused 2 0)
+    pub write_odd : length ws ≤ most_words → (length ws % line_word_count ≡ 0 → ⊥) → WriteEnded ws out out (Refused 2 0)
     unfolding write_ending write_bytes
     write_odd le h = refused-way (words_refusal table ws) most_bytes (size ws) (bytes_of (word_lines ws)) out (refusal 2 0) (odd_words le h) (λ e. omega arith)
 
-    pub write_refused : length ws ≤ most-words → length ws % line-words ≡ 0 → (r : Refusal) → r ≡ refusal_of table (word_lines ws) → (r.number ≡ 0 → ⊥) → WriteEnded ws out out (Refused r.number r.line)
+    pub write_refused : length ws ≤ most_words → length ws % line_word_count ≡ 0 → (r : Refusal) → r ≡ refusal_of table (word_lines ws) → (r.number ≡ 0 → ⊥) → WriteEnded ws out out (Refused r.number r.line)
     unfolding write_ending write_bytes
     write_refused le e r is h = refused-way (words_refusal table ws) most_bytes (size ws) (bytes_of (word_lines ws)) out r (whole_words le e r is) h
 
-    pub write_short : length ws ≤ most-words → length ws % line-words ≡ 0 → (r : Refusal) → r ≡ refusal_of table (word_lines ws) → r.number ≡ 0 → length out < most_bytes → WriteEnded ws out out (Refused 13 0)
+    pub write_short : length ws ≤ most_words → length ws % line_word_count ≡ 0 → (r : Refusal) → r ≡ refusal_of table (word_lines ws) → r.number ≡ 0 → length out < most_bytes → WriteEnded ws out out (Refused 13 0)
     unfolding write_ending write_bytes
     write_short le e r is z lt = short-way (words_refusal table ws) most_bytes (size ws) (bytes_of (word_lines ws)) out (ap (λ x. x.number) (sym (whole_words le e r is)) ∙ z) lt
 
-    pub write_done : length ws ≤ most-words → length ws % line-words ≡ 0 → (r : Refusal) → r ≡ refusal_of table (word_lines ws) → r.number ≡ 0 → most_bytes ≤ length out
+    pub write_done : length ws ≤ most_words → length ws % line_word_count ≡ 0 → (r : Refusal) → r ≡ refusal_of table (word_lines ws) → r.number ≡ 0 → most_bytes ≤ length out
         → (after : List ℕ) (n : ℕ) → Wrote out after 0 n (bytes_of (word_lines ws)) → WriteEnded ws out after (Done n)
     unfolding write_ending write_bytes
     write_done le e r is z room after n w =

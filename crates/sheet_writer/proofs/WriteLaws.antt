@@ -10,7 +10,7 @@ use lib.IntN.{ℤ, pos}
 use lib.ListN.{length, take, drop, get_or, set}
 use lib.Seq.{take-suc, take-length, length-take-le}
 use Rattle.list_laws.proofs.Lists.{part_get, part_length}
-use Rattle.sheet_format.specs.Limits.{most-lines}
+use Rattle.sheet_format.specs.Limits.{most_lines}
 use Rattle.sheet_format.proofs.WordLines.{sevens_get}
 use Rattle.sheet_format.proofs.WordLines as words
 use Rattle.sheet_format.specs.Field.{field_bytes}
@@ -74,7 +74,7 @@ goods_take (suc n) [] g = tt
 goods_take (suc n) (l ∷ ls) g = (g.0, goods_take n ls g.1)
 
 module _ (table : Table) (ws : List ℤ) (clean : (refusal_of table (word_lines ws)).number ≡ 0) where
-  pub few-lines : length ws / 7 ≤ most-lines
+  pub few-lines : length ws / 7 ≤ most_lines
   few-lines = let e = sevens-length (length ws / 7) ws in let h = accepted-length table (word_lines ws) clean in omega arith
 
   pub line-formed : (i : ℕ) → i < length ws / 7 → null (word_line (seven_at ws i)) ≡ false

@@ -6,13 +6,13 @@ use native.Mathlib.Omega.{arith}
 use native.Mathlib.Decide.{ℕ_discrete, dec_lt}
 use lib.ListN.{length, get_or, set, length-set}
 use lib.Seq.{get_or-set_same, get_or-set_other, ext_get_or}
-use Rattle.sheet_format.specs.Limits.{most-atoms}
-use Rattle.query_layout.specs.Layout.{block-head}
+use Rattle.sheet_format.specs.Limits.{most_atoms}
+use Rattle.query_layout.specs.Layout.{block_head}
 use Rattle.list_laws.specs.Order.{◌⊏◌, SameBefore}
 use Rattle.list_laws.proofs.Order.{order}
 use Rattle.query_join.specs.Joins.{value_of, Given}
 use Rattle.query_answers.proofs.Rows.{given-column, given-length}
-use Rattle.tableau_layout.specs.Layout.{question-block, list-block}
+use Rattle.tableau_layout.specs.Layout.{question_block, list_block}
 use Rattle.tableau_plan.specs.Plan.{block_numbers, block_size}
 use Rattle.tableau_parts.specs.Views.{GivenAt, GivenToList}
 use Rattle.tableau_dominance.specs.Dominated.{Dominated, TermAmong, DominatedTo, GivenBelow, GivenUpTo}
@@ -27,13 +27,13 @@ put_back w k b x lt e = ext_get_or 0 (set (set w k b) k x) w (length-set (set w 
 
 -- a row with a dominated value is given to a list where the rows below it are
 pub dominated_given : (p facts row w : List ℕ) (k b x : ℕ) → k < 4 → length row ≡ 4 → b < get_or row k 0 → get_or w k 0 ≡ x → Dominated p facts k x b → GivenBelow p facts row
-    → GivenAt p question-block facts w → SameBefore k row w → GivenToList p facts w
+    → GivenAt p question_block facts w → SameBefore k row w → GivenToList p facts w
 dominated_given p facts row w k b x in-k long lt e d below g same =
     let l = below.all (set w k b) (d.asked.gives w g e) lower in
-    (l.0, l.1, subst (GivenAt p (list-block l.0) facts) (put_back w k b x inside e) ((d.listed l.0 l.1).gives (set w k b) l.2 here))
+    (l.0, l.1, subst (GivenAt p (list_block l.0) facts) (put_back w k b x inside e) ((d.listed l.0 l.1).gives (set w k b) l.2 here))
   where
     inside : k < length w
-    inside = let z = given-length (block_numbers p question-block) (min (block_size p question-block) most-atoms) facts w g in omega arith
+    inside = let z = given-length (block_numbers p question_block) (min (block_size p question_block) most_atoms) facts w g in omega arith
 
     here : get_or (set w k b) k 0 ≡ b
     here = get_or-set_same w k b 0 inside
@@ -45,7 +45,7 @@ dominated_given p facts row w k b x in-k long lt e d below g same =
         (let z = here in omega arith)
 
 -- the value of a row is one that a fact has where the head's variable stands
-pub value-fact : (blk : List ℕ) (n : ℕ) (facts w : List ℕ) (k at : ℕ) (g : Given blk n facts w) → k < 4 → TermAmong blk n (get_or blk (block-head + k) 0) at
+pub value-fact : (blk : List ℕ) (n : ℕ) (facts w : List ℕ) (k at : ℕ) (g : Given blk n facts w) → k < 4 → TermAmong blk n (get_or blk (block_head + k) 0) at
     → (i : ℕ) × (i < length facts / 5) × (get_or facts (i * 5) 0 ≡ get_or blk (at - at % 5) 0) × (get_or facts (i * 5 + at % 5) 0 ≡ get_or w k 0)
 value-fact blk n facts w k at g in-k t =
     let h = t.inside in
@@ -65,15 +65,15 @@ pub none-given : (p facts row : List ℕ) (k end : ℕ) → end ≤ get_or row k
 none-given p facts row k end le = record { each = λ _ w g same from to. absurd (omega arith) }
 
 -- a value is dominated that is the row's, or that a fact has
-pub given-to-end : (p facts row blk : List ℕ) (n k at b end : ℕ) → blk ≡ block_numbers p question-block → n ≡ min (block_size p question-block) most-atoms → k < 4 → length row ≡ 4
-    → b < get_or row k 0 → TermAmong blk n (get_or blk (block-head + k) 0) at → Dominated p facts k (get_or row k 0) b
+pub given-to-end : (p facts row blk : List ℕ) (n k at b end : ℕ) → blk ≡ block_numbers p question_block → n ≡ min (block_size p question_block) most_atoms → k < 4 → length row ≡ 4
+    → b < get_or row k 0 → TermAmong blk n (get_or blk (block_head + k) 0) at → Dominated p facts k (get_or row k 0) b
     → DominatedTo p facts k (get_or blk (at - at % 5) 0) (at % 5) (get_or row k 0) b end → GivenUpTo p facts row k end
 given-to-end p facts row blk n k at b end is-blk is-n in-k long lt t first rest = record { each = each }
   where
-    copied : (w : List ℕ) → GivenAt p question-block facts w → Given blk n facts w
-    copied w g = subst (λ l. Given l n facts w) (sym is-blk) (subst (λ m. Given (block_numbers p question-block) m facts w) (sym is-n) g)
+    copied : (w : List ℕ) → GivenAt p question_block facts w → Given blk n facts w
+    copied w g = subst (λ l. Given l n facts w) (sym is-blk) (subst (λ m. Given (block_numbers p question_block) m facts w) (sym is-n) g)
 
-    each : GivenBelow p facts row → (w : List ℕ) → GivenAt p question-block facts w → SameBefore k row w → get_or row k 0 ≤ get_or w k 0 → get_or w k 0 < end → GivenToList p facts w
+    each : GivenBelow p facts row → (w : List ℕ) → GivenAt p question_block facts w → SameBefore k row w → get_or row k 0 ≤ get_or w k 0 → get_or w k 0 < end → GivenToList p facts w
     each below w g same from to =
         dominated_given p facts row w k b (get_or w k 0) in-k long lt refl (side (dec_lt (get_or row k 0) (get_or w k 0))) below g same
       where

@@ -5,8 +5,8 @@
 #![tactic(auto)]
 
 ghost use Rattle.std.specs.Prelude.{◌≡◌, true, ℕ, ◌*◌, ◌/◌, ◌≤◌, ◌<◌, length};
-ghost use Rattle.sheet_format.specs.Limits.{most-atoms};
-ghost use Rattle.tableau_layout.specs.Layout.{most-blocks, plan-numbers, list-block};
+ghost use Rattle.sheet_format.specs.Limits.{most_atoms};
+ghost use Rattle.tableau_layout.specs.Layout.{most_blocks, plan_numbers, list_block};
 ghost use Rattle.tableau_plan.specs.Plan.{list_count};
 ghost use Rattle.tableau_parts.specs.Walks.{FormedPlan};
 ghost use Rattle.tableau_dominance.specs.Dominated.{DominatesAt, Dominated, TermAmong, DominatedFact, DominatedTo, GivenUpTo};
@@ -23,8 +23,8 @@ fn dominates_at(
     x: usize,
     y: usize,
 ) -> bool
-    requires { b < most-blocks }
-    ensures { length p.now ≡ plan-numbers → result ≡ true → DominatesAt p.now b facts.now k x y }
+    requires { b < most_blocks }
+    ensures { length p.now ≡ plan_numbers → result ≡ true → DominatesAt p.now b facts.now k x y }
 {
     let blk = tableau_parts::block_at(p, b);
     let n = p[SIZES_AT + b];
@@ -33,7 +33,7 @@ fn dominates_at(
 
 // Whether y dominates x in column k of each list's rows.
 fn lists_dominate(p: &[usize; PLAN_NUMBERS], facts: &[usize], k: usize, x: usize, y: usize) -> bool
-    ensures { FormedPlan p.now → result ≡ true → (i : ℕ) → i < list_count p.now → DominatesAt p.now (list-block i) facts.now k x y }
+    ensures { FormedPlan p.now → result ≡ true → (i : ℕ) → i < list_count p.now → DominatesAt p.now (list_block i) facts.now k x y }
 {
     let lists = tableau_parts::list_count(p);
     let mut i = 0;
@@ -58,7 +58,7 @@ fn is_dominated(p: &[usize; PLAN_NUMBERS], facts: &[usize], k: usize, a: usize, 
 
 // Where a term stands first in the first n atoms; past them if it does not.
 fn place_of(blk: &[usize; BLOCK_NUMBERS], n: usize, y: usize) -> usize
-    requires { n ≤ most-atoms }
+    requires { n ≤ most_atoms }
     ensures { result < n * 5 → TermAmong blk.now n y result }
 {
     let end = n * FACT_NUMBERS;

@@ -11,9 +11,9 @@ use lib.ListN.{length, get_or, drop, length-map, drop_of_length-le}
 use lib.Seq.{ext_get_or}
 use borrow.Author.Count.{below_more}
 use borrow.Author.Tests.{eqb-true, leb-true, leb-false, le-leb, lt-leb, ltb-true, ltb-false, ne_eqb, not-true, not-false}
-use Rattle.sheet_format.specs.Limits.{most-lists, most-views}
-use Rattle.query_layout.specs.Layout.{block-width}
-use Rattle.tableau_layout.specs.Layout.{blocks_at, most-blocks, plan-numbers, question-block, list-block, view-block}
+use Rattle.sheet_format.specs.Limits.{most_lists, most_views}
+use Rattle.query_layout.specs.Layout.{block_width}
+use Rattle.tableau_layout.specs.Layout.{blocks_at, most_blocks, plan_numbers, question_block, list_block, view_block}
 use Rattle.list_laws.proofs.Lists.{part_get, part_length, drop-next}
 use Rattle.sheet_format.proofs.Lists.{neither}
 use Rattle.sheet_format.specs.Table.{Table}
@@ -25,7 +25,7 @@ use Rattle.query_meaning.specs.Blocks.{View, view_of, blocks, all_blocks, block_
 use Rattle.query_encoding.specs.Encoding.{BlockNumbers, BlockFound, has_block}
 use Rattle.query_blocks.proofs.Accepted.{scan-first}
 use Rattle.case_verdicts.specs.Sheets.{is_saved, is_view_kind, lists_in}
-use Rattle.case_verdicts.proofs.Order.{block-question, lists-few, block-list, block_view, block-count}
+use Rattle.case_verdicts.proofs.Order.{block-question, lists_few, block-list, block_view, block-count}
 use Rattle.tableau_plan.specs.Plan.{block_numbers, block_size}
 use Rattle.tableau_plan.specs.Parts.{BlockStored, Blocks, place_of}
 use Rattle.query_blocks.specs.Parts.{AcceptedLines}
@@ -33,23 +33,23 @@ use Rattle.tableau_plan.proofs.Laws.{part_same}
 
 -- ---- at most eight views
 
-next-views : (g : Seen) (k : Kind) (n : ℕ) (v : View) (ws : List View) → g.views ≤ most-views → too_many_blocks g k ≡ false → ((next_by g k n).views ≤ most-views → (next_by g k n).views + length ws ≤ most-views) → g.views + length (cond (is_view_kind k) (v ∷ ws) ws) ≤ most-views
+next-views : (g : Seen) (k : Kind) (n : ℕ) (v : View) (ws : List View) → g.views ≤ most_views → too_many_blocks g k ≡ false → ((next_by g k n).views ≤ most_views → (next_by g k n).views + length ws ≤ most_views) → g.views + length (cond (is_view_kind k) (v ∷ ws) ws) ≤ most_views
 next-views g question n v ws h e ih = ih h
 next-views g saved n v ws h e ih = ih h
-next-views g view n v ws h e ih = let r = leb-false most-views g.views e in let i = ih (omega arith) in omega arith
+next-views g view n v ws h e ih = let r = leb-false most_views g.views e in let i = ih (omega arith) in omega arith
 next-views g atom n v ws h e ih = ih h
 next-views g row n v ws h e ih = ih h
 next-views g other n v ws h e ih = ih h
 
-few-views : (table : Table) (ls : List Line) (g : Seen) (b : Line) (n : ℕ) → g.views ≤ most-views → (scan table g b n ls).number ≡ 0 → g.views + length (blocks is_view_kind ls) ≤ most-views
+few_views : (table : Table) (ls : List Line) (g : Seen) (b : Line) (n : ℕ) → g.views ≤ most_views → (scan table g b n ls).number ≡ 0 → g.views + length (blocks is_view_kind ls) ≤ most_views
 unfolding next blocks
-few-views table [] g b n h s = omega arith
-few-views table (l ∷ ls) g b n h s =
+few_views table [] g b n h s = omega arith
+few_views table (l ∷ ls) g b n h s =
     let (c, r) = scan-first table l ls g b n s in
-    next-views g (kind l) (length (rest l)) (view_of l ls) (blocks is_view_kind ls) h c.room (λ i. few-views table ls (next g l) l (n + 1) i r)
+    next-views g (kind l) (length (rest l)) (view_of l ls) (blocks is_view_kind ls) h c.room (λ i. few_views table ls (next g l) l (n + 1) i r)
 
-pub accepted-views : (ls : List Line) → AcceptedLines ls → length (blocks is_view_kind ls) ≤ most-views
-accepted-views ls ok = let h = few-views ok.0 ls start [] 1 (omega arith) (eqb-true _ 0 (accepted-scan ok.0 ls ok.1)) in omega arith
+pub accepted-views : (ls : List Line) → AcceptedLines ls → length (blocks is_view_kind ls) ≤ most_views
+accepted-views ls ok = let h = few_views ok.0 ls start [] 1 (omega arith) (eqb-true _ 0 (accepted-scan ok.0 ls ok.1)) in omega arith
 
 -- ---- whether there is a block
 
@@ -107,17 +107,17 @@ place-low : (lists b : ℕ) → b ≤ lists → place_of lists b ≡ b
 unfolding place_of
 place-low lists b le = rw (le-leb b lists le)
 
-place-high : (lists b : ℕ) → lists < b → place_of lists b ≡ b + (most-lists - lists)
+place-high : (lists b : ℕ) → lists < b → place_of lists b ≡ b + (most_lists - lists)
 unfolding place_of
 place-high lists b lt = rw (lt-leb b lists lt)
 
 pub place-first : (lists b : ℕ) → b ≤ lists → b ≡ place_of lists b
 place-first lists b le = sym (place-low lists b le)
 
-pub place-full : (lists b : ℕ) → lists < b → most-lists ≤ lists → b ≡ place_of lists b
+pub place-full : (lists b : ℕ) → lists < b → most_lists ≤ lists → b ≡ place_of lists b
 place-full lists b lt le = let e = place-high lists b lt in omega arith
 
-pub place-later : (lists b : ℕ) → lists < b → b + (most-lists - lists) ≡ place_of lists b
+pub place-later : (lists b : ℕ) → lists < b → b + (most_lists - lists) ≡ place_of lists b
 place-later lists b lt = sym (place-high lists b lt)
 
 at_most : (m n : ℕ) → (m ≤ n) ⊎ (n < m)
@@ -139,26 +139,26 @@ place-rises lists c b lt = ⊎_elim
 
 pub record BlocksSoFar (p : List ℕ) (ls : List Line) (lists n : ℕ) : Type 0 where
   pub within : n ≤ length (all_blocks ls)
-  pub low : (b : ℕ) → b < n → place_of lists b < most-blocks
+  pub low : (b : ℕ) → b < n → place_of lists b < most_blocks
   pub each : (b : ℕ) → b < n → BlockNumbers (block_numbers p (place_of lists b)) (block_size p (place_of lists b)) (block_at ls (suc b))
 
 pub begun-none : (p : List ℕ) (ls : List Line) (lists : ℕ) → BlocksSoFar p ls lists 0
 begun-none p ls lists = record { within = omega arith; low = λ b h. absurd (omega arith); each = λ b h. absurd (omega arith) }
 
 -- a block stands in numbers that are the same
-pub numbers-same : (p q : List ℕ) (c : ℕ) (k : List ℕ → Type 0) → length p ≡ plan-numbers → length q ≡ plan-numbers → c < most-blocks
-    → ((y : ℕ) → blocks_at + c * block-width ≤ y → y < blocks_at + c * block-width + block-width → get_or q y 0 ≡ get_or p y 0) → k (block_numbers p c) → k (block_numbers q c)
-numbers-same p q c k s t lt e h = subst k (sym (part_same p q (blocks_at + c * block-width) block-width (omega arith) (t ∙ sym s) e)) h
+pub numbers-same : (p q : List ℕ) (c : ℕ) (k : List ℕ → Type 0) → length p ≡ plan_numbers → length q ≡ plan_numbers → c < most_blocks
+    → ((y : ℕ) → blocks_at + c * block_width ≤ y → y < blocks_at + c * block_width + block_width → get_or q y 0 ≡ get_or p y 0) → k (block_numbers p c) → k (block_numbers q c)
+numbers-same p q c k s t lt e h = subst k (sym (part_same p q (blocks_at + c * block_width) block_width (omega arith) (t ∙ sym s) e)) h
 
 -- one block more, at its place
-pub begun_more : {table : Table} (p q : List ℕ) (ls : List Line) (lists b : ℕ) (some : Bool) (n : ℕ) (blk : List ℕ) → place_of lists b < most-blocks → length p ≡ plan-numbers → BlockStored p q (place_of lists b) n blk → some ≡ true
+pub begun_more : {table : Table} (p q : List ℕ) (ls : List Line) (lists b : ℕ) (some : Bool) (n : ℕ) (blk : List ℕ) → place_of lists b < most_blocks → length p ≡ plan_numbers → BlockStored p q (place_of lists b) n blk → some ≡ true
     → BlockFound table ls (b + 1) some n blk → BlocksSoFar p ls lists b → BlocksSoFar q ls lists (b + 1)
 begun_more p q ls lists b some n blk lt s w is f h =
     let t = w.long in
     let i : has_block ls (b + 1) ≡ true = sym f.found ∙ is in
     let m : BlockNumbers blk n (block_at ls (suc b)) = subst (λ k. BlockNumbers blk n (block_at ls k)) (add-one b) (f.numbers is) in
-    let l = part_length q (blocks_at + place_of lists b * block-width) block-width (omega arith) in
-    let e : block_numbers q (place_of lists b) ≡ blk = ext_get_or 0 (block_numbers q (place_of lists b)) blk (l ∙ sym m.size) (λ x k. part_get q (blocks_at + place_of lists b * block-width) block-width x 0 (omega arith) ∙ w.numbers x (omega arith)) in
+    let l = part_length q (blocks_at + place_of lists b * block_width) block_width (omega arith) in
+    let e : block_numbers q (place_of lists b) ≡ blk = ext_get_or 0 (block_numbers q (place_of lists b)) blk (l ∙ sym m.size) (λ x k. part_get q (blocks_at + place_of lists b * block_width) block_width x 0 (omega arith) ∙ w.numbers x (omega arith)) in
     record {
       within = is_block ls (b + 1) i;
       low = below_more _ b h.low lt;
@@ -175,29 +175,29 @@ module _ (p : List ℕ) (ls : List Line) (lists b : ℕ) (ok : AcceptedLines ls)
   by_number all =
       let w = h.within in
       let c = block-count ok.0 ls ok.1 in
-      let few = lists-few ok.0 ls ok.1 in
+      let few = lists_few ok.0 ls ok.1 in
       record {
         count = omega arith;
-        question = subst (λ x. BlockNumbers (block_numbers p question-block) (block_size p question-block) x) (block-question ok.0 ls ok.1)
+        question = subst (λ x. BlockNumbers (block_numbers p question_block) (block_size p question_block) x) (block-question ok.0 ls ok.1)
             (subst (λ k. BlockNumbers (block_numbers p k) (block_size p k) (block_at ls 1)) (place-low lists 0 (omega arith)) (h.each 0 (omega arith)));
-        list = λ i lt. subst (λ x. BlockNumbers (block_numbers p (list-block i)) (block_size p (list-block i)) x) (block-list ok.0 ls ok.1 i lt)
-            (subst (λ k. BlockNumbers (block_numbers p k) (block_size p k) (block_at ls (suc (suc i)))) (let e = place-low lists (suc i) (omega arith) in let f : place_of lists (suc i) ≡ list-block i = omega arith in f) (h.each (suc i) (omega arith)));
-        view = λ v lt. subst (λ x. BlockNumbers (block_numbers p (view-block v)) (block_size p (view-block v)) x)
+        list = λ i lt. subst (λ x. BlockNumbers (block_numbers p (list_block i)) (block_size p (list_block i)) x) (block-list ok.0 ls ok.1 i lt)
+            (subst (λ k. BlockNumbers (block_numbers p k) (block_size p k) (block_at ls (suc (suc i)))) (let e = place-low lists (suc i) (omega arith) in let f : place_of lists (suc i) ≡ list_block i = omega arith in f) (h.each (suc i) (omega arith)));
+        view = λ v lt. subst (λ x. BlockNumbers (block_numbers p (view_block v)) (block_size p (view_block v)) x)
             (ap (λ k. block_at ls (suc (suc (k + v)))) so ∙ block_view ok.0 ls ok.1 v)
-            (subst (λ k. BlockNumbers (block_numbers p k) (block_size p k) (block_at ls (suc (suc (lists + v))))) (let e = place-high lists (suc (lists + v)) (omega arith) in let f : place_of lists (suc (lists + v)) ≡ view-block v = omega arith in f) (h.each (suc (lists + v)) (omega arith)));
+            (subst (λ k. BlockNumbers (block_numbers p k) (block_size p k) (block_at ls (suc (suc (lists + v))))) (let e = place-high lists (suc (lists + v)) (omega arith) in let f : place_of lists (suc (lists + v)) ≡ view_block v = omega arith in f) (h.each (suc (lists + v)) (omega arith)));
       }
 
   pub begun-end : {table : Table} (n : ℕ) (blk : List ℕ) (some : Bool) → some ≡ false → BlockFound table ls (b + 1) some n blk → Blocks p ls b
   begun-end n blk some is f = by_number (no_block ls b (sym f.found ∙ is))
 
   -- there are no more blocks than places
-  pub begun_all : most-blocks ≤ b → Blocks p ls b
-  begun_all le = let v = accepted-views ls ok in let c = block-count ok.0 ls ok.1 in let l = lists-few ok.0 ls ok.1 in by_number (omega arith)
+  pub begun_all : most_blocks ≤ b → Blocks p ls b
+  begun_all le = let v = accepted-views ls ok in let c = block-count ok.0 ls ok.1 in let l = lists_few ok.0 ls ok.1 in by_number (omega arith)
 
-  pub begun-out : {table : Table} (some : Bool) (n : ℕ) (blk : List ℕ) → some ≡ true → BlockFound table ls (b + 1) some n blk → most-blocks ≤ place_of lists b → Blocks p ls b
+  pub begun-out : {table : Table} (some : Bool) (n : ℕ) (blk : List ℕ) → some ≡ true → BlockFound table ls (b + 1) some n blk → most_blocks ≤ place_of lists b → Blocks p ls b
   begun-out some n blk is f le =
       let i = is_block ls (b + 1) (sym f.found ∙ is) in
       let v = accepted-views ls ok in
       let c = block-count ok.0 ls ok.1 in
-      let l = lists-few ok.0 ls ok.1 in
+      let l = lists_few ok.0 ls ok.1 in
       ⊎_elim (λ k. let e = place-low lists b k in absurd (omega arith)) (λ k. let e = place-high lists b k in absurd (omega arith)) (at_most b lists)

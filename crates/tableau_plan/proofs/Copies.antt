@@ -7,9 +7,9 @@ use native.Mathlib.Numerals.{add-one}
 use lib.ListN.{length, get_or, drop, set, length-drop, drop_of_length-le}
 use lib.Seq.{drop-cons, drop-drop, get_or-drop, get_or-set_same, get_or-set_other}
 use borrow.Author.Count.{below_more}
-use Rattle.query_layout.specs.Layout.{block-width}
-use Rattle.tableau_layout.specs.Layout.{blocks_at, plan-numbers, rows_at, sizes-at, tableau_atoms, view-block}
-use Rattle.sheet_format.specs.Limits.{most-atoms, most-rows}
+use Rattle.query_layout.specs.Layout.{block_width}
+use Rattle.tableau_layout.specs.Layout.{blocks_at, plan_numbers, rows_at, sizes_at, tableau_atoms, view_block}
+use Rattle.sheet_format.specs.Limits.{most_atoms, most_rows}
 use Rattle.sheet_format.specs.Line.{gather}
 use Rattle.sheet_format.specs.Table.{Table, relation}
 use Rattle.sheet_format.proofs.Lists.{map_append}
@@ -28,16 +28,16 @@ use Rattle.tableau_plan.proofs.Tableau.{slot-value, term-fine}
 
 source-same : (p q : List ℕ) (k : ℕ) → KeptOutside p q 0 rows_at → source_of q k ≡ source_of p k
 source-same p q zero h = refl
-source-same p q (suc r) h = ap view-block (h.above (rows_at + r * 5 + 0) (omega arith))
+source-same p q (suc r) h = ap view_block (h.above (rows_at + r * 5 + 0) (omega arith))
 
-pub sources-kept : (table : Table) (p q : List ℕ) (n : ℕ) (bs : List Block) → length p ≡ plan-numbers → KeptOutside p q 0 rows_at → Sources table p n bs → Sources table q n bs
+pub sources-kept : (table : Table) (p q : List ℕ) (n : ℕ) (bs : List Block) → length p ≡ plan_numbers → KeptOutside p q 0 rows_at → Sources table p n bs → Sources table q n bs
 sources-kept table p q n bs s h d = record {
   count = d.count;
   low = λ k l. let e = source-same p q k h in let w = d.low k l in omega arith;
   numbers = λ k l.
       let w = d.low k l in
       subst (λ b. BlockNumbers (block_numbers q b) (block_size q b) (get_or bs k empty_block)) (sym (source-same p q k h))
-      (subst (λ z. BlockNumbers (block_numbers q (source_of p k)) z (get_or bs k empty_block)) (sym (h.above (sizes-at + source_of p k) (omega arith)))
+      (subst (λ z. BlockNumbers (block_numbers q (source_of p k)) z (get_or bs k empty_block)) (sym (h.above (sizes_at + source_of p k) (omega arith)))
       (numbers-same p q (source_of p k) (λ z. BlockNumbers z (block_size p (source_of p k)) (get_or bs k empty_block)) s (h.same ∙ s) w (λ y g v. h.above y (omega arith)) (d.numbers k l)));
   fine = d.fine;
   few = d.few;
@@ -76,7 +76,7 @@ stored_more p q n l left a kept here h = record {
 }
 
 -- the terms of an atom, and then its relation
-module _ (p q : List ℕ) (k rel from n : ℕ) (few : k ≤ most-rows) (size : length p ≡ plan-numbers) (room : n < tableau_atoms) (kept : KeptOutside p q (n * 5 + 1) (n * 5 + 1 + 4))
+module _ (p q : List ℕ) (k rel from n : ℕ) (few : k ≤ most_rows) (size : length p ≡ plan_numbers) (room : n < tableau_atoms) (kept : KeptOutside p q (n * 5 + 1) (n * 5 + 1 + 4))
     (ts : (c : ℕ) → c < 4 → get_or q (n * 5 + 1 + c) 0 ≡ slot_of k (get_or p (from + 1 + c) 0)) where
   abbrev end : List ℕ
   end = set q (n * 5) rel
@@ -141,22 +141,22 @@ module _ (table : Table) (p : List ℕ) (n : ℕ) (bs : List Block) (k b : ℕ) 
   numbers : BlockNumbers (block_numbers p b) (block_size p b) copy_block
   numbers = subst (λ c. BlockNumbers (block_numbers p c) (block_size p c) copy_block) (sym is) (d.numbers k lt)
 
-  pub copy-few : block_size p b ≤ most-atoms
+  pub copy-few : block_size p b ≤ most_atoms
   copy-few = numbers.few
 
   pub copy-size : block_size p b ≡ length copy_block.atoms
   copy-size = numbers.count
 
-  pub copy-atoms : (j : ℕ) → j < block_size p b → AtomAt p (blocks_at + b * block-width + j * 5) (atom_at copy_block.atoms j)
+  pub copy-atoms : (j : ℕ) → j < block_size p b → AtomAt p (blocks_at + b * block_width + j * 5) (atom_at copy_block.atoms j)
   copy-atoms j l =
       let six = copy-few in
       let z = copy-size in
-      let o = blocks_at + b * block-width in
+      let o = blocks_at + b * block_width in
       record {
-        relation = sym (part_get p o block-width (j * 5) 0 (omega arith)) ∙ numbers.relation j l;
+        relation = sym (part_get p o block_width (j * 5) 0 (omega arith)) ∙ numbers.relation j l;
         terms = λ c f.
             let e : o + j * 5 + 1 + c ≡ o + (j * 5 + 1 + c) = omega arith in
-            ap (λ y. get_or p y 0) e ∙ sym (part_get p o block-width (j * 5 + 1 + c) 0 (omega arith)) ∙ numbers.columns j l c f;
+            ap (λ y. get_or p y 0) e ∙ sym (part_get p o block_width (j * 5 + 1 + c) 0 (omega arith)) ∙ numbers.columns j l c f;
         fine = d.fine k lt (atom_at copy_block.atoms j) (at_in _ copy_block.atoms j (omega arith));
       }
 

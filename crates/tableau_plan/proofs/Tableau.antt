@@ -7,8 +7,8 @@ use native.Mathlib.Omega.{arith}
 use lib.ListN.{length, get_or, length-map, get_or-map}
 use borrow.Author.Tests.{lt-ltb, le-ltb}
 use Rattle.query_layout.specs.Layout.{names}
-use Rattle.sheet_format.specs.Limits.{constant-end, most-rows}
-use Rattle.tableau_layout.specs.Layout.{slot-end}
+use Rattle.sheet_format.specs.Limits.{constant_end, most_rows}
+use Rattle.tableau_layout.specs.Layout.{slot_end}
 use Rattle.sheet_format.specs.Line.{gather}
 use Rattle.sheet_format.proofs.Lists.{map_append}
 use Rattle.query_meaning.specs.Meaning.{Term, con, var, Fact, value, row, fact, fact_of, Atom, Block}
@@ -23,15 +23,15 @@ use Rattle.tableau_plan.specs.Parts.{slot_of, PlacedAtom, unplaced, placed_in, o
 
 -- ---- a term of a copy under a state
 
-pub slot-value : (s : State) (k : ℕ) (t : Term) → k ≤ most-rows → FineTerm top t → slot_value s (slot_of k (term_number t)) ≡ value (copy s k) t
+pub slot-value : (s : State) (k : ℕ) (t : Term) → k ≤ most_rows → FineTerm top t → slot_value s (slot_of k (term_number t)) ≡ value (copy s k) t
 unfolding slot_value slot_of width
 slot-value s k (con c) h f =
-    let e : c + names + (slot-end - names) - slot-end ≡ c = omega arith in
-    let a : slot_of k (c + names) ≡ c + names + (slot-end - names) = simp (le-ltb (c + names) names (omega arith), lt-ltb (c + names) (constant-end + names) (omega arith)) in
-    ap (slot_value s) a ∙ simp (le-ltb (c + names + (slot-end - names)) slot-end (omega arith)) e
+    let e : c + names + (slot_end - names) - slot_end ≡ c = omega arith in
+    let a : slot_of k (c + names) ≡ c + names + (slot_end - names) = simp (le-ltb (c + names) names (omega arith), lt-ltb (c + names) (constant_end + names) (omega arith)) in
+    ap (slot_value s) a ∙ simp (le-ltb (c + names + (slot_end - names)) slot_end (omega arith)) e
 slot-value s k (var x) h f =
     let a : slot_of k x ≡ k * names + x = simp (lt-ltb x names f) in
-    ap (slot_value s) a ∙ simp (lt-ltb (k * names + x) slot-end (omega arith))
+    ap (slot_value s) a ∙ simp (lt-ltb (k * names + x) slot_end (omega arith))
 
 pub term-fine : (ts : List Term) → Fine top ts → (c : ℕ) → FineTerm top (term_at ts c)
 term-fine [] h c = omega arith

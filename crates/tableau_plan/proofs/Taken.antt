@@ -10,8 +10,8 @@ use lib.ListN.{length, get_or, drop, set, length-drop, length-map, drop_of_lengt
 use lib.Seq.{drop-cons, get_or-set_same, get_or-set_other}
 use borrow.Author.Count.{below_more}
 use borrow.Author.Tests.{leb-true}
-use Rattle.sheet_format.specs.Limits.{most-rows}
-use Rattle.tableau_layout.specs.Layout.{blocks_at, plan-numbers, rows_at}
+use Rattle.sheet_format.specs.Limits.{most_rows}
+use Rattle.tableau_layout.specs.Layout.{blocks_at, plan_numbers, rows_at}
 use Rattle.list_laws.proofs.Ranges.{kept_set, kept-wide}
 use Rattle.list_laws.proofs.Lists.{drop-next}
 use Rattle.sheet_format.specs.Line.{Line, natural, gather, word_lines}
@@ -100,7 +100,7 @@ module _ (p : List ℕ) (ls : List Line) (i v r : ℕ) (lt : i < length ls) (h :
 
 -- ---- by the words of an accepted sheet
 
-pub few-listed : (ls : List Line) → AcceptedLines ls → length (rows_from 0 ls) ≤ most-rows
+pub few-listed : (ls : List Line) → AcceptedLines ls → length (rows_from 0 ls) ≤ most_rows
 few-listed ls ok =
     let f = nth (blocks is_view_kind ls) in
     let e : length (gather listed (blocks is_view_kind ls)) ≡ length (map (job_of f) (flat_from 0 (blocks is_view_kind ls))) = ap length (view-jobs f 0 (blocks is_view_kind ls) (views-all (blocks is_view_kind ls))) in
@@ -165,11 +165,11 @@ module _ (ws : List ℤ) (i : ℕ) (lt : i < length ws / 7) (a : AcceptedLines (
 
 -- ---- the stores for a row: its values, and then its view
 
-pub row_kept : (p q : List ℕ) (r u : ℕ) → r < most-rows → KeptOutside p q (rows_at + r * 5 + 1) (rows_at + r * 5 + 1 + 4) → KeptOutside p (set q (rows_at + r * 5) u) rows_at blocks_at
+pub row_kept : (p q : List ℕ) (r u : ℕ) → r < most_rows → KeptOutside p q (rows_at + r * 5 + 1) (rows_at + r * 5 + 1 + 4) → KeptOutside p (set q (rows_at + r * 5) u) rows_at blocks_at
 row_kept p q r u lt k =
     kept_set p q rows_at blocks_at (rows_at + r * 5) u (omega arith) (omega arith) (kept-wide p q (rows_at + r * 5 + 1) (rows_at + r * 5 + 1 + 4) rows_at blocks_at (omega arith) (omega arith) k)
 
-pub row-taken : (ws : List ℤ) (i : ℕ) → i < length ws / 7 → AcceptedLines (word_lines ws) → (p q : List ℕ) (v r u : ℕ) → r < most-rows → length p ≡ plan-numbers → KeptOutside p q (rows_at + r * 5 + 1) (rows_at + r * 5 + 1 + 4)
+pub row-taken : (ws : List ℤ) (i : ℕ) → i < length ws / 7 → AcceptedLines (word_lines ws) → (p q : List ℕ) (v r u : ℕ) → r < most_rows → length p ≡ plan_numbers → KeptOutside p q (rows_at + r * 5 + 1) (rows_at + r * 5 + 1 + 4)
     → ((c : ℕ) → c < 4 → get_or q (rows_at + r * 5 + 1 + c) 0 ≡ natural (get_or ws (7 * i + 2 + c) (pos 0))) → u ≡ v - 1 → natural (get_or ws (7 * i + 1) (pos 0)) ≡ 5
     → RowsDone p (word_lines ws) i v r → RowsDone (set q (rows_at + r * 5) u) (word_lines ws) (i + 1) v (r + 1)
 row-taken ws i lt a p q v r u few s k xs e is h =

@@ -6,8 +6,8 @@ use Prim.Native.Nat.{ℕ, zero, suc, ◌+◌, ◌-◌, ◌*◌, ◌<◌, ◌≤�
 use native.Mathlib.Omega.{arith}
 use lib.ListN.{length, get_or, length-map, length-append}
 use lib.Seq.{get_or-append-add}
-use Rattle.tableau_layout.specs.Layout.{blocks_at, most-blocks, plan-numbers, rows_at, sizes-at, tableau_atoms, tableau_size_at, question-block, list-block, view-block}
-use Rattle.sheet_format.specs.Limits.{most-rows}
+use Rattle.tableau_layout.specs.Layout.{blocks_at, most_blocks, plan_numbers, rows_at, sizes_at, tableau_atoms, tableau_size_at, question_block, list_block, view_block}
+use Rattle.sheet_format.specs.Limits.{most_rows}
 use Rattle.query_encoding.proofs.Lists.{at_in}
 use Rattle.sheet_format.specs.Line.{Line, gather}
 use Rattle.sheet_format.specs.Table.{Table, relation}
@@ -21,7 +21,7 @@ use Rattle.case_verdicts.specs.Accepted.{Fine}
 use Rattle.case_verdicts.specs.Sheets.{top, is_view_kind, sheet_of}
 use Rattle.case_verdicts.specs.Tableau.{Job, State, listed, jobs, tableau_log, bare}
 use Rattle.case_verdicts.proofs.Lists.{total, total-each, total_append, total-map}
-use Rattle.case_verdicts.proofs.Order.{lists-few, block-count}
+use Rattle.case_verdicts.proofs.Order.{lists_few, block-count}
 use Rattle.case_verdicts.proofs.Sizes.{accepted-size}
 use Rattle.case_verdicts.proofs.Accepted.{asked-fine, listed-fine}
 use Rattle.tableau_plan.specs.Plan.{row_at, row_values, block_numbers, block_size, tableau_size, asked_size, row_count, view_count, list_count, plan_table, saved_list_at, tableau_facts, RowOf, Plan}
@@ -87,13 +87,13 @@ rows-size (w ∷ ws) =
 
 -- numbers that are the same from the rows on to the counts
 record SameFrom (q p : List ℕ) (from : ℕ) : Type 0 where
-  long : length q ≡ plan-numbers
-  long_too : length p ≡ plan-numbers
+  long : length q ≡ plan_numbers
+  long_too : length p ≡ plan_numbers
   same : (y : ℕ) → from ≤ y → y < tableau_size_at → get_or p y 0 ≡ get_or q y 0
 
-block-moved : (q p : List ℕ) (b : ℕ) (k : Block) → b < most-blocks → SameFrom q p blocks_at → BlockNumbers (block_numbers q b) (block_size q b) k → BlockNumbers (block_numbers p b) (block_size p b) k
+block-moved : (q p : List ℕ) (b : ℕ) (k : Block) → b < most_blocks → SameFrom q p blocks_at → BlockNumbers (block_numbers q b) (block_size q b) k → BlockNumbers (block_numbers p b) (block_size p b) k
 block-moved q p b k lt a h =
-    subst (λ z. BlockNumbers (block_numbers p b) z k) (sym (a.same (sizes-at + b) (omega arith) (omega arith)))
+    subst (λ z. BlockNumbers (block_numbers p b) z k) (sym (a.same (sizes_at + b) (omega arith) (omega arith)))
     (numbers-same q p b (λ z. BlockNumbers z (block_size q b) k) a.long a.long_too lt (λ y g w. a.same y (omega arith) (omega arith)) h)
 
 module _ (table : Table) (ls : List Line) (clean : (refusal_of table ls).number ≡ 0) where
@@ -151,9 +151,9 @@ module _ (table : Table) (ls : List Line) (clean : (refusal_of table ls).number 
   view-fine j h a m = ((listed-fine table ls clean (nth views j) (nth_in views j h)).atoms a m).terms
 
   -- ---- the blocks of the copies stand in q
-  module _ (q : List ℕ) (r : ℕ) (stored : (v : ℕ) → v < length views → BlockNumbers (block_numbers q (view-block v)) (block_size q (view-block v)) (nth views v).block)
-      (question : BlockNumbers (block_numbers q question-block) (block_size q question-block) sheet.question) (count : r ≡ length (rows_from 0 ls)) (rows : (k : ℕ) → k < r → RowNumbers q k (get_or (rows_from 0 ls) k unlisted)) where
-    source-low : (k : ℕ) → k < length block_list → source_of q k < view-block (length views)
+  module _ (q : List ℕ) (r : ℕ) (stored : (v : ℕ) → v < length views → BlockNumbers (block_numbers q (view_block v)) (block_size q (view_block v)) (nth views v).block)
+      (question : BlockNumbers (block_numbers q question_block) (block_size q question_block) sheet.question) (count : r ≡ length (rows_from 0 ls)) (rows : (k : ℕ) → k < r → RowNumbers q k (get_or (rows_from 0 ls) k unlisted)) where
+    source-low : (k : ℕ) → k < length block_list → source_of q k < view_block (length views)
     source-low zero h = omega arith
     source-low (suc i) h =
         let n = list_length in
@@ -167,7 +167,7 @@ module _ (table : Table) (ls : List Line) (clean : (refusal_of table ls).number 
         let n = list_length in
         let e = (rows i (omega arith)).view in
         let o = (row_of i (omega arith)).low in
-        subst (BlockNumbers (block_numbers q (view-block (row_at q i 0))) (block_size q (view-block (row_at q i 0))))
+        subst (BlockNumbers (block_numbers q (view_block (row_at q i 0))) (block_size q (view_block (row_at q i 0))))
         (ap (λ v. (nth views v).block) e ∙ sym (list_at i (omega arith)))
         (stored (row_at q i 0) (omega arith))
 
@@ -189,7 +189,7 @@ module _ (table : Table) (ls : List Line) (clean : (refusal_of table ls).number 
         }
 
   -- ---- all parts together
-  module _ (q1 q2 q3 q4 p : List ℕ) (nb nl i v r a m : ℕ) (s : length q1 ≡ plan-numbers) (so : nl ≡ length sheet.lists) (bl : Blocks q1 ls nb) (k2 : KeptOutside q1 q2 rows_at blocks_at) (few : r ≤ most-rows) (end : length ls ≤ i) (rd : RowsDone q2 ls i v r)
+  module _ (q1 q2 q3 q4 p : List ℕ) (nb nl i v r a m : ℕ) (s : length q1 ≡ plan_numbers) (so : nl ≡ length sheet.lists) (bl : Blocks q1 ls nb) (k2 : KeptOutside q1 q2 rows_at blocks_at) (few : r ≤ most_rows) (end : length ls ≤ i) (rd : RowsDone q2 ls i v r)
       (k3 : KeptOutside q2 q3 0 rows_at) (first : (n : ℕ) (bs : List Block) → 0 < length bs → Sources table q2 n bs → TableauDone table q2 0 0 bs → TableauDone table q3 1 a bs)
       (k4 : KeptOutside q3 q4 0 rows_at) (most : m ≤ tableau_atoms) (td : (bs : List Block) → Sources table q3 r bs → TableauDone table q3 1 a bs → TableauDone table q4 (r + 1) m bs) (cl : Closed q4 p m a r nl (nb - (1 + nl))) (tables : table ≡ plan_table p) where
     count : r ≡ length (rows_from 0 ls)
@@ -212,20 +212,20 @@ module _ (table : Table) (ls : List Line) (clean : (refusal_of table ls).number 
     agree-blocks = record { long = agree.long; long_too = agree.long_too; same = λ y g h. agree.same y (omega arith) h }
 
     -- blocks that stand in q1 stand in q2 and in the plan
-    stood2 : (b : ℕ) (x : Block) → b < most-blocks → BlockNumbers (block_numbers q1 b) (block_size q1 b) x → BlockNumbers (block_numbers q2 b) (block_size q2 b) x
+    stood2 : (b : ℕ) (x : Block) → b < most_blocks → BlockNumbers (block_numbers q1 b) (block_size q1 b) x → BlockNumbers (block_numbers q2 b) (block_size q2 b) x
     stood2 b x h = block-moved q1 q2 b x h agree2
 
-    stood : (b : ℕ) (x : Block) → b < most-blocks → BlockNumbers (block_numbers q1 b) (block_size q1 b) x → BlockNumbers (block_numbers p b) (block_size p b) x
+    stood : (b : ℕ) (x : Block) → b < most_blocks → BlockNumbers (block_numbers q1 b) (block_size q1 b) x → BlockNumbers (block_numbers p b) (block_size p b) x
     stood b x h n = block-moved q2 p b x h agree-blocks (stood2 b x h n)
 
-    view-low : (v : ℕ) → v < length views → view-block v < most-blocks
+    view-low : (v : ℕ) → v < length views → view_block v < most_blocks
     view-low v h = let w = accepted-views ls ok in omega arith
 
     row-numbers : (k : ℕ) → k < r → RowNumbers p k (get_or (rows_from 0 ls) k unlisted)
     row-numbers k h = row_same q2 p k (get_or (rows_from 0 ls) k unlisted) (λ c f. agree.same (rows_at + k * 5 + c) (omega arith) (omega arith)) (rd.each k h)
 
     standing : Sources table q2 r block_list
-    standing = sources q2 r (λ v h. stood2 (view-block v) (nth views v).block (view-low v h) (bl.view v h)) (stood2 question-block sheet.question (omega arith) bl.question) count rd.each
+    standing = sources q2 r (λ v h. stood2 (view_block v) (nth views v).block (view-low v h) (bl.view v h)) (stood2 question_block sheet.question (omega arith) bl.question) count rd.each
 
     -- the question's copy
     asked : TableauDone table q3 1 a block_list
@@ -247,7 +247,7 @@ module _ (table : Table) (ls : List Line) (clean : (refusal_of table ls).number 
 
     whole-facts : (t : State) → FactNumbers (tableau_facts p t 0 (tableau_size p)) (tableau_log sheet t)
     whole-facts t =
-        let e : tableau_size p ≡ length placed = cl.atoms-is ∙ size_is in
+        let e : tableau_size p ≡ length placed = cl.atoms_is ∙ size_is in
         let f = placed-facts p t placed 0 (λ k h. let z : 0 + k ≡ k = omega arith in subst (λ y. PlacedNumbers p y (get_or placed k unplaced)) (sym z) (placed-numbers k h)) in
         subst (λ n. FactNumbers (tableau_facts p t 0 n) (tableau_log sheet t)) (sym e) (subst (FactNumbers (tableau_facts p t 0 (length placed))) (sym (log-placed sheet t)) f)
 
@@ -270,7 +270,7 @@ module _ (table : Table) (ls : List Line) (clean : (refusal_of table ls).number 
 
     agreeing-facts : (t : State) → FactNumbers (tableau_facts p t (asked_size p) (tableau_size p - asked_size p)) (tableau_log (bare sheet) t)
     agreeing-facts t =
-        let e : tableau_size p ≡ length placed = cl.atoms-is ∙ size_is in
+        let e : tableau_size p ≡ length placed = cl.atoms_is ∙ size_is in
         let b = both-length in
         let n : tableau_size p - asked_size p ≡ length others = omega arith in
         let f = placed-facts p t others (asked_size p)
@@ -278,20 +278,20 @@ module _ (table : Table) (ls : List Line) (clean : (refusal_of table ls).number 
         subst (λ n. FactNumbers (tableau_facts p t (asked_size p) n) (tableau_log (bare sheet) t)) (sym n) (subst (FactNumbers (tableau_facts p t (asked_size p) (length others))) (sym (bare-placed sheet t)) f)
 
     views-count : view_count p ≡ length views
-    views-count = let n = blocks-count in let c = cl.views-is in omega arith
+    views-count = let n = blocks-count in let c = cl.views_is in omega arith
 
     lists-count : list_count p ≡ length sheet.lists
-    lists-count = cl.lists-is ∙ so
+    lists-count = cl.lists_is ∙ so
 
-    list-numbers : (i : ℕ) → i < list_count p → BlockNumbers (block_numbers p (list-block i)) (block_size p (list-block i)) (saved_list_at sheet i)
+    list-numbers : (i : ℕ) → i < list_count p → BlockNumbers (block_numbers p (list_block i)) (block_size p (list_block i)) (saved_list_at sheet i)
     list-numbers i h =
         let c = lists-count in
-        let n = lists-few table ls clean in
-        stood (list-block i) (saved_list_at sheet i) (omega arith) (bl.list i (omega arith))
+        let n = lists_few table ls clean in
+        stood (list_block i) (saved_list_at sheet i) (omega arith) (bl.list i (omega arith))
 
     row_in : (k : ℕ) → k < row_count p → RowOf p sheet k
     row_in k h =
-        let n = cl.listed-is in
+        let n = cl.listed_is in
         let c = count in
         let o = row_of k (omega arith) in
         let l = get_or (rows_from 0 ls) k unlisted in
@@ -311,7 +311,7 @@ module _ (table : Table) (ls : List Line) (clean : (refusal_of table ls).number 
         let u = views-count in
         let (k, lt, e) = flat_place views j (omega arith) t g in
         let f : get_or (rows_from 0 ls) k unlisted ≡ record { view = j; row = t } = ap (λ l. get_or l k unlisted) (rows_walked ls ok) ∙ e in
-        let n = cl.listed-is in
+        let n = cl.listed_is in
         let c = count in
         let z = ap length (rows_walked ls ok) in
         let w = row-numbers k (omega arith) in
@@ -319,10 +319,10 @@ module _ (table : Table) (ls : List Line) (clean : (refusal_of table ls).number 
 
     pub plan_of : Plan p sheet
     plan_of =
-        let e : tableau_size p ≡ length placed = cl.atoms-is ∙ size_is in
+        let e : tableau_size p ≡ length placed = cl.atoms_is ∙ size_is in
         let b = both-length in
-        let n = cl.listed-is in
-        let a = cl.atoms-is in
+        let n = cl.listed_is in
+        let a = cl.atoms_is in
         let u = views-count in
         let w = accepted-views ls ok in
         record {
@@ -331,16 +331,16 @@ module _ (table : Table) (ls : List Line) (clean : (refusal_of table ls).number 
           few = omega arith;
           asked = omega arith;
           rows_few = omega arith;
-          lists-few = let c = lists-count in let l = lists-few table ls clean in omega arith;
-          views-few = omega arith;
+          lists_few = let c = lists-count in let l = lists_few table ls clean in omega arith;
+          views_few = omega arith;
           whole = whole-facts;
           agreeing = agreeing-facts;
-          question = stood question-block sheet.question (omega arith) bl.question;
+          question = stood question_block sheet.question (omega arith) bl.question;
           lists = lists-count;
           list = list-numbers;
           views = views-count;
-          view = λ j h. let u = views-count in stood (view-block j) (nth views j).block (view-low j (omega arith)) (bl.view j (omega arith));
+          view = λ j h. let u = views-count in stood (view_block j) (nth views j).block (view-low j (omega arith)) (bl.view j (omega arith));
           rows = row_in;
-          every-row = row-place;
+          every_row = row-place;
           copies = let l = rest-length in let c = count in omega arith;
         }

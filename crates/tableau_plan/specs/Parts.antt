@@ -1,8 +1,8 @@
 -- The parts of making a plan: what each step writes and keeps.
 use Rattle.std.specs.Prelude.{◌≡◌, cond, List, [], ◌∷◌, ◌++◌, map, ℕ, zero, suc, ◌+◌, ◌-◌, ◌*◌, ◌<◌, ◌≤◌, ltb, leb, length, get_or, drop}
-use Rattle.query_layout.specs.Layout.{block-width, names}
-use Rattle.tableau_layout.specs.Layout.{blocks_at, most-blocks, plan-numbers, sizes-at, slot-end, tableau_atoms, tableau_size_at, question-block, list-block, view-block}
-use Rattle.sheet_format.specs.Limits.{constant-end, most-lists}
+use Rattle.query_layout.specs.Layout.{block_width, names}
+use Rattle.tableau_layout.specs.Layout.{blocks_at, most_blocks, plan_numbers, sizes_at, slot_end, tableau_atoms, tableau_size_at, question_block, list_block, view_block}
+use Rattle.sheet_format.specs.Limits.{constant_end, most_lists}
 use Rattle.sheet_format.specs.Table.{Table, relation}
 use Rattle.list_laws.specs.Kept as ranges
 use Rattle.sheet_format.specs.Line.{Line, gather, natural}
@@ -23,22 +23,22 @@ KeptOutside p q from end = ranges.Kept 0 p q from end
 
 -- block b has been stored, with its size; the blocks before it stay
 pub record BlockStored (p q : List ℕ) (b n : ℕ) (blk : List ℕ) : Type 0 where
-  pub long : length q ≡ plan-numbers
-  pub kept : (y : ℕ) → y < blocks_at + b * block-width → get_or q y 0 ≡ get_or p y 0
-  pub sizes : (c : ℕ) → c < b → get_or q (sizes-at + c) 0 ≡ get_or p (sizes-at + c) 0
-  pub numbers : (x : ℕ) → x < block-width → get_or q (blocks_at + b * block-width + x) 0 ≡ get_or blk x 0
-  pub size : get_or q (sizes-at + b) 0 ≡ n
+  pub long : length q ≡ plan_numbers
+  pub kept : (y : ℕ) → y < blocks_at + b * block_width → get_or q y 0 ≡ get_or p y 0
+  pub sizes : (c : ℕ) → c < b → get_or q (sizes_at + c) 0 ≡ get_or p (sizes_at + c) 0
+  pub numbers : (x : ℕ) → x < block_width → get_or q (blocks_at + b * block_width + x) 0 ≡ get_or blk x 0
+  pub size : get_or q (sizes_at + b) 0 ≡ n
 
 -- where block b of a sheet with so many lists, counted from 0, stands in a plan: the views stand behind the places of all lists that there may be
 unfoldable pub place_of : ℕ → ℕ → ℕ
-place_of lists b = cond (leb b lists) b (b + (most-lists - lists))
+place_of lists b = cond (leb b lists) b (b + (most_lists - lists))
 
 -- all blocks have been stored, and n is how many there are
 pub record Blocks (p : List ℕ) (ls : List Line) (n : ℕ) : Type 0 where
   pub count : n ≡ length (all_blocks ls)
-  pub question : BlockNumbers (block_numbers p question-block) (block_size p question-block) (question_in ls)
-  pub list : (i : ℕ) → i < length (lists_in ls) → BlockNumbers (block_numbers p (list-block i)) (block_size p (list-block i)) (get_or (lists_in ls) i nowhere.block)
-  pub view : (v : ℕ) → v < length (views_in ls) → BlockNumbers (block_numbers p (view-block v)) (block_size p (view-block v)) (nth (views_in ls) v).block
+  pub question : BlockNumbers (block_numbers p question_block) (block_size p question_block) (question_in ls)
+  pub list : (i : ℕ) → i < length (lists_in ls) → BlockNumbers (block_numbers p (list_block i)) (block_size p (list_block i)) (get_or (lists_in ls) i nowhere.block)
+  pub view : (v : ℕ) → v < length (views_in ls) → BlockNumbers (block_numbers p (view_block v)) (block_size p (view_block v)) (nth (views_in ls) v).block
 
 -- ---- the listed rows
 
@@ -69,12 +69,12 @@ pub record RowsDone (p : List ℕ) (ls : List Line) (i v r : ℕ) : Type 0 where
 
 -- a term of a block as one of copy k
 unfoldable pub slot_of : ℕ → ℕ → ℕ
-slot_of k t = cond (ltb t names) (k * names + t) (cond (ltb t (constant-end + names)) (t + (slot-end - names)) 0)
+slot_of k t = cond (ltb t names) (k * names + t) (cond (ltb t (constant_end + names)) (t + (slot_end - names)) 0)
 
 -- the block of a copy, by the rows
 abbrev pub source_of : List ℕ → ℕ → ℕ
 source_of p zero = 0
-source_of p (suc r) = view-block (row_at p r 0)
+source_of p (suc r) = view_block (row_at p r 0)
 
 abbrev pub empty_block : Block
 empty_block = nowhere.block
@@ -115,7 +115,7 @@ atoms_from t k (b ∷ bs) = own_atoms t k b.atoms ++ atoms_from t (suc k) bs
 -- the blocks of a tableau with n rows stand in p
 pub record Sources (t : Table) (p : List ℕ) (n : ℕ) (bs : List Block) : Type 0 where
   pub count : length bs ≡ suc n
-  pub low : (k : ℕ) → k < length bs → source_of p k < most-blocks
+  pub low : (k : ℕ) → k < length bs → source_of p k < most_blocks
   pub numbers : (k : ℕ) → k < length bs → BlockNumbers (block_numbers p (source_of p k)) (block_size p (source_of p k)) (get_or bs k empty_block)
   pub fine : (k : ℕ) → k < length bs → (a : Atom) → In a (get_or bs k empty_block).atoms → Fine top a.terms
   pub few : length (atoms_from t 0 bs) ≤ tableau_atoms
@@ -146,8 +146,8 @@ TableauDone t p k n bs = AtomsStored p n (atoms_from t 0 bs) (atoms_from t k (dr
 pub record Closed (p q : List ℕ) (atoms asked listed lists views : ℕ) : Type 0 where
   pub same : length q ≡ length p
   pub kept : (y : ℕ) → y < tableau_size_at → get_or q y 0 ≡ get_or p y 0
-  pub atoms-is : tableau_size q ≡ atoms
+  pub atoms_is : tableau_size q ≡ atoms
   pub asked_is : asked_size q ≡ asked
-  pub listed-is : row_count q ≡ listed
-  pub lists-is : list_count q ≡ lists
-  pub views-is : view_count q ≡ views
+  pub listed_is : row_count q ≡ listed
+  pub lists_is : list_count q ≡ lists
+  pub views_is : view_count q ≡ views

@@ -2,9 +2,9 @@
 #![tactic(auto)]
 
 ghost use Rattle.std.specs.Prelude.{◌≡◌, List, ◌∷◌, ◌++◌, ℕ, ◌+◌, ◌-◌, ◌*◌, ◌/◌, ◌<◌, ◌≤◌, pos, length, get_or};
-ghost use Rattle.query_layout.specs.Layout.{block-width};
-ghost use Rattle.tableau_layout.specs.Layout.{blocks_at, most-blocks, plan-numbers, rows_at, table_at, tableau_atoms};
-ghost use Rattle.sheet_format.specs.Limits.{most-atoms, most-rows, table-numbers};
+ghost use Rattle.query_layout.specs.Layout.{block_width};
+ghost use Rattle.tableau_layout.specs.Layout.{blocks_at, most_blocks, plan_numbers, rows_at, table_at, tableau_atoms};
+ghost use Rattle.sheet_format.specs.Limits.{most_atoms, most_rows, table_number_count};
 ghost use Rattle.sheet_format.specs.Table.{table_in};
 ghost use Rattle.sheet_format.specs.Line.{natural, word_lines};
 ghost use Rattle.sheet_format.specs.Cause.{refusal_of};
@@ -49,8 +49,8 @@ fn number_at(ws: &[i32], i: usize) -> usize
 
 // A block's numbers at a place.
 fn put_numbers(p: &mut [usize], at: usize, numbers: &[usize; BLOCK_NUMBERS])
-    requires { at + block-width ≤ length p.old }
-    ensures { KeptOutside p.old p.new at (at + block-width) × ((x : ℕ) → x < block-width → get_or p.new (at + x) 0 ≡ get_or numbers.now x 0) }
+    requires { at + block_width ≤ length p.old }
+    ensures { KeptOutside p.old p.new at (at + block_width) × ((x : ℕ) → x < block_width → get_or p.new (at + x) 0 ≡ get_or numbers.now x 0) }
 {
     let mut x = 0;
     while x < BLOCK_NUMBERS {
@@ -61,7 +61,7 @@ fn put_numbers(p: &mut [usize], at: usize, numbers: &[usize; BLOCK_NUMBERS])
 
 // Block b with its size.
 fn put_block(p: &mut [usize], b: usize, found: Numbers)
-    requires { (length p.old ≡ plan-numbers) × (b < most-blocks) }
+    requires { (length p.old ≡ plan_numbers) × (b < most_blocks) }
     ensures { BlockStored p.old p.new b found.atoms found.numbers }
 {
     let numbers = found.numbers;
@@ -89,7 +89,7 @@ fn count_lists(ws: &[i32]) -> usize
 
 // The place of block b, counted from 0, where there are so many lists.
 fn place(lists: usize, b: usize) -> usize
-    requires { b < most-blocks }
+    requires { b < most_blocks }
     ensures { result ≡ place_of lists b }
 {
     if b <= lists {
@@ -103,8 +103,8 @@ fn place(lists: usize, b: usize) -> usize
 
 // All blocks, and how many there are, where there are so many lists.
 fn put_blocks(ws: &[i32], lists: usize, p: &mut [usize]) -> usize
-    requires { length p.old ≡ plan-numbers }
-    ensures { (length p.new ≡ plan-numbers) × (AcceptedLines (word_lines ws.now) → lists ≡ length (lists_in (word_lines ws.now)) → Blocks p.new (word_lines ws.now) result) }
+    requires { length p.old ≡ plan_numbers }
+    ensures { (length p.new ≡ plan_numbers) × (AcceptedLines (word_lines ws.now) → lists ≡ length (lists_in (word_lines ws.now)) → Blocks p.new (word_lines ws.now) result) }
 {
     let mut b = 0;
     while b < MOST_BLOCKS {
@@ -146,8 +146,8 @@ fn view_of(views: usize) -> usize
 
 // One line more.
 fn take_line(ws: &[i32], i: usize, p: &mut [usize], walk: Tally) -> Tally
-    requires { (i < length ws.now / 7) × (length p.old ≡ plan-numbers) × (walk.views ≤ i) × (walk.rows ≤ most-rows) }
-    ensures { (result.views ≤ i + 1) × (result.rows ≤ most-rows) × KeptOutside p.old p.new rows_at blocks_at × (AcceptedLines (word_lines ws.now) → RowsDone p.old (word_lines ws.now) i walk.views walk.rows → RowsDone p.new (word_lines ws.now) (i + 1) result.views result.rows) }
+    requires { (i < length ws.now / 7) × (length p.old ≡ plan_numbers) × (walk.views ≤ i) × (walk.rows ≤ most_rows) }
+    ensures { (result.views ≤ i + 1) × (result.rows ≤ most_rows) × KeptOutside p.old p.new rows_at blocks_at × (AcceptedLines (word_lines ws.now) → RowsDone p.old (word_lines ws.now) i walk.views walk.rows → RowsDone p.new (word_lines ws.now) (i + 1) result.views result.rows) }
 {
     let kind = number_at(ws, LINE_WORDS * i + 1);
     let views = walk.views;
@@ -171,8 +171,8 @@ fn take_line(ws: &[i32], i: usize, p: &mut [usize], walk: Tally) -> Tally
 
 // All listed rows with their views, and how many there are.
 fn put_rows(ws: &[i32], p: &mut [usize]) -> usize
-    requires { length p.old ≡ plan-numbers }
-    ensures { (result ≤ most-rows) × KeptOutside p.old p.new rows_at blocks_at × (AcceptedLines (word_lines ws.now) → (v : ℕ) × RowsDone p.new (word_lines ws.now) (length ws.now / 7) v result) }
+    requires { length p.old ≡ plan_numbers }
+    ensures { (result ≤ most_rows) × KeptOutside p.old p.new rows_at blocks_at × (AcceptedLines (word_lines ws.now) → (v : ℕ) × RowsDone p.new (word_lines ws.now) (length ws.now / 7) v result) }
 {
     let n = ws.len() / LINE_WORDS;
     let mut walk = Tally { views: 0, rows: 0 };
@@ -186,7 +186,7 @@ fn put_rows(ws: &[i32], p: &mut [usize]) -> usize
 
 // A block's term in the tableau: a slot of the copy, or a constant.
 fn slot(copy: usize, term: usize) -> usize
-    requires { copy ≤ most-rows }
+    requires { copy ≤ most_rows }
     ensures { result ≡ slot_of copy term }
 {
     if term < NAMES {
@@ -200,7 +200,7 @@ fn slot(copy: usize, term: usize) -> usize
 
 // The terms of an atom of a copy, at a place.
 fn place_terms(p: &mut [usize], copy: usize, from: usize, at: usize)
-    requires { (length p.old ≡ plan-numbers) × (copy ≤ most-rows) × (rows_at ≤ from) × (from + 4 ≤ plan-numbers) × (at + 4 ≤ rows_at) }
+    requires { (length p.old ≡ plan_numbers) × (copy ≤ most_rows) × (rows_at ≤ from) × (from + 4 ≤ plan_numbers) × (at + 4 ≤ rows_at) }
     ensures { KeptOutside p.old p.new at (at + 4) × ((c : ℕ) → c < 4 → get_or p.new (at + c) 0 ≡ slot_of copy (get_or p.old (from + c) 0)) }
 {
     let mut c = 0;
@@ -212,7 +212,7 @@ fn place_terms(p: &mut [usize], copy: usize, from: usize, at: usize)
 
 // The terms of an atom of a copy with a relation, as the tableau's atom `at`; the next place.
 fn place_atom(p: &mut [usize], copy: usize, relation: usize, from: usize, at: usize) -> usize
-    requires { (length p.old ≡ plan-numbers) × (copy ≤ most-rows) × (rows_at ≤ from) × (from + 5 ≤ plan-numbers) × (at ≤ tableau_atoms) }
+    requires { (length p.old ≡ plan_numbers) × (copy ≤ most_rows) × (rows_at ≤ from) × (from + 5 ≤ plan_numbers) × (at ≤ tableau_atoms) }
     ensures { (result ≤ tableau_atoms) × KeptOutside p.old p.new 0 rows_at × ((l left : List PlacedAtom) (a : Atom) → length l ≤ tableau_atoms → AtomAt p.old from a → AtomsStored p.old at l (placed_atom copy relation a ∷ left) → AtomsStored p.new result l left) }
 {
     if TABLEAU_ATOMS <= at {
@@ -231,7 +231,7 @@ fn put_atom(
     from: usize,
     at: usize,
 ) -> usize
-    requires { (length p.old ≡ plan-numbers) × (copy ≤ most-rows) × (rows_at ≤ from) × (from + 5 ≤ plan-numbers) × (at ≤ tableau_atoms) }
+    requires { (length p.old ≡ plan_numbers) × (copy ≤ most_rows) × (rows_at ≤ from) × (from + 5 ≤ plan_numbers) × (at ≤ tableau_atoms) }
     ensures { (result ≤ tableau_atoms) × KeptOutside p.old p.new 0 rows_at × ((l left : List PlacedAtom) (a : Atom) → length l ≤ tableau_atoms → AtomAt p.old from a → AtomsStored p.old at l (placed_in copy (with_owed (table_in table.now) a) ++ left) → AtomsStored p.new result l left) }
 {
     let relation = p[from];
@@ -252,7 +252,7 @@ fn put_atoms(
     n: usize,
     at: usize,
 ) -> usize
-    requires { (length p.old ≡ plan-numbers) × (copy ≤ most-rows) × (n ≤ most-atoms) × (rows_at ≤ from) × (from + n * 5 ≤ plan-numbers) × (at ≤ tableau_atoms) }
+    requires { (length p.old ≡ plan_numbers) × (copy ≤ most_rows) × (n ≤ most_atoms) × (rows_at ≤ from) × (from + n * 5 ≤ plan_numbers) × (at ≤ tableau_atoms) }
     ensures { (result ≤ tableau_atoms) × KeptOutside p.old p.new 0 rows_at × ((l left : List PlacedAtom) (own : List Atom) → length l ≤ tableau_atoms → n ≡ length own → ((j : ℕ) → j < n → AtomAt p.old (from + j * 5) (atom_at own j)) → AtomsStored p.old at l (own_atoms (table_in table.now) copy own ++ left) → AtomsStored p.new result l left) }
 {
     let mut next = at;
@@ -266,8 +266,8 @@ fn put_atoms(
 
 // The block of a copy: the question, or the view of a row.
 fn source(p: &[usize], copy: usize) -> usize
-    requires { (length p.now ≡ plan-numbers) × (copy ≤ most-rows) }
-    ensures { (source_of p.now copy < most-blocks → result ≡ source_of p.now copy) × (result < most-blocks) }
+    requires { (length p.now ≡ plan_numbers) × (copy ≤ most_rows) }
+    ensures { (source_of p.now copy < most_blocks → result ≡ source_of p.now copy) × (result < most_blocks) }
 {
     if copy == 0 {
         return 0;
@@ -281,7 +281,7 @@ fn source(p: &[usize], copy: usize) -> usize
 
 // One copy more, its atoms from atom `at` on; the next place.
 fn put_copy(table: &[usize; TABLE_NUMBERS], p: &mut [usize], copy: usize, at: usize) -> usize
-    requires { (length p.old ≡ plan-numbers) × (copy ≤ most-rows) × (at ≤ tableau_atoms) }
+    requires { (length p.old ≡ plan_numbers) × (copy ≤ most_rows) × (at ≤ tableau_atoms) }
     ensures { (result ≤ tableau_atoms) × KeptOutside p.old p.new 0 rows_at × ((n : ℕ) (bs : List Block) → copy < length bs → Sources (table_in table.now) p.old n bs → TableauDone (table_in table.now) p.old copy at bs → TableauDone (table_in table.now) p.new (copy + 1) result bs) }
 {
     let b = source(p, copy);
@@ -294,7 +294,7 @@ fn put_copy(table: &[usize; TABLE_NUMBERS], p: &mut [usize], copy: usize, at: us
 
 // The copies of the rows, after the question's, which has the first `asked` atoms; how many atoms the tableau has then.
 fn put_tableau(table: &[usize; TABLE_NUMBERS], p: &mut [usize], n: usize, asked: usize) -> usize
-    requires { (length p.old ≡ plan-numbers) × (n ≤ most-rows) × (asked ≤ tableau_atoms) }
+    requires { (length p.old ≡ plan_numbers) × (n ≤ most_rows) × (asked ≤ tableau_atoms) }
     ensures { (result ≤ tableau_atoms) × KeptOutside p.old p.new 0 rows_at × ((bs : List Block) → Sources (table_in table.now) p.old n bs → TableauDone (table_in table.now) p.old 1 asked bs → TableauDone (table_in table.now) p.new (n + 1) result bs) }
 {
     let mut at = asked;
@@ -325,7 +325,7 @@ fn put_counts(
     lists: usize,
     views: usize,
 )
-    requires { length p.old ≡ plan-numbers }
+    requires { length p.old ≡ plan_numbers }
     ensures { Closed p.old p.new atoms asked listed lists views }
 {
     p[TABLEAU_SIZE_AT] = atoms;
@@ -337,8 +337,8 @@ fn put_counts(
 
 // The table of relations at its place.
 fn put_table(table: &[usize], p: &mut [usize])
-    requires { (length table.now ≡ table-numbers) × (length p.old ≡ plan-numbers) }
-    ensures { KeptOutside p.old p.new table_at (table_at + table-numbers) × ((x : ℕ) → x < table-numbers → get_or p.new (table_at + x) 0 ≡ get_or table.now x 0) × (length table.now ≡ table-numbers) }
+    requires { (length table.now ≡ table_number_count) × (length p.old ≡ plan_numbers) }
+    ensures { KeptOutside p.old p.new table_at (table_at + table_number_count) × ((x : ℕ) → x < table_number_count → get_or p.new (table_at + x) 0 ≡ get_or table.now x 0) × (length table.now ≡ table_number_count) }
 {
     let mut x = 0;
     while x < TABLE_NUMBERS {
@@ -349,8 +349,8 @@ fn put_table(table: &[usize], p: &mut [usize])
 
 // The plan of a number form that a table of relations accepts, where there are as many words as a plan has; more or fewer words are left as they are.
 pub fn plan(table: &[usize; TABLE_NUMBERS], ws: &[i32], p: &mut [usize])
-    ensures plan { length p.old ≡ plan-numbers → (refusal_of (table_in table.now) (word_lines ws.now)).number ≡ 0 → Plan p.new (sheet_of (table_in table.now) (word_lines ws.now)) }
-    ensures p_unchanged { (length p.old ≡ plan-numbers → ⊥) → p.new ≡ p.old }
+    ensures plan { length p.old ≡ plan_numbers → (refusal_of (table_in table.now) (word_lines ws.now)).number ≡ 0 → Plan p.new (sheet_of (table_in table.now) (word_lines ws.now)) }
+    ensures p_unchanged { (length p.old ≡ plan_numbers → ⊥) → p.new ≡ p.old }
 {
     if p.len() != PLAN_NUMBERS {
         return;

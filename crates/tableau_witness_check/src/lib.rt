@@ -2,7 +2,7 @@
 #![tactic(auto)]
 
 ghost use Rattle.std.specs.Prelude.{◌≡◌, true, ◌/◌, ◌≤◌, ◌<◌, min, length};
-ghost use Rattle.sheet_format.specs.Limits.{most-atoms};
+ghost use Rattle.sheet_format.specs.Limits.{most_atoms};
 ghost use Rattle.query_join.specs.Joins.{value_of, head_row, Becomes};
 ghost use Rattle.query_answers.specs.Answers.{WitnessAt};
 ghost use Rattle.tableau_parts.specs.Walks.{valued, Become};
@@ -28,7 +28,7 @@ fn learn(
     i: usize,
     vals: [usize; NAMES],
 ) -> [usize; NAMES]
-    requires { (j < most-atoms) × (i < length facts.now / 5) }
+    requires { (j < most_atoms) × (i < length facts.now / 5) }
 {
     let mut all = vals;
     let mut c = 0;
@@ -49,7 +49,7 @@ fn values_by(
     facts: &[usize],
     at: [usize; MOST_ATOMS],
 ) -> [usize; NAMES]
-    requires { n ≤ most-atoms }
+    requires { n ≤ most_atoms }
 {
     let m = facts.len() / FACT_NUMBERS;
     let mut vals = [0usize; NAMES];
@@ -73,7 +73,7 @@ fn becomes(
     i: usize,
     vals: &[usize; NAMES],
 ) -> bool
-    requires { (j < most-atoms) × (i < length facts.now / 5) }
+    requires { (j < most_atoms) × (i < length facts.now / 5) }
     ensures { result ≡ true → Becomes blk.now facts.now (valued vals.now) j i }
 {
     if facts[i * FACT_NUMBERS] != blk[j * FACT_NUMBERS] {
@@ -98,7 +98,7 @@ fn all_become(
     at: [usize; MOST_ATOMS],
     vals: &[usize; NAMES],
 ) -> bool
-    requires { n ≤ most-atoms }
+    requires { n ≤ most_atoms }
     ensures { result ≡ true → Become blk.now n facts.now (valued vals.now) at }
 {
     let m = facts.len() / FACT_NUMBERS;
@@ -135,7 +135,7 @@ pub fn shows(
     row: [usize; 4],
     at: [usize; MOST_ATOMS],
 ) -> bool
-    ensures { result ≡ true → WitnessAt blk.now (min n most-atoms) facts.now row at }
+    ensures { result ≡ true → WitnessAt blk.now (min n most_atoms) facts.now row at }
 {
     let most = query_join::few_atoms(n);
     let vals = values_by(blk, most, facts, at);

@@ -5,7 +5,7 @@
 #![tactic(auto)]
 
 ghost use Rattle.std.specs.Prelude.{◌≡◌, ◌+◌, ◌*◌, ◌<◌, ◌≤◌, length};
-ghost use Rattle.sheet_format.specs.Limits.{most-words};
+ghost use Rattle.sheet_format.specs.Limits.{most_words};
 
 use judge_result::LEAST_ROOM;
 use sheet_format::{CONSTANT_END, Ending, LINE_WORDS, MOST_LINES, MOST_WORDS};
@@ -114,7 +114,7 @@ fn is_term(words: &[i32], i: usize, w: i32) -> bool
 
 // Whether the facts are a case of the sheet.
 fn is_case(table: &[u8], sheet: &[u8], words: &[i32], facts: &[i32]) -> bool
-    requires { length words.now ≡ most-words }
+    requires { length words.now ≡ most_words }
 {
     let mut asked = [0i32; ROOM];
     if lacking(table, sheet, words, facts, &mut asked) == ANSWERS {
@@ -125,7 +125,7 @@ fn is_case(table: &[u8], sheet: &[u8], words: &[i32], facts: &[i32]) -> bool
 
 // Whether the facts are those of a log that counts, and each view's answers are its listed rows.
 fn agrees(table: &[u8], sheet: &[u8], words: &[i32], facts: &[i32]) -> bool
-    requires { length words.now ≡ most-words }
+    requires { length words.now ≡ most_words }
 {
     if !is_lawful(table, facts) {
         return false;
@@ -274,7 +274,7 @@ fn head(kind: i32, last: i32) -> usize
 
 // Whether a view's answers are its listed rows.
 fn is_listed(table: &[u8], sheet: &[u8], words: &[i32], facts: &[i32], block: usize) -> bool
-    requires { length words.now ≡ most-words }
+    requires { length words.now ≡ most_words }
 {
     let mut listed = [0i32; ROOM];
     let n = list(words, block, &mut listed);
@@ -291,7 +291,7 @@ fn is_listed(table: &[u8], sheet: &[u8], words: &[i32], facts: &[i32], block: us
 
 // Puts the listed rows of a view at the start of out, and returns how many they are.
 fn list(words: &[i32], block: usize, out: &mut [i32]) -> usize
-    requires { (length words.now ≡ most-words) × (length out.old ≡ 4096) }
+    requires { (length words.now ≡ most_words) × (length out.old ≡ 4096) }
 {
     let mut n = 0;
     let mut i = 0;
@@ -342,7 +342,7 @@ fn are_same(a: &[i32], b: &[i32]) -> bool
 
 // Whether the missing answer is the least that the facts give the question and no list.
 fn is_least(table: &[u8], sheet: &[u8], words: &[i32], facts: &[i32], missing: &[usize; 4]) -> bool
-    requires { length words.now ≡ most-words }
+    requires { length words.now ≡ most_words }
 {
     let mut asked = [0i32; ROOM];
     let n = lacking(table, sheet, words, facts, &mut asked);
@@ -374,7 +374,7 @@ fn word(n: usize) -> i32 {
 // Puts the question's answers at the start of the room, and returns the number, from 0, of the first that no list has; the number of
 // answers that there is room for where each is a list's, or where there are more.
 fn lacking(table: &[u8], sheet: &[u8], words: &[i32], facts: &[i32], asked: &mut [i32]) -> usize
-    requires { (length words.now ≡ most-words) × (length asked.old ≡ 4096) }
+    requires { (length words.now ≡ most_words) × (length asked.old ≡ 4096) }
     ensures { result ≤ 1024 }
 {
     let question = evaluate::evaluate_by_table(table, sheet, 1, facts, asked);
@@ -476,7 +476,7 @@ fn is_answer(a: &[i32], k: usize, b: &[i32], i: usize) -> bool
 
 // Whether the facts are no case without any one of them.
 fn is_bare(table: &[u8], sheet: &[u8], words: &[i32], facts: &[i32]) -> bool
-    requires { length words.now ≡ most-words }
+    requires { length words.now ≡ most_words }
 {
     let mut i = 0;
     while i < facts.len() / FACT {
@@ -490,7 +490,7 @@ fn is_bare(table: &[u8], sheet: &[u8], words: &[i32], facts: &[i32]) -> bool
 
 // Whether the facts are a case without fact i.
 fn is_case_without(table: &[u8], sheet: &[u8], words: &[i32], facts: &[i32], i: usize) -> bool
-    requires { length words.now ≡ most-words }
+    requires { length words.now ≡ most_words }
 {
     let mut rest = [0i32; LEAST_ROOM];
     let n = put_without(facts, i, &mut rest);

@@ -9,7 +9,7 @@
 //     the words of its stretch after the facts are as they were lent
 //     the sheet alone, by the same table and lent as many words, has the same judgement and the same facts
 ghost use Rattle.std.specs.Prelude.{◌≤◌, ◌<◌};
-ghost use Rattle.judge_result.specs.Judged.{least-room};
+ghost use Rattle.judge_result.specs.Judged.{least_room};
 ghost use Rattle.judge_ends.specs.Sets.{most_sheets};
 
 use crate::HELD_NUMBERS;
@@ -175,7 +175,7 @@ fn put_sheet(
 
 // How many words that many facts have; no more than a stretch has.
 fn fact_words(count: usize) -> usize
-    ensures { result ≤ least-room }
+    ensures { result ≤ least_room }
 {
     if count < LEAST_ROOM / FACT_WORDS {
         count * FACT_WORDS

@@ -15,3 +15,7 @@ TakesByte old new b = Consumes old new (b ∷ []) ⊎ ((b ≡ 10) × Consumes ol
 -- the r bytes at the start of `out` are taken from known bytes, and byte 10 after them; or they alone, where none is left or there is no room
 abbrev pub TakesLine : Option (List ℕ) → Option (List ℕ) → List ℕ → ℕ → Type 0
 TakesLine old new out r = Consumes old new (take r out ++ 10 ∷ []) ⊎ (Consumes old new (take r out) × (r < length out → IsAtEnd new))
+
+-- some bytes of a line are taken from known bytes and stand at the start of `new`
+abbrev pub BreaksOff : Option (List ℕ) → Option (List ℕ) → List ℕ → List ℕ → Type 0
+BreaksOff before after old new = (r : ℕ) × LineIn old new r × Consumes before after (take r new)

@@ -2,8 +2,8 @@
 use Rattle.std.specs.Prelude.{Bool, false, cond, ◌&&◌, ◌||◌, List, [], ◌∷◌, ℕ, suc, eqb, leb}
 
 -- a text has at most so many bytes
-abbrev pub most-text : ℕ
-most-text = 65536
+abbrev pub most_text : ℕ
+most_text = 65536
 
 -- the letter of a block's kind: "q" for the question, "l" for the saved list, "v" for a view
 abbrev pub letter_of : ℕ → ℕ

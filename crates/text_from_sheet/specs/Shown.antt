@@ -6,7 +6,7 @@ use Rattle.sheet_format.specs.Sheet.{ending, lent_by, sheet_refusal}
 use Rattle.sheet_format.specs.declared.Ending.{Ending}
 use Rattle.sheet_table.specs.Tables.{table_of}
 use Rattle.sheet.specs.ByTable.{if_refused, table_refused}
-use Rattle.text_writer.specs.Rooms.{text-room}
+use Rattle.text_writer.specs.Rooms.{text_room}
 use Rattle.text_writer.specs.Texts.{lines_bytes}
 
 -- ---- by a table of relations, t
@@ -17,7 +17,7 @@ text_of t s = lines_bytes t (words_of (byte_lines s))
 
 -- the sheet's own refusal, then 13 where too few bytes are lent; else the text's length
 unfoldable pub text_ending : Table → List ℕ → ℕ → Ending
-text_ending t s room = ending (sheet_refusal t s) room text-room (length (text_of t s))
+text_ending t s room = ending (sheet_refusal t s) room text_room (length (text_of t s))
 
 -- the lent bytes afterwards: the whole text in front; after a refusal all as it was
 unfoldable pub text_lent : Table → List ℕ → List ℕ → List ℕ

@@ -12,7 +12,7 @@ use mir.Syntax.{w32}
 use mir.Val.{to_z}
 use mir.ValLaws.{to_z_pos}
 use borrow.Author.Tests.{eq-eqb, ne_eqb, eqb-true, eqb-false, lt-ltb, le-ltb}
-use Rattle.sheet_format.specs.Limits.{field-bytes, field_end}
+use Rattle.sheet_format.specs.Limits.{field_byte_count, field_end}
 use Rattle.sheet_format.specs.Table.{Table, table_in}
 use Rattle.sheet_format.specs.Line.{Line, null, line_of, closed, open_from, byte_lines, line_at}
 use Rattle.sheet_format.specs.Cause.{Kind, question, saved, view, atom, row, other, kind, rest, in_place, start, scan, refusal_of}
@@ -24,15 +24,15 @@ use Rattle.sheet_format.proofs.RoundTrip.{bytes-clean}
 use Rattle.sheet_format.proofs.TableLaws.{Narrow}
 use Rattle.sheet_terms.proofs.Laws.{columns-most}
 use Rattle.query_meaning.specs.Blocks.{as_term, view_of, blocks, nth}
-use Rattle.query_meaning.specs.Evaluate.{answer-words}
+use Rattle.query_meaning.specs.Evaluate.{answer_word_count}
 use Rattle.query_blocks.proofs.Accepted.{Clean, scan-first}
 use Rattle.case_verdicts.specs.Sheets.{is_question, question_in}
-use Rattle.judge_result.specs.Judged.{least-room, Judged, SheetSent}
+use Rattle.judge_result.specs.Judged.{least_room, Judged, SheetSent}
 use Rattle.judge_result.specs.declared.Judgement.{Judgement}
 use Rattle.text_buffer.specs.Puts.{Put}
 use Rattle.text_buffer.specs.Words.{bytes}
 use Rattle.text_buffer.proofs.Laws.{said}
-use Rattle.text_writer.specs.Rooms.{text-room}
+use Rattle.text_writer.specs.Rooms.{text_room}
 use Rattle.text_writer.specs.Texts.{refusal_bytes}
 use Rattle.text_writer.proofs.Parts.{take-least}
 use Rattle.text_writer.proofs.Bounds.{all-put, terms-few, facts-few, refusal-few}
@@ -46,7 +46,7 @@ value-below {n} h = rw (to_z_pos w32 n (omega arith), lt-ltb n field_end h)
 pub value-beyond : {n : ℕ} → field_end ≤ n → pos 0 ≡ value_word n
 value-beyond {n} h = rw (le-ltb n field_end h)
 
-four-values : (m : List ℕ) → length m ≡ answer-words → value_word (get_or m 0 0) ∷ value_word (get_or m 1 0) ∷ value_word (get_or m 2 0) ∷ value_word (get_or m 3 0) ∷ [] ≡ map value_word m
+four-values : (m : List ℕ) → length m ≡ answer_word_count → value_word (get_or m 0 0) ∷ value_word (get_or m 1 0) ∷ value_word (get_or m 2 0) ∷ value_word (get_or m 3 0) ∷ [] ≡ map value_word m
 four-values [] e = absurd (omega arith)
 four-values (a ∷ []) e = absurd (omega arith)
 four-values (a ∷ b ∷ []) e = absurd (omega arith)
@@ -55,7 +55,7 @@ four-values (a ∷ b ∷ c ∷ d ∷ []) e = refl
 four-values (a ∷ b ∷ c ∷ d ∷ f ∷ m) e = absurd (omega arith)
 
 -- the first of four words that are the values
-pub some-values : (columns some : ℕ) (m : List ℕ) {a b c d : ℤ} → length m ≡ answer-words → some ≡ min columns answer-words
+pub some-values : (columns some : ℕ) (m : List ℕ) {a b c d : ℤ} → length m ≡ answer_word_count → some ≡ min columns answer_word_count
     → a ≡ value_word (get_or m 0 0) → b ≡ value_word (get_or m 1 0) → c ≡ value_word (get_or m 2 0) → d ≡ value_word (get_or m 3 0)
     → take (some - 0) (a ∷ b ∷ c ∷ d ∷ []) ≡ take columns (map value_word m)
 some-values columns some m l e f g h i =
@@ -92,12 +92,12 @@ unfolding scan
 no_lines table ok = no_way (accepted-scan table [] ok)
 
 -- the first line of an accepted sheet is the question's head
-pub asked_is : (table : Table) (s : List ℕ) → (sheet_refusal table s).number ≡ 0 → length (line_at s 1) / field-bytes - 1 ≡ asked s
+pub asked_is : (table : Table) (s : List ℕ) → (sheet_refusal table s).number ≡ 0 → length (line_at s 1) / field_byte_count - 1 ≡ asked s
 unfolding byte_lines
 asked_is table s clean = go (closed s) (null (open_from [] s)) (bytes-clean table s clean)
   where
     go : (cs : List (List ℕ)) (t : Bool) → (refusal_of table (map line_of cs ++ cond t [] ([] ∷ []))).number ≡ 0
-        → length (get_or cs 0 []) / field-bytes - 1 ≡ length (question_in (map line_of cs ++ cond t [] ([] ∷ []))).head
+        → length (get_or cs 0 []) / field_byte_count - 1 ≡ length (question_in (map line_of cs ++ cond t [] ([] ∷ []))).head
     go [] true ok = no_lines table ok
     go [] false ok = no_way (sym (first-clean table [] [] ok).formed)
     go (x ∷ cs) t ok =
@@ -108,7 +108,7 @@ asked_is table s clean = go (closed s) (null (open_from [] s)) (bytes-clean tabl
 
 -- ---- what is said
 
-case-few : (table : Table) → Narrow table → (columns : ℕ) (missing : List ℕ) (count : ℕ) (facts : List ℤ) → length missing ≡ answer-words → length facts ≡ least-room → length (case_bytes table columns missing count facts) ≤ text-room
+case-few : (table : Table) → Narrow table → (columns : ℕ) (missing : List ℕ) (count : ℕ) (facts : List ℤ) → length missing ≡ answer_word_count → length facts ≡ least_room → length (case_bytes table columns missing count facts) ≤ text_room
 unfolding case_bytes
 case-few table narrow columns missing count facts m l =
     let vs = map value_word missing in
@@ -124,9 +124,9 @@ module _ (table : Table) (columns : ℕ) (j : Judgement) (facts : List ℤ) wher
   unfolding verdict_bytes
   covered e = rw (eq-eqb j.verdict 0 e)
 
-  pub no-log : j.verdict ≡ 2 → bytes "no log gives these rows\n" ≡ verdict_bytes table columns j facts
+  pub no_log : j.verdict ≡ 2 → bytes "no log gives these rows\n" ≡ verdict_bytes table columns j facts
   unfolding verdict_bytes
-  no-log e = rw e
+  no_log e = rw e
 
   pub refused : j.verdict ≡ 9 → refusal_bytes j.number j.line 0 ≡ verdict_bytes table columns j facts
   unfolding verdict_bytes
@@ -144,28 +144,28 @@ equal_or m n = go (eqb m n) refl
     go false e = inr (eqb-false m n e)
 
 -- whatever the verdict is, the words fit the room, and the columns of an accepted sheet are its question's
-module _ (ns s : List ℕ) (after : List ℤ) (j : Judgement) (judged : Judged (table_in ns) s lent after j) (m : length j.missing ≡ answer-words) (l : length after ≡ least-room) where
+module _ (ns s : List ℕ) (after : List ℤ) (j : Judgement) (judged : Judged (table_in ns) s lent after j) (m : length j.missing ≡ answer_word_count) (l : length after ≡ least_room) where
   abbrev Fit : ℕ → Type 0
-  Fit columns = (verdict_bytes (table_in ns) columns j after ≡ verdict_bytes (table_in ns) (asked s) j after) × (length (verdict_bytes (table_in ns) columns j after) ≤ text-room)
+  Fit columns = (verdict_bytes (table_in ns) columns j after ≡ verdict_bytes (table_in ns) (asked s) j after) × (length (verdict_bytes (table_in ns) columns j after) ≤ text_room)
 
-  same : (columns : ℕ) (t : List ℕ) → t ≡ verdict_bytes (table_in ns) columns j after → t ≡ verdict_bytes (table_in ns) (asked s) j after → length t ≤ text-room → Fit columns
+  same : (columns : ℕ) (t : List ℕ) → t ≡ verdict_bytes (table_in ns) columns j after → t ≡ verdict_bytes (table_in ns) (asked s) j after → length t ≤ text_room → Fit columns
   same columns t e f few = (sym e ∙ f, rw (← e) few)
 
   -- a sheet whose verdict is not 9 is accepted
   accepted : (j.verdict ≡ 9 → ⊥) → (sheet_refusal (table_in ns) s).number ≡ 0
   accepted n = ⊎_elim (λ (d : SheetSent (table_in ns) s lent after j). absurd (n (ap (λ (q : Judgement). q.verdict) d.result))) (λ d. d.0) judged
 
-  pub fits : (columns : ℕ) → columns ≡ length (line_at s 1) / field-bytes - 1 → Fit columns
+  pub fits : (columns : ℕ) → columns ≡ length (line_at s 1) / field_byte_count - 1 → Fit columns
   fits columns e =
       ⊎_elim (λ z. same columns _ (covered (table_in ns) columns j after z) (covered (table_in ns) (asked s) j after z) (omega arith))
-      (λ a. ⊎_elim (λ z. same columns _ (no-log (table_in ns) columns j after z) (no-log (table_in ns) (asked s) j after z) (omega arith))
+      (λ a. ⊎_elim (λ z. same columns _ (no_log (table_in ns) columns j after z) (no_log (table_in ns) (asked s) j after z) (omega arith))
       (λ b. ⊎_elim (λ z. same columns _ (refused (table_in ns) columns j after z) (refused (table_in ns) (asked s) j after z) (refusal-few j.number j.line 0))
       (λ c. same columns _ (case (table_in ns) columns j after a b c) (ap (λ (n : ℕ). case_bytes (table_in ns) n j.missing j.count after) (e ∙ asked_is (table_in ns) s (accepted c)) ∙ case (table_in ns) (asked s) j after a b c) (case-few (table_in ns) (columns-most ns) columns j.missing j.count after m l))
       (equal_or j.verdict 9))
       (equal_or j.verdict 2))
       (equal_or j.verdict 0)
 
-  pub told : (out new : List ℕ) (r : ℕ) → text-room ≤ length out → (columns : ℕ) → columns ≡ length (line_at s 1) / field-bytes - 1 → Put out new 0 (verdict_bytes (table_in ns) columns j after) r → Verdict (table_in ns) s out new r
+  pub told : (out new : List ℕ) (r : ℕ) → text_room ≤ length out → (columns : ℕ) → columns ≡ length (line_at s 1) / field_byte_count - 1 → Put out new 0 (verdict_bytes (table_in ns) columns j after) r → Verdict (table_in ns) s out new r
   told out new r room columns e p =
       let f = fits columns e in
       inr (record { after = after; judgement = j; judged = judged; words = all-put (said f.0 p) room (rw (← f.0) f.1) })

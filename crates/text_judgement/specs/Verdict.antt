@@ -4,7 +4,7 @@ use Rattle.sheet_format.specs.Limits.{field_end}
 use Rattle.sheet_format.specs.Table.{Table}
 use Rattle.sheet_format.specs.Line.{byte_lines}
 use Rattle.case_verdicts.specs.Sheets.{question_in}
-use Rattle.judge_result.specs.Judged.{least-room, Judged}
+use Rattle.judge_result.specs.Judged.{least_room, Judged}
 use Rattle.judge_result.specs.declared.Judgement.{Judgement}
 use Rattle.text_buffer.specs.Words.{bytes}
 use Rattle.text_writer.specs.Texts.{terms_bytes, facts_bytes, refusal_bytes}
@@ -41,7 +41,7 @@ asked s = length (question_in (byte_lines s)).head
 
 -- the words that are lent for judging
 abbrev pub lent : List ℤ
-lent = replicate least-room (pos 0)
+lent = replicate least_room (pos 0)
 
 -- the sheet is judged, and the judgement said, all of it
 pub record Told (t : Table) (s old new : List ℕ) (r : ℕ) : Type 0 where

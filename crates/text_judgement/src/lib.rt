@@ -2,7 +2,7 @@
 #![tactic(auto)]
 
 ghost use Rattle.std.specs.Prelude.{◌≡◌, ◌-◌, ◌/◌, min, length};
-ghost use Rattle.sheet_format.specs.Limits.{field-bytes};
+ghost use Rattle.sheet_format.specs.Limits.{field_byte_count};
 ghost use Rattle.sheet_format.specs.Table.{table_in};
 ghost use Rattle.sheet_format.specs.Line.{line_at};
 ghost use Rattle.text_buffer.specs.Puts.{Put};
@@ -26,7 +26,7 @@ fn least(a: usize, b: usize) -> usize
 
 // The columns of the question's head, which is the sheet's first line.
 pub fn columns(sheet: &[u8]) -> usize
-    ensures { result ≡ length (line_at sheet.now 1) / field-bytes - 1 }
+    ensures { result ≡ length (line_at sheet.now 1) / field_byte_count - 1 }
 {
     let fields = sheet::line(sheet, 1).len() / FIELD_BYTES;
     if fields < 1 {

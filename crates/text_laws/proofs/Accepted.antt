@@ -10,7 +10,7 @@ use lib.IntN.{ℤ, pos, negsuc}
 use lib.ListN.{length}
 use borrow.Author.Tests.{eqb-true, eq-eqb, ltb-true, lt-ltb, not-false}
 use Rattle.list_laws.proofs.Order.{less?}
-use Rattle.sheet_format.specs.Limits.{most-variables}
+use Rattle.sheet_format.specs.Limits.{most_variables}
 use Rattle.sheet_format.specs.Table.{Table}
 use Rattle.sheet_format.specs.Line.{Line, all}
 use Rattle.sheet_format.specs.Cause.{kind_of, rest, term_of, term, constant, above, cause, start, next, scan, heads, refusal_of}
@@ -32,10 +32,10 @@ unfolding numbered_terms
 terms-length ks [] = refl
 terms-length ks (z ∷ zs) = ap suc (terms-length (known_after ks z) zs)
 
-place-below : (v : ℕ) (ks : List ℕ) → v < most-variables → Below ks → place_among v ks < most-variables
+place-below : (v : ℕ) (ks : List ℕ) → v < most_variables → Below ks → place_among v ks < most_variables
 place-below v ks h b =
-    ⊎_elim (λ l. let f = few most-variables ks b in omega arith)
-    (λ l. let f = few most-variables (v ∷ ks) (h, new-fresh v ks l, b) in let p = place-few v ks in omega arith)
+    ⊎_elim (λ l. let f = few most_variables ks b in omega arith)
+    (λ l. let f = few most_variables (v ∷ ks) (h, new-fresh v ks l, b) in let p = place-few v ks in omega arith)
     (less? (place_among v ks) (length ks))
 
 terms-range : (zs : List ℤ) (ks : List ℕ) → all term zs ≡ true → Below ks → all term (numbered_terms ks zs) ≡ true
@@ -44,8 +44,8 @@ terms-range [] ks e b = refl
 terms-range (pos n ∷ zs) ks e b = and_both (term (pos n)) (all term (numbered_terms ks zs)) (and_left (term (pos n)) (all term zs) e) (terms-range zs ks (and_right (term (pos n)) (all term zs) e) b)
 terms-range (negsuc v ∷ zs) ks e b =
     let t = and_left (term (negsuc v)) (all term zs) e in
-    let h = ltb-true v most-variables (in-range (ltb v most-variables) (Variable (suc v)) t) in
-    and_both (term (negsuc (place_among v ks))) (all term (numbered_terms (known v ks) zs)) (rw (lt-ltb (place_among v ks) most-variables (place-below v ks h b)))
+    let h = ltb-true v most_variables (in-range (ltb v most_variables) (Variable (suc v)) t) in
+    and_both (term (negsuc (place_among v ks))) (all term (numbered_terms (known v ks) zs)) (rw (lt-ltb (place_among v ks) most_variables (place-below v ks h b)))
     (terms-range zs (known v ks) (and_right (term (negsuc v)) (all term zs) e) (term-token (negsuc v) ks t b).below)
 
 -- ---- a line

@@ -58,7 +58,7 @@ agreeing-same x y s log a = record {
   agrees = λ w m.
       let (v, i, l) = s.views w m in record {
         none_more = λ t n. subst (In t) l.rows_are ((a.agrees v i).none_more t (l.answers.from log t n));
-        none-missing = λ t n. l.answers.to log t ((a.agrees v i).none-missing t (subst (In t) (sym l.rows_are) n));
+        none_missing = λ t n. l.answers.to log t ((a.agrees v i).none_missing t (subst (In t) (sym l.rows_are) n));
       };
 }
 

@@ -11,7 +11,7 @@ use lib.ListN.{length}
 use borrow.Author.Tests.{eq-eqb, ne_eqb, lt-ltb, leb-true}
 use Rattle.list_laws.proofs.Order.{less?}
 use Rattle.sheet_format.specs.Line.{Line, all}
-use Rattle.sheet_format.specs.Limits.{most-variables, field_end}
+use Rattle.sheet_format.specs.Limits.{most_variables, field_end}
 use Rattle.sheet_format.specs.Cause.{or_out, is_term, is_constant, term_of, term, constant}
 use Rattle.sheet_format.specs.declared.FieldTerm.{FieldTerm}
 use Rattle.sheet_format.specs.declared.FieldTerm.TheVariants.{Constant, Variable, OutOfRange}
@@ -243,7 +243,7 @@ pub constants-kept : (zs : List ℤ) (ks : List ℕ) → all constant zs ≡ tru
 unfolding numbered_terms known_behind term_of
 constants-kept [] ks e = (refl, refl)
 constants-kept (pos n ∷ zs) ks e = let r = constants-kept zs ks (and_right (constant (pos n)) (all constant zs) e) in (ap (λ x. pos n ∷ x) r.0, r.1)
-constants-kept (negsuc v ∷ zs) ks e = by (ltb v most-variables) (and_left (constant (negsuc v)) (all constant zs) e)
+constants-kept (negsuc v ∷ zs) ks e = by (ltb v most_variables) (and_left (constant (negsuc v)) (all constant zs) e)
   where
     by : {A : Type 0} (t : Bool) → is_constant (or_out t (Variable (suc v))) ≡ true → A
     by true i = no_way i
@@ -264,7 +264,7 @@ constant-terms (z ∷ zs) e = and_both (term z) (all term zs) (constant-term z (
 constant-kind : (z : ℤ) → constant z ≡ true → term_kind z ≡ 48
 unfolding term_of
 constant-kind (pos n) e = refl
-constant-kind (negsuc v) e = by (ltb v most-variables) e
+constant-kind (negsuc v) e = by (ltb v most_variables) e
   where
     by : {A : Type 0} (t : Bool) → is_constant (or_out t (Variable (suc v))) ≡ true → A
     by true i = no_way i

@@ -5,7 +5,7 @@ use Prim.Native.Nat.{ℕ, ◌%◌, ◌≤◌}
 use native.Mathlib.Omega.{arith}
 use lib.ListN.{length}
 use borrow.Author.Tests.{eq-eqb, le-ltb}
-use Rattle.sheet_format.specs.Limits.{most-words, most_bytes, line-words}
+use Rattle.sheet_format.specs.Limits.{most_words, most_bytes, line_word_count}
 use Rattle.sheet_format.specs.Table.{Table}
 use Rattle.sheet_format.specs.Line.{Line, byte_lines, bytes_of, words_of}
 use Rattle.sheet_format.specs.Cause.{refusal_of}
@@ -15,7 +15,7 @@ use Rattle.sheet_format.proofs.Good.{Goods}
 use Rattle.sheet_format.proofs.LineLaws.{words_back, bytes_back, all-words-length, bytes_good, bytes-shown}
 use Rattle.sheet_format.proofs.ScanLaws.{accepted-lines, accepted-length}
 use Rattle.sheet_format.proofs.RoundTrip.{ending-is, bytes-clean}
-use Rattle.text_begins.specs.Begins.{most-text}
+use Rattle.text_begins.specs.Begins.{most_text}
 use Rattle.text_from_sheet.specs.Shown.{text_of}
 use Rattle.text_from_sheet.proofs.Calls.{text-fits}
 use Rattle.text_to_sheet.specs.Texts.{made_by_writing, made_of, sheet_bytes}
@@ -48,7 +48,7 @@ words-written table ls g e room le =
     let b = words_back ls g in
     let n = accepted-length table ls e in
     let m = all-words-length ls g in
-    rw (le-ltb most-words (length (words_of ls)) (omega arith), eq-eqb (length (words_of ls) % line-words) 0 (omega arith), b) (ending-is (refusal_of table ls) room most_bytes (length (bytes_of ls)) e le)
+    rw (le-ltb most_words (length (words_of ls)) (omega arith), eq-eqb (length (words_of ls) % line_word_count) 0 (omega arith), b) (ending-is (refusal_of table ls) room most_bytes (length (bytes_of ls)) e le)
 
 module _ (table : Table) (named : Named table) (s : List ℕ) (e : (sheet_refusal table s).number ≡ 0) where
   abbrev numbered : List Line
@@ -72,7 +72,7 @@ module _ (table : Table) (named : Named table) (s : List ℕ) (e : (sheet_refusa
       let f = text-fits table named.narrow s e in
       let w : write_ending table (form_of (reading_of (text_of table s))) room ≡ Done (length (bytes_of numbered)) =
       ap (λ ls. write_ending table (words_of ls) room) t.lines ∙ words-written table numbered numbered-good (numbered-accepted table (byte_lines s) (bytes-clean table s e)) room h in
-      rw (le-ltb most-text (length (text_of table s)) (omega arith), eq-eqb (reading_of (text_of table s)).control.expected 0 t.fits) (ap (made_by_writing (reading_of (text_of table s))) w)
+      rw (le-ltb most_text (length (text_of table s)) (omega arith), eq-eqb (reading_of (text_of table s)).control.expected 0 t.fits) (ap (made_by_writing (reading_of (text_of table s))) w)
 
   -- a sheet that is numbered so is given back byte for byte
   module _ (n : ByFirstPlace s) where

@@ -8,7 +8,7 @@ use lib.Dec.{eqb, ltb, leb}
 use lib.IntN.{ℤ, pos, negsuc}
 use lib.ListN.{length, take, length-append, length-take}
 use borrow.Author.Tests.{lt-ltb, leb-false}
-use Rattle.sheet_format.specs.Limits.{field_end, field-minus-end, most-fields, most-variables}
+use Rattle.sheet_format.specs.Limits.{field_end, field_minus_end, most_fields, most_variables}
 use Rattle.sheet_format.specs.Field.{fits}
 use Rattle.sheet_format.specs.Line.{Line, all, word_lines, words_of}
 use Rattle.sheet_format.proofs.Lists.{and_left, and_right, and_both}
@@ -40,34 +40,34 @@ place-few w (n ∷ ns) = let a = place-few w ns in either (λ k. k ≤ suc (leng
 
 -- no more names than a block may have variables
 abbrev FewNames : List (List ℕ) → Type 0
-FewNames ns = length ns ≤ most-variables
+FewNames ns = length ns ≤ most_variables
 
-noted-few : (w : List ℕ) (ns : List (List ℕ)) → length ns ≤ most-variables → length (noted w ns) ≤ most-variables
+noted-few : (w : List ℕ) (ns : List (List ℕ)) → length ns ≤ most_variables → length (noted w ns) ≤ most_variables
 unfolding noted
-noted-few w ns h = either FewNames (ltb (place_in w ns) (length ns)) {x = ns} h (by (leb most-variables (length ns)) refl)
+noted-few w ns h = either FewNames (ltb (place_in w ns) (length ns)) {x = ns} h (by (leb most_variables (length ns)) refl)
   where
-    by : (t : Bool) → leb most-variables (length ns) ≡ t → length (cond t ns (ns ++ (w ∷ []))) ≤ most-variables
+    by : (t : Bool) → leb most_variables (length ns) ≡ t → length (cond t ns (ns ++ (w ∷ []))) ≤ most_variables
     by true e = h
-    by false e = let l = leb-false most-variables (length ns) e in rw (length-append ns (w ∷ [])) (omega arith)
+    by false e = let l = leb-false most_variables (length ns) e in rw (length-append ns (w ∷ [])) (omega arith)
 
 -- ---- readings
 
 pub record Sound (p : Reading) : Type 0 where
   pub lines : Goods p.lines
-  pub names : length p.names ≤ most-variables
+  pub names : length p.names ≤ most_variables
   pub kind : p.control.kind ≤ 5
 
-field_fits : (w : List ℕ) (ns : List (List ℕ)) → length ns ≤ most-variables → fits (field_for (token_mark w) w ns) ≡ true
+field_fits : (w : List ℕ) (ns : List (List ℕ)) → length ns ≤ most_variables → fits (field_for (token_mark w) w ns) ≡ true
 field_fits w ns h =
     let a = place-few w ns in
-    either (λ z. fits z ≡ true) (eqb (token_mark w).kind 97) (lt-ltb (suc (place_in w ns)) field-minus-end (omega arith)) (lt-ltb (token_mark w).value field_end (value-few w))
+    either (λ z. fits z ≡ true) (eqb (token_mark w).kind 97) (lt-ltb (suc (place_in w ns)) field_minus_end (omega arith)) (lt-ltb (token_mark w).value field_end (value-few w))
 
 grown-good : (z : ℤ) (ls : List Line) → fits z ≡ true → Goods ls → Goods (grown z ls)
 unfolding grown
 grown-good z [] k g = tt
 grown-good z (l ∷ ls) k g =
-    let f = length-take most-fields (l ++ (z ∷ [])) in
-    (record { few = omega arith; fitting = fit-take most-fields (l ++ (z ∷ [])) (fit-more l z g.0.fitting k) }, g.1)
+    let f = length-take most_fields (l ++ (z ∷ [])) in
+    (record { few = omega arith; fitting = fit-take most_fields (l ++ (z ∷ [])) (fit-more l z g.0.fitting k) }, g.1)
 
 module _ (p : Reading) (s : Sound p) (w : List ℕ) where
   read-sound : Sound (read p w)

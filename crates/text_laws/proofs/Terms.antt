@@ -10,7 +10,7 @@ use lib.IntN.{ℤ, pos, negsuc}
 use lib.ListN.{length, length-map}
 use borrow.Author.Tests.{eq-eqb, ne_eqb, eqb-true, eqb-false, lt-ltb, ltb-true, ltb-false, le-leb, lt-leb}
 use Rattle.list_laws.proofs.Lists.{map_append}
-use Rattle.sheet_format.specs.Limits.{most-variables, constant-end}
+use Rattle.sheet_format.specs.Limits.{most_variables, constant_end}
 use Rattle.sheet_format.specs.Line.{all}
 use Rattle.sheet_format.specs.Cause.{or_out, is_term, term_of, term}
 use Rattle.sheet_format.specs.declared.FieldTerm.{FieldTerm}
@@ -69,12 +69,12 @@ letters ks = map letter_for ks
 
 -- variables of a block, each but once
 abbrev pub Below : List ℕ → Type 0
-Below ks = Different most-variables ks
+Below ks = Different most_variables ks
 
-letter_is : (v : ℕ) → v < most-variables → variable_letter (suc v) ≡ 97 + v
+letter_is : (v : ℕ) → v < most_variables → variable_letter (suc v) ≡ 97 + v
 letter_is v h = sym (letter_at {i = suc v} (omega arith) (omega arith)) ∙ omega arith
 
-same_letter : (v k : ℕ) → v < most-variables → k < most-variables → are_same_bytes (letter_for v) (letter_for k) ≡ eqb v k
+same_letter : (v k : ℕ) → v < most_variables → k < most_variables → are_same_bytes (letter_for v) (letter_for k) ≡ eqb v k
 unfolding are_same_bytes
 same_letter v k h l = rw (letter_is v h, letter_is k l) (by (eqb v k) refl)
   where
@@ -82,7 +82,7 @@ same_letter v k h l = rw (letter_is v h, letter_is k l) (by (eqb v k) refl)
     by true e = let q = eqb-true v k e in rw (e, eq-eqb (97 + v) (97 + k) (omega arith))
     by false e = let q = eqb-false v k e in rw (e, ne_eqb (97 + v) (97 + k) (λ i. q (omega arith)))
 
-place_letter : (v : ℕ) (ks : List ℕ) → v < most-variables → Below ks → place_in (letter_for v) (letters ks) ≡ place_among v ks
+place_letter : (v : ℕ) (ks : List ℕ) → v < most_variables → Below ks → place_in (letter_for v) (letters ks) ≡ place_among v ks
 unfolding place_in place_among
 place_letter v [] h b = refl
 place_letter v (k ∷ ks) h b = rw (same_letter v k h b.0, place_letter v ks h b.2)
@@ -97,23 +97,23 @@ new-fresh v (k ∷ ks) h = by (eqb v k) refl h (new-fresh v ks)
     by true e h r = absurd (omega arith)
     by false e h r = (eqb-false v k e, r (omega arith))
 
-noted_letter : (v : ℕ) (ks : List ℕ) → v < most-variables → Below ks → noted (letter_for v) (letters ks) ≡ letters (known v ks)
+noted_letter : (v : ℕ) (ks : List ℕ) → v < most_variables → Below ks → noted (letter_for v) (letters ks) ≡ letters (known v ks)
 unfolding noted known
 noted_letter v ks h b = rw (place_letter v ks h b, length-map ks letter_for) (by (ltb (place_among v ks) (length ks)) refl)
   where
-    by : (t : Bool) → ltb (place_among v ks) (length ks) ≡ t → cond t (letters ks) (cond (leb most-variables (length ks)) (letters ks) (letters ks ++ (letter_for v ∷ []))) ≡ letters (cond t ks (ks ++ (v ∷ [])))
+    by : (t : Bool) → ltb (place_among v ks) (length ks) ≡ t → cond t (letters ks) (cond (leb most_variables (length ks)) (letters ks) (letters ks ++ (letter_for v ∷ []))) ≡ letters (cond t ks (ks ++ (v ∷ [])))
     by true e = refl
     by false e =
-        let l = few most-variables (v ∷ ks) (h, new-fresh v ks (ltb-false (place_among v ks) (length ks) e), b) in
-        rw (lt-leb most-variables (length ks) (omega arith)) (sym (map_append letter_for ks (v ∷ [])))
+        let l = few most_variables (v ∷ ks) (h, new-fresh v ks (ltb-false (place_among v ks) (length ks) e), b) in
+        rw (lt-leb most_variables (length ks) (omega arith)) (sym (map_append letter_for ks (v ∷ [])))
 
-known-below : (v : ℕ) (ks : List ℕ) → v < most-variables → Below ks → Below (known v ks)
+known-below : (v : ℕ) (ks : List ℕ) → v < most_variables → Below ks → Below (known v ks)
 unfolding known
 known-below v ks h b = by (ltb (place_among v ks) (length ks)) refl
   where
     by : (t : Bool) → ltb (place_among v ks) (length ks) ≡ t → Below (cond t ks (ks ++ (v ∷ [])))
     by true e = b
-    by false e = different_more most-variables v ks b (new-fresh v ks (ltb-false (place_among v ks) (length ks) e)) h
+    by false e = different_more most_variables v ks b (new-fresh v ks (ltb-false (place_among v ks) (length ks) e)) h
 
 -- ---- a term
 
@@ -138,12 +138,12 @@ pub record Token (z : ℤ) (ks : List ℕ) : Type 0 where
 not-blank : (a : ℕ) → 32 < a → is_blank_byte a ≡ false
 not-blank a h = rw (ne_eqb a 32 (λ e. omega arith), ne_eqb a 9 (λ e. omega arith), ne_eqb a 13 (λ e. omega arith))
 
-number-token : (n : ℕ) (ks : List ℕ) → n < constant-end → Below ks → Token (pos n) ks
+number-token : (n : ℕ) (ks : List ℕ) → n < constant_end → Below ks → Token (pos n) ks
 unfolding token_mark term_bytes term_of
 number-token n ks h b = by (word_bytes (pos n)) refl (number_shows n (omega arith)) (number-back n (omega arith))
   where
     written : term_bytes (pos n) ≡ word_bytes (pos n)
-    written = rw (lt-ltb n constant-end h)
+    written = rw (lt-ltb n constant_end h)
 
     by : (w : List ℕ) → word_bytes (pos n) ≡ w → Shows n w → number_named w ≡ n → Token (pos n) ks
     by [] e s v = absurd (let k = s.some in omega arith)
@@ -162,18 +162,18 @@ number-token n ks h b = by (word_bytes (pos n)) refl (number_shows n (omega arit
           below = b;
         }
 
-letter_kind : (v : ℕ) → v < most-variables → token_kind (variable_letter (suc v)) ≡ 97
+letter_kind : (v : ℕ) → v < most_variables → token_kind (variable_letter (suc v)) ≡ 97
 unfolding token_kind
 letter_kind v h = rw (letter_is v h, le-leb 97 (97 + v) (omega arith), le-leb (97 + v) (96 + 26) (omega arith))
 
-letter_token : (v : ℕ) (ks : List ℕ) → v < most-variables → Below ks → Token (negsuc v) ks
+letter_token : (v : ℕ) (ks : List ℕ) → v < most_variables → Below ks → Token (negsuc v) ks
 unfolding token_mark term_bytes term_of
 letter_token v ks h b =
     let k = letter_kind v h in
     record {
       first = variable_letter (suc v);
       more = [];
-      bytes = rw (lt-ltb v most-variables h);
+      bytes = rw (lt-ltb v most_variables h);
       apart = not-blank (variable_letter (suc v)) (let e = letter_is v h in omega arith);
       on = tt;
       kind = k;
@@ -190,8 +190,8 @@ in-range false f e = no_way e
 -- every term in range is one
 pub term-token : (z : ℤ) (ks : List ℕ) → term z ≡ true → Below ks → Token z ks
 unfolding term_of
-term-token (pos n) ks e b = number-token n ks (ltb-true n constant-end (in-range (ltb n constant-end) (Constant n) e)) b
-term-token (negsuc v) ks e b = letter_token v ks (ltb-true v most-variables (in-range (ltb v most-variables) (Variable (suc v)) e)) b
+term-token (pos n) ks e b = number-token n ks (ltb-true n constant_end (in-range (ltb n constant_end) (Constant n) e)) b
+term-token (negsuc v) ks e b = letter_token v ks (ltb-true v most_variables (in-range (ltb v most_variables) (Variable (suc v)) e)) b
 
 -- all variables stay in range
 pub terms-below : (zs : List ℤ) (ks : List ℕ) → all term zs ≡ true → Below ks → Below (known_behind ks zs)

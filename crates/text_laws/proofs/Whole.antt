@@ -9,7 +9,7 @@ use lib.IntN.{ℤ, pos}
 use lib.ListN.{length, take, length-append, length-take}
 use lib.Seq.{take_all}
 use borrow.Author.Tests.{eqb-true, ltb-true, leb-true, eqb-false}
-use Rattle.sheet_format.specs.Limits.{most-fields}
+use Rattle.sheet_format.specs.Limits.{most_fields}
 use Rattle.sheet_format.specs.Line.{Line}
 use Rattle.sheet_format.specs.Table.{columns_of, relation, ten}
 use Rattle.text_begins.specs.Begins.{letter_of}
@@ -59,7 +59,7 @@ width c n = cond c.puts (suc (cond c.begins 1 n)) (cond c.begins 1 n)
 -- the last line has room for as many columns as may come, and where one may come at once (2 to 4) there is one
 pub record Room (c : Control) (n : ℕ) : Type 0 where
   pub some : 2 ≤ c.place → c.place ≤ 4 → 0 < c.left
-  pub all : n + c.left ≤ most-fields
+  pub all : n + c.left ≤ most_fields
 
 module _ (c : Control) (m : Mark) (n : ℕ) (r : Room c n) where
   abbrev Leaves : Control → Type 0
@@ -147,17 +147,17 @@ abbrev pub longer : ℤ → List Line → List Line
 longer z [] = []
 longer z (l ∷ ls) = (l ++ (z ∷ [])) ∷ ls
 
-uncut : (z : ℤ) (ls : List Line) → suc (last_fields ls) ≤ most-fields → grown z ls ≡ longer z ls
+uncut : (z : ℤ) (ls : List Line) → suc (last_fields ls) ≤ most_fields → grown z ls ≡ longer z ls
 unfolding grown
 uncut z [] h = refl
-uncut z (l ∷ ls) h = ap (λ k. k ∷ ls) (take_all most-fields (l ++ (z ∷ [])) (rw (length-append l (z ∷ [])) (omega arith)))
+uncut z (l ∷ ls) h = ap (λ k. k ∷ ls) (take_all most_fields (l ++ (z ∷ [])) (rw (length-append l (z ∷ [])) (omega arith)))
 
 grown-room : (c : Control) (z : ℤ) (ls : List Line) → Room c (suc (last_fields ls)) → Room c (last_fields (grown z ls))
 unfolding grown
 grown-room c z [] r = record { some = r.some; all = let a = r.all in omega arith }
 grown-room c z (l ∷ ls) r =
     let a = r.all in
-    let t = length-take most-fields (l ++ (z ∷ [])) in
+    let t = length-take most_fields (l ++ (z ∷ [])) in
     let k = length-append l (z ∷ []) in
     record { some = r.some; all = omega arith }
 
@@ -184,7 +184,7 @@ module _ (p : Reading) (h : Whole p) (w : List ℕ) where
   pub put_whole : (z : ℤ) → (step p.control (token_mark w)).puts ≡ true → grown z (lines_in (step p.control (token_mark w)) p.lines) ≡ longer z (lines_in (step p.control (token_mark w)) p.lines)
   put_whole z e = by (step p.control (token_mark w)).begins (rw e at (step_room p.control (token_mark w) (last_fields p.lines) h.room).all)
     where
-      by : (b : Bool) → suc (cond b 1 (last_fields p.lines)) + (step p.control (token_mark w)).left ≤ most-fields
+      by : (b : Bool) → suc (cond b 1 (last_fields p.lines)) + (step p.control (token_mark w)).left ≤ most_fields
           → grown z (cond b ((pos (step p.control (token_mark w)).kind ∷ []) ∷ p.lines) p.lines) ≡ longer z (cond b ((pos (step p.control (token_mark w)).kind ∷ []) ∷ p.lines) p.lines)
       by true r = uncut z ((pos (step p.control (token_mark w)).kind ∷ []) ∷ p.lines) (omega arith)
       by false r = uncut z p.lines (omega arith)

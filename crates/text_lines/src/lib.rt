@@ -2,7 +2,7 @@
 #![tactic(auto)]
 
 ghost use Rattle.std.specs.Prelude.{◌≡◌, cond, ◌≤◌, ◌-◌, ◌/◌, ◌*◌, ltb, length, take, drop};
-ghost use Rattle.sheet_format.specs.Limits.{most-fields, line-words};
+ghost use Rattle.sheet_format.specs.Limits.{most_fields, line_word_count};
 ghost use Rattle.sheet_format.specs.Table.{table_in};
 ghost use Rattle.text_buffer.specs.Puts.{Put};
 ghost use Rattle.text_writer.specs.Texts.{small, line_kind, block_kind, head_bytes, atom_bytes, values_bytes, row_bytes, kind_bytes, line_text, lines_bytes};
@@ -14,7 +14,7 @@ use text_writer::{natural, put_term, put_terms};
 
 // A field count or a kind of the number form.
 fn small(w: i32) -> usize
-    ensures { (result ≡ small w) × (result ≤ most-fields) }
+    ensures { (result ≡ small w) × (result ≤ most_fields) }
 {
     let n = natural(w);
     if MOST_FIELDS < n {
@@ -25,8 +25,8 @@ fn small(w: i32) -> usize
 
 // Where the terms after a line's kind end.
 fn terms_end(fields: usize) -> usize
-    requires { fields ≤ most-fields }
-    ensures { (2 ≤ result) × (result ≤ line-words) × (result - 2 ≡ fields - 1) }
+    requires { fields ≤ most_fields }
+    ensures { (2 ≤ result) × (result ≤ line_word_count) × (result - 2 ≡ fields - 1) }
 {
     if fields < 1 {
         return 2;
@@ -36,7 +36,7 @@ fn terms_end(fields: usize) -> usize
 
 // The kind of line i, 0 where there is none.
 fn kind_at(words: &[i32], i: usize) -> usize
-    ensures { result ≡ cond (ltb i (length words.now / line-words)) (line_kind (take line-words (drop (i * line-words) words.now))) 0 }
+    ensures { result ≡ cond (ltb i (length words.now / line_word_count)) (line_kind (take line_word_count (drop (i * line_word_count) words.now))) 0 }
 {
     let lines = words.len() / LINE_WORDS;
     if i < lines {
@@ -59,7 +59,7 @@ fn block_at(kind: usize, block: usize) -> usize
 }
 
 fn put_head(out: &mut [u8], at: usize, line: &[i32], kind: usize) -> usize
-    requires { length line.now ≡ line-words }
+    requires { length line.now ≡ line_word_count }
     ensures { Put out.old out.new at (head_bytes line.now kind) result }
 {
     let end = terms_end(small(line[0]));
@@ -77,7 +77,7 @@ fn put_atom(
     block: usize,
     next: usize,
 ) -> usize
-    requires { length line.now ≡ line-words }
+    requires { length line.now ≡ line_word_count }
     ensures { Put out.old out.new at (atom_bytes (table_in table.now) line.now block next) result }
 {
     let n = put_byte(out, at, b' ');
@@ -93,7 +93,7 @@ fn put_atom(
 
 // A row, bare where it has one column, and a semicolon before the next.
 fn put_row(out: &mut [u8], at: usize, line: &[i32], next: usize) -> usize
-    requires { length line.now ≡ line-words }
+    requires { length line.now ≡ line_word_count }
     ensures { Put out.old out.new at (row_bytes line.now next) result }
 {
     let n = put_byte(out, at, b' ');
@@ -105,7 +105,7 @@ fn put_row(out: &mut [u8], at: usize, line: &[i32], next: usize) -> usize
 }
 
 fn put_values(out: &mut [u8], at: usize, line: &[i32]) -> usize
-    requires { length line.now ≡ line-words }
+    requires { length line.now ≡ line_word_count }
     ensures { Put out.old out.new at (values_bytes line.now) result }
 {
     let fields = small(line[0]);
@@ -126,7 +126,7 @@ fn put_kind(
     block: usize,
     next: usize,
 ) -> usize
-    requires { length line.now ≡ line-words }
+    requires { length line.now ≡ line_word_count }
     ensures { Put out.old out.new at (kind_bytes (table_in table.now) line.now kind block next) result }
 {
     if kind == ATOM_KIND {
@@ -148,7 +148,7 @@ fn put_line(
     block: usize,
     next: usize,
 ) -> usize
-    requires { length line.now ≡ line-words }
+    requires { length line.now ≡ line_word_count }
     ensures { Put out.old out.new at (line_text (table_in table.now) line.now kind block next) result }
 {
     let n = put_kind(table, out, at, line, kind, block, next);

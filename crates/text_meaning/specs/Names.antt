@@ -1,6 +1,6 @@
 -- Names and numbers: what a token stands for.
 use Rattle.std.specs.Prelude.{Bool, true, false, cond, ◌&&◌, List, [], ◌∷◌, ◌++◌, ℕ, zero, suc, ◌+◌, ◌-◌, ◌*◌, ◌/◌, min, eqb, ltb, leb, length}
-use Rattle.sheet_format.specs.Limits.{field_end, most-variables}
+use Rattle.sheet_format.specs.Limits.{field_end, most_variables}
 use Rattle.text_writer.specs.Texts.{relation_names}
 use Rattle.text_meaning.specs.Tokens.{between, token_kind}
 use Rattle.text_meaning.specs.declared.Mark.{Mark}
@@ -54,7 +54,7 @@ place_in w (n ∷ ns) = cond (are_same_bytes w n) 0 (suc (place_in w ns))
 -- the names of a block with one more where it is new. Only as many are kept as a block may have variables: any more have the number after them,
 -- which no sheet takes.
 unfoldable pub noted : List ℕ → List (List ℕ) → List (List ℕ)
-noted w ns = cond (ltb (place_in w ns) (length ns)) ns (cond (leb most-variables (length ns)) ns (ns ++ (w ∷ [])))
+noted w ns = cond (ltb (place_in w ns) (length ns)) ns (cond (leb most_variables (length ns)) ns (ns ++ (w ∷ [])))
 
 -- ---- marks
 

@@ -1,6 +1,6 @@
 -- A text's meaning: reading its tokens one after the other, from the first to the last or to the first that does not fit.
 use Rattle.std.specs.Prelude.{Bool, true, false, cond, ◌&&◌, List, [], ◌∷◌, ◌++◌, reverse, ℕ, zero, suc, eqb, ltb, ℤ, pos, negsuc, get_or, take}
-use Rattle.sheet_format.specs.Limits.{most-fields}
+use Rattle.sheet_format.specs.Limits.{most_fields}
 use Rattle.sheet_format.specs.Line.{Line, words_of}
 use Rattle.text_meaning.specs.Tokens.{tokens}
 use Rattle.text_meaning.specs.Names.{place_in, noted, token_mark}
@@ -42,7 +42,7 @@ field_for m w ns = cond (eqb m.kind 97) (negsuc (place_in w ns)) (pos m.value)
 -- a field more in the last line; a line has no room for a seventh, which no text has
 unfoldable pub grown : ℤ → List Line → List Line
 grown z [] = []
-grown z (l ∷ ls) = take most-fields (l ++ (z ∷ [])) ∷ ls
+grown z (l ∷ ls) = take most_fields (l ++ (z ∷ [])) ∷ ls
 
 abbrev pub lines_after : Control → ℤ → List Line → List Line
 lines_after c z ls = cond c.puts (grown z ls) ls

@@ -6,7 +6,7 @@ use Prim.Native.Nat.{ℕ, ◌<◌, ◌≤◌}
 use native.Mathlib.Omega.{arith}
 use lib.ListN.{length}
 use Rattle.text_buffer.specs.Puts.{Put}
-use Rattle.text_writer.specs.Rooms.{text-room}
+use Rattle.text_writer.specs.Rooms.{text_room}
 use Rattle.text_writer.specs.Says.{SaysWords}
 use Rattle.text_writer.specs.Texts.{refusal_bytes, expected_bytes}
 use Rattle.text_writer.proofs.Bounds.{all-put, refusal-few, expected-few}
@@ -15,10 +15,10 @@ use Rattle.text_to_sheet.specs.declared.Made.TheVariants.{Sheet, Expected, Refus
 use Rattle.text_message.specs.Message.{message_bytes}
 
 module _ (m : Made) (out : List ℕ) where
-  pub silent : length out < text-room → SaysWords (message_bytes m) out out 0
+  pub silent : length out < text_room → SaysWords (message_bytes m) out out 0
   silent few = inl (record { few = few; lent = refl; count = refl })
 
-  module _ (room : text-room ≤ length out) where
+  module _ (room : text_room ≤ length out) where
     pub nothing : (n : ℕ) → m ≡ Sheet n → SaysWords (message_bytes m) out out 0
     nothing n e = rw e (inr (record { room = room; lent = refl; count = refl }))
 

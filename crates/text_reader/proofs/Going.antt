@@ -8,7 +8,7 @@ use lib.Dec.{eqb}
 use lib.IntN.{ℤ, pos}
 use lib.ListN.{length, get_or, take, drop, replicate, length-replicate, drop_of_length-le}
 use borrow.Author.Tests.{eq-eqb, ne_eqb}
-use Rattle.sheet_format.specs.Limits.{most-lines, most-words}
+use Rattle.sheet_format.specs.Limits.{most_lines, most_words}
 use Rattle.sheet_format.specs.Line.{words_of}
 use Rattle.text_begins.specs.Begins.{is_blank_byte}
 use Rattle.text_meaning.specs.Tokens.{tokens, behind}
@@ -31,14 +31,14 @@ pub record Going (text : List ℕ) (words : List ℤ) (begun names : List ℕ) (
 
 -- ---- the start
 
-held_none : (text : List ℕ) (words : List ℤ) (begun names : List ℕ) → words ≡ replicate most-words (pos 0) → begun ≡ replicate most-lines 0 → length names ≡ 12
+held_none : (text : List ℕ) (words : List ℤ) (begun names : List ℕ) → words ≡ replicate most_words (pos 0) → begun ≡ replicate most_lines 0 → length names ≡ 12
     → Held text words begun names (record { line = 1; names = 0; lines = 0; fields = 0 }) unread
 unfolding words_of
 held_none text words begun names w b l = record {
   line = refl;
   noted = record { size = l; few = omega arith; begin = record { each = λ i h. absurd (omega arith) }; are = refl };
   kept = record {
-    room = record { words_size = ap length w ∙ length-replicate most-words (pos 0); begun-size = ap length b ∙ length-replicate {A = ℕ} most-lines 0 };
+    room = record { words_size = ap length w ∙ length-replicate most_words (pos 0); begun_size = ap length b ∙ length-replicate {A = ℕ} most_lines 0 };
     count = omega arith;
     same = refl;
     fit = tt;
@@ -47,7 +47,7 @@ held_none text words begun names w b l = record {
   };
 }
 
-pub going_start : {text : List ℕ} {words : List ℤ} {begun names : List ℕ} {at : ℕ} → words ≡ replicate most-words (pos 0) → begun ≡ replicate most-lines 0 → length names ≡ 12 → Skipped text 0 at
+pub going_start : {text : List ℕ} {words : List ℤ} {begun names : List ℕ} {at : ℕ} → words ≡ replicate most_words (pos 0) → begun ≡ replicate most_lines 0 → length names ≡ 12 → Skipped text 0 at
     → Going text words begun names unread.control (record { line = 1; names = 0; lines = 0; fields = 0 }) at
 unfolding reading_of
 going_start {text} {words} {begun} {names} {at} w b l s = record {

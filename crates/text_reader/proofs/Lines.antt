@@ -10,7 +10,7 @@ use lib.IntN.{ℤ, pos}
 use lib.ListN.{length, take, set, replicate, length-append, length-set, length-replicate, replicate-append-replicate}
 use lib.Seq.{set-append_left, set_at, take_all, take_at}
 use borrow.Author.Tests.{eq-eqb, ne_eqb, lt-ltb, le-ltb, le-leb, lt-leb}
-use Rattle.sheet_format.specs.Limits.{most-lines, most-words}
+use Rattle.sheet_format.specs.Limits.{most_lines, most_words}
 use Rattle.list_laws.proofs.Order.{less?}
 use Rattle.sheet_format.specs.Line.{Line, gather, line_words, words_of}
 use Rattle.sheet_format.proofs.Lists.{append-nil, gather_append}
@@ -57,15 +57,15 @@ line-grows l z f e h =
 
 -- ---- a line begins
 
-module _ (ws : List ℤ) (bs : List ℕ) (ls : List Line) (ss : List ℕ) (fit : Fit ls) (n : ℕ) (is : n ≡ length ls) (room : n < most-lines) (same : length ss ≡ length ls) (k line : ℕ) where
-  begin-form : Stored ws bs ls ss → set (set ws (n * 7) (pos 1)) (n * 7 + 1) (pos k) ≡ words_of (reverse ((pos k ∷ []) ∷ ls)) ++ replicate (most-words - suc (length ls) * 7) (pos 0)
+module _ (ws : List ℤ) (bs : List ℕ) (ls : List Line) (ss : List ℕ) (fit : Fit ls) (n : ℕ) (is : n ≡ length ls) (room : n < most_lines) (same : length ss ≡ length ls) (k line : ℕ) where
+  begin-form : Stored ws bs ls ss → set (set ws (n * 7) (pos 1)) (n * 7 + 1) (pos k) ≡ words_of (reverse ((pos k ∷ []) ∷ ls)) ++ replicate (most_words - suc (length ls) * 7) (pos 0)
   unfolding line_words
   begin-form s =
       let F = words_of (reverse ls) in
-      let R = replicate (most-words - suc (length ls) * 7) (pos 0) in
+      let R = replicate (most_words - suc (length ls) * 7) (pos 0) in
       let a = form-length ls fit in
-      let c : most-words - length ls * 7 ≡ 7 + (most-words - suc (length ls) * 7) = omega arith in
-      let z : replicate (most-words - length ls * 7) (pos 0) ≡ replicate 7 (pos 0) ++ R = ap (λ m. replicate m (pos 0)) c ∙ sym (replicate-append-replicate 7 (most-words - suc (length ls) * 7) (pos 0)) in
+      let c : most_words - length ls * 7 ≡ 7 + (most_words - suc (length ls) * 7) = omega arith in
+      let z : replicate (most_words - length ls * 7) (pos 0) ≡ replicate 7 (pos 0) ++ R = ap (λ m. replicate m (pos 0)) c ∙ sym (replicate-append-replicate 7 (most_words - suc (length ls) * 7) (pos 0)) in
       let b : ws ≡ F ++ (replicate 7 (pos 0) ++ R) = s.form ∙ ap (λ t. F ++ t) z in
       ap (λ t. set (set t (n * 7) (pos 1)) (n * 7 + 1) (pos k)) b
       ∙ ap (λ t. set t (n * 7 + 1) (pos k)) (set-behind F (replicate 7 (pos 0) ++ R) 0 (n * 7) (pos 1) (omega arith))
@@ -73,11 +73,11 @@ module _ (ws : List ℤ) (bs : List ℕ) (ls : List Line) (ss : List ℕ) (fit :
       ∙ sym (append_assoc F (line_words (pos k ∷ [])) R)
       ∙ ap (λ t. t ++ R) (sym (form-more (pos k ∷ []) ls))
 
-  begin-places : Stored ws bs ls ss → set bs n line ≡ reverse (line ∷ ss) ++ replicate (most-lines - suc (length ls)) 0
+  begin-places : Stored ws bs ls ss → set bs n line ≡ reverse (line ∷ ss) ++ replicate (most_lines - suc (length ls)) 0
   begin-places s =
       let B = reverse ss in
-      let R = replicate {A = ℕ} (most-lines - suc (length ls)) 0 in
-      let c : most-lines - length ls ≡ suc (most-lines - suc (length ls)) = omega arith in
+      let R = replicate {A = ℕ} (most_lines - suc (length ls)) 0 in
+      let c : most_lines - length ls ≡ suc (most_lines - suc (length ls)) = omega arith in
       let b : bs ≡ B ++ (0 ∷ R) = s.places ∙ ap (λ m. B ++ replicate {A = ℕ} m 0) c in
       let l : length B ≡ n = back-length ss ∙ omega arith in
       ap (λ t. set t n line) b ∙ set_at B 0 R line n l ∙ sym (append_assoc B (line ∷ []) R) ∙ ap (λ t. t ++ R) (sym (reverse-cons line ss))
@@ -91,20 +91,20 @@ module _ (ws : List ℤ) (bs : List ℕ) (ls : List Line) (ss : List ℕ) (fit :
 
 pub begin-kept : {ws new : List ℤ} {bs to : List ℕ} {n f r : ℕ} {ls : List Line} {ss : List ℕ} {k line : ℕ}
     → LinesKept ws bs n f ls ss → BegunLine ws new bs to n k line r → LinesKept new to r 1 ((pos k ∷ []) ∷ ls) (line ∷ ss)
-begin-kept {ws} {new} {bs} {to} {n} {f} {r} {ls} {ss} {k} {line} h b = ⊎_elim fits full (less? n most-lines)
+begin-kept {ws} {new} {bs} {to} {n} {f} {r} {ls} {ss} {k} {line} h b = ⊎_elim fits full (less? n most_lines)
   where
-    fits : n < most-lines → LinesKept new to r 1 ((pos k ∷ []) ∷ ls) (line ∷ ss)
+    fits : n < most_lines → LinesKept new to r 1 ((pos k ∷ []) ∷ ls) (line ∷ ss)
     fits l =
-        let t = lt-leb most-lines n l in
+        let t = lt-leb most_lines n l in
         let w : new ≡ set (set ws (n * 7) (pos 1)) (n * 7 + 1) (pos k) = rw t at b.words in
         let g : to ≡ set bs n line = rw t at b.begun in
         let e : r ≡ n + 1 = rw t at b.count in
         let c = h.count in
         let i : n ≡ length ls = omega arith in
-        let wl : length new ≡ most-words = ap length w ∙ simp length-set h.room.words_size in
-        let gl : length to ≡ most-lines = ap length g ∙ simp length-set h.room.begun-size in
+        let wl : length new ≡ most_words = ap length w ∙ simp length-set h.room.words_size in
+        let gl : length to ≡ most_lines = ap length g ∙ simp length-set h.room.begun_size in
         record {
-          room = record { words_size = wl; begun-size = gl };
+          room = record { words_size = wl; begun_size = gl };
           count = omega arith;
           same = ap suc h.same;
           fit = (omega arith, omega arith, h.fit);
@@ -112,15 +112,15 @@ begin-kept {ws} {new} {bs} {to} {n} {f} {r} {ls} {ss} {k} {line} h b = ⊎_elim 
           stored = λ m. rw (w, g) (begin-stored ws bs ls ss h.fit n i l h.same k line (h.stored (omega arith)));
         }
 
-    full : most-lines ≤ n → LinesKept new to r 1 ((pos k ∷ []) ∷ ls) (line ∷ ss)
+    full : most_lines ≤ n → LinesKept new to r 1 ((pos k ∷ []) ∷ ls) (line ∷ ss)
     full l =
-        let t = le-leb most-lines n l in
+        let t = le-leb most_lines n l in
         let w : new ≡ ws = rw t at b.words in
         let g : to ≡ bs = rw t at b.begun in
-        let e : r ≡ most-lines + 1 = rw t at b.count in
+        let e : r ≡ most_lines + 1 = rw t at b.count in
         let c = h.count in
         record {
-          room = record { words_size = ap length w ∙ h.room.words_size; begun-size = ap length g ∙ h.room.begun-size };
+          room = record { words_size = ap length w ∙ h.room.words_size; begun_size = ap length g ∙ h.room.begun_size };
           count = omega arith;
           same = ap suc h.same;
           fit = (omega arith, omega arith, h.fit);
@@ -131,11 +131,11 @@ begin-kept {ws} {new} {bs} {to} {n} {f} {r} {ls} {ss} {k} {line} h b = ⊎_elim 
 -- ---- a field is put
 
 module _ (ws : List ℤ) (bs : List ℕ) (l : Line) (ls : List Line) (ss : List ℕ) (fit : Fit (l ∷ ls)) (f : ℕ) (is : f ≡ length l) (few : f < 6) (z : ℤ) where
-  put-form : Stored ws bs (l ∷ ls) ss → set (set ws (length ls * 7) (pos (f + 1))) (length ls * 7 + 1 + f) z ≡ words_of (reverse ((l ++ (z ∷ [])) ∷ ls)) ++ replicate (most-words - suc (length ls) * 7) (pos 0)
+  put-form : Stored ws bs (l ∷ ls) ss → set (set ws (length ls * 7) (pos (f + 1))) (length ls * 7 + 1 + f) z ≡ words_of (reverse ((l ++ (z ∷ [])) ∷ ls)) ++ replicate (most_words - suc (length ls) * 7) (pos 0)
   put-form s =
       let m = length ls in
       let F = words_of (reverse ls) in
-      let R = replicate (most-words - suc m * 7) (pos 0) in
+      let R = replicate (most_words - suc m * 7) (pos 0) in
       let L = line_words l in
       let a = form-length ls fit.2 in
       let c = line-length l fit.1 in
@@ -155,7 +155,7 @@ module _ {ws new : List ℤ} {bs : List ℕ} {n f r : ℕ} {ss : List ℕ} {z : 
   put_into : (l : Line) (ls : List Line) → LinesKept ws bs n f (l ∷ ls) ss → LinesKept new bs n r (take 6 (l ++ (z ∷ [])) ∷ ls) ss
   put_into l ls h = ⊎_elim more full (less? f 6)
     where
-      c : n ≡ min (most-lines + 1) (suc (length ls))
+      c : n ≡ min (most_lines + 1) (suc (length ls))
       c = h.count
 
       some : eqb n 0 ≡ false
@@ -171,7 +171,7 @@ module _ {ws new : List ℤ} {bs : List ℕ} {n f r : ℕ} {ss : List ℕ} {z : 
           rw (t, w, e) h
 
       more : f < 6 → LinesKept new bs n r (take 6 (l ++ (z ∷ [])) ∷ ls) ss
-      more g = ⊎_elim far near (less? most-lines n)
+      more g = ⊎_elim far near (less? most_lines n)
         where
           i : f ≡ length l
           i = h.last
@@ -185,9 +185,9 @@ module _ {ws new : List ℤ} {bs : List ℕ} {n f r : ℕ} {ss : List ℕ} {z : 
           k : length (l ++ (z ∷ [])) ≡ f + 1
           k = let i' = i in length-append l (z ∷ []) ∙ omega arith
 
-          kept : length new ≡ most-words → (length (l ∷ ls) ≤ most-lines → Stored new bs ((l ++ (z ∷ [])) ∷ ls) ss) → LinesKept new bs n r (take 6 (l ++ (z ∷ [])) ∷ ls) ss
+          kept : length new ≡ most_words → (length (l ∷ ls) ≤ most_lines → Stored new bs ((l ++ (z ∷ [])) ∷ ls) ss) → LinesKept new bs n r (take 6 (l ++ (z ∷ [])) ∷ ls) ss
           kept w s = rw t (record {
-            room = record { words_size = w; begun-size = h.room.begun-size };
+            room = record { words_size = w; begun_size = h.room.begun_size };
             count = c;
             same = h.same;
             fit = (let k' = k in omega arith, let k' = k in omega arith, h.fit.2);
@@ -195,16 +195,16 @@ module _ {ws new : List ℤ} {bs : List ℕ} {n f r : ℕ} {ss : List ℕ} {z : 
             stored = s;
           })
 
-          far : most-lines < n → LinesKept new bs n r (take 6 (l ++ (z ∷ [])) ∷ ls) ss
+          far : most_lines < n → LinesKept new bs n r (take 6 (l ++ (z ∷ [])) ∷ ls) ss
           far x =
-              let w : new ≡ ws = rw (some, lt-leb 6 f g, lt-ltb most-lines n x) at p.words in
+              let w : new ≡ ws = rw (some, lt-leb 6 f g, lt-ltb most_lines n x) at p.words in
               kept (ap length w ∙ h.room.words_size) (λ m. let d = c in absurd (omega arith))
 
-          near : n ≤ most-lines → LinesKept new bs n r (take 6 (l ++ (z ∷ [])) ∷ ls) ss
+          near : n ≤ most_lines → LinesKept new bs n r (take 6 (l ++ (z ∷ [])) ∷ ls) ss
           near x =
               let d = c in
               let q : n - 1 ≡ length ls = omega arith in
-              let w : new ≡ set (set ws (length ls * 7) (pos (f + 1))) (length ls * 7 + 1 + f) z = rw (some, lt-leb 6 f g, le-ltb most-lines n x, q) at p.words in
+              let w : new ≡ set (set ws (length ls * 7) (pos (f + 1))) (length ls * 7 + 1 + f) z = rw (some, lt-leb 6 f g, le-ltb most_lines n x, q) at p.words in
               kept (ap length w ∙ simp length-set h.room.words_size) (λ m. rw w (put-stored ws bs l ls ss h.fit f i g z (h.stored m)))
 
   pub put-kept : {ls : List Line} → LinesKept ws bs n f ls ss → LinesKept new bs n r (grown z ls) ss

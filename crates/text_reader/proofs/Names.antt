@@ -99,7 +99,7 @@ note_held {text} {from} {to} {count} {at} {r} {w} {ns} h b a is = ⊎_elim old n
     old : place_in w ns < count → Noted text to r (cond (ltb (place_in w ns) (length ns)) ns (cond (leb 12 (length ns)) ns (ns ++ (w ∷ []))))
     old l =
         let t = lt-ltb (place_in w ns) count l in
-        rw (long, t) (same (rw t at b.names) (rw t at b.count-after))
+        rw (long, t) (same (rw t at b.names) (rw t at b.count_after))
 
     new : count ≤ place_in w ns → Noted text to r (cond (ltb (place_in w ns) (length ns)) ns (cond (leb 12 (length ns)) ns (ns ++ (w ∷ []))))
     new l = ⊎_elim room full (less? count 12)
@@ -110,13 +110,13 @@ note_held {text} {from} {to} {count} {at} {r} {w} {ns} h b a is = ⊎_elim old n
         full : 12 ≤ count → Noted text to r (cond (ltb (place_in w ns) (length ns)) ns (cond (leb 12 (length ns)) ns (ns ++ (w ∷ []))))
         full k =
             let u = le-leb 12 count k in
-            rw (long, t, u) (same (rw (t, u) at b.names) (rw (t, u) at b.count-after))
+            rw (long, t, u) (same (rw (t, u) at b.names) (rw (t, u) at b.count_after))
 
         room : count < 12 → Noted text to r (cond (ltb (place_in w ns) (length ns)) ns (cond (leb 12 (length ns)) ns (ns ++ (w ∷ []))))
         room k =
             let u = lt-leb 12 count k in
             let e : to ≡ set from count at = rw (t, u) at b.names in
-            let f : r ≡ count + 1 = rw (t, u) at b.count-after in
+            let f : r ≡ count + 1 = rw (t, u) at b.count_after in
             rw (long, t, u, e, f) (record {
               size = simp length-set h.size;
               few = omega arith;

@@ -1,6 +1,6 @@
 -- What the reader holds of a reading: names by their places in the text, and lines of the number form in lent words.
 use Rattle.std.specs.Prelude.{◌≡◌, cond, List, [], ◌∷◌, ◌++◌, map, reverse, ℕ, ◌+◌, ◌-◌, ◌*◌, ◌≤◌, ◌<◌, min, eqb, ltb, leb, ℤ, pos, negsuc, length, get_or, take, drop, set, replicate}
-use Rattle.sheet_format.specs.Limits.{most-words, most-lines, line-words, most-fields, most-variables}
+use Rattle.sheet_format.specs.Limits.{most_words, most_lines, line_word_count, most_fields, most_variables}
 use Rattle.sheet_format.specs.Line.{Line, words_of}
 use Rattle.text_meaning.specs.Tokens.{tokens}
 use Rattle.text_meaning.specs.Names.{place_in, token_mark}
@@ -30,32 +30,32 @@ pub record NamesBegin (text names : List ℕ) (count : ℕ) : Type 0 where
   pub each : (i : ℕ) → i < count → TokenBegins text (get_or names i 0)
 
 pub record Noted (text names : List ℕ) (count : ℕ) (ns : List (List ℕ)) : Type 0 where
-  pub size : length names ≡ most-variables
-  pub few : count ≤ most-variables
+  pub size : length names ≡ most_variables
+  pub few : count ≤ most_variables
   pub begin : NamesBegin text names count
   pub are : ns ≡ names_at text names count
 
 -- ---- lines
 
 pub record ReaderRoom (words : List ℤ) (begun : List ℕ) : Type 0 where
-  pub words_size : length words ≡ most-words
-  pub begun-size : length begun ≡ most-lines
+  pub words_size : length words ≡ most_words
+  pub begun_size : length begun ≡ most_lines
 
 -- a line of a kind begins behind n others, in a line of the text
 pub record BegunLine (old new : List ℤ) (from to : List ℕ) (n kind line r : ℕ) : Type 0 where
-  pub words : new ≡ cond (leb most-lines n) old (set (set old (n * line-words) (pos 1)) (n * line-words + 1) (pos kind))
-  pub begun : to ≡ cond (leb most-lines n) from (set from n line)
-  pub count : r ≡ cond (leb most-lines n) (most-lines + 1) (n + 1)
+  pub words : new ≡ cond (leb most_lines n) old (set (set old (n * line_word_count) (pos 1)) (n * line_word_count + 1) (pos kind))
+  pub begun : to ≡ cond (leb most_lines n) from (set from n line)
+  pub count : r ≡ cond (leb most_lines n) (most_lines + 1) (n + 1)
 
 -- a field is put behind so many others into the last of n lines
 pub record PutField (old new : List ℤ) (n fields : ℕ) (w : ℤ) (r : ℕ) : Type 0 where
-  pub words : new ≡ cond (eqb n 0) old (cond (leb most-fields fields) old (cond (ltb most-lines n) old (set (set old ((n - 1) * line-words) (pos (fields + 1))) ((n - 1) * line-words + 1 + fields) w)))
-  pub count : r ≡ cond (eqb n 0) fields (cond (leb most-fields fields) fields (fields + 1))
+  pub words : new ≡ cond (eqb n 0) old (cond (leb most_fields fields) old (cond (ltb most_lines n) old (set (set old ((n - 1) * line_word_count) (pos (fields + 1))) ((n - 1) * line_word_count + 1 + fields) w)))
+  pub count : r ≡ cond (eqb n 0) fields (cond (leb most_fields fields) fields (fields + 1))
 
 -- every line has at least a field, and no more than fit
 abbrev pub Fit : List Line → Type 0
 Fit [] = Unit
-Fit (l ∷ ls) = (0 < length l) × (length l ≤ most-fields) × Fit ls
+Fit (l ∷ ls) = (0 < length l) × (length l ≤ most_fields) × Fit ls
 
 -- the fields of the last line
 abbrev pub last_fields : List Line → ℕ
@@ -64,16 +64,16 @@ last_fields (l ∷ ls) = length l
 
 -- the lent words begin with the lines, and zeros follow; and so with the lines of the text
 pub record Stored (words : List ℤ) (begun : List ℕ) (ls : List Line) (starts : List ℕ) : Type 0 where
-  pub form : words ≡ words_of (reverse ls) ++ replicate (most-words - length ls * line-words) (pos 0)
-  pub places : begun ≡ reverse starts ++ replicate (most-lines - length ls) 0
+  pub form : words ≡ words_of (reverse ls) ++ replicate (most_words - length ls * line_word_count) (pos 0)
+  pub places : begun ≡ reverse starts ++ replicate (most_lines - length ls) 0
 
 pub record LinesKept (words : List ℤ) (begun : List ℕ) (n fields : ℕ) (ls : List Line) (starts : List ℕ) : Type 0 where
   pub room : ReaderRoom words begun
-  pub count : n ≡ min (most-lines + 1) (length ls)
+  pub count : n ≡ min (most_lines + 1) (length ls)
   pub same : length starts ≡ length ls
   pub fit : Fit ls
   pub last : fields ≡ last_fields ls
-  pub stored : length ls ≤ most-lines → Stored words begun ls starts
+  pub stored : length ls ≤ most_lines → Stored words begun ls starts
 
 -- ---- a reading
 
@@ -113,8 +113,8 @@ pub record PutBy (text : List ℕ) (at e : ℕ) (c : Control) (m : Mark) (old ne
   pub line : r.line ≡ n.line
 
 pub record NotedBy (old new : List ℕ) (count i at r : ℕ) : Type 0 where
-  pub names : new ≡ cond (ltb i count) old (cond (leb most-variables count) old (set old count at))
-  pub count-after : r ≡ cond (ltb i count) count (cond (leb most-variables count) count (count + 1))
+  pub names : new ≡ cond (ltb i count) old (cond (leb most_variables count) old (set old count at))
+  pub count_after : r ≡ cond (ltb i count) count (cond (leb most_variables count) count (count + 1))
 
 -- a variable is put, by the place of its name
 pub record VariablePut (text : List ℕ) (at e : ℕ) (old new : List ℤ) (from to : List ℕ) (n r : Counts) : Type 0 where

@@ -2,9 +2,9 @@
 #![tactic(auto)]
 
 ghost use Rattle.std.specs.Prelude.{◌≡◌, ◌+◌, ◌≤◌, ◌<◌, length, replicate, pos, negsuc};
-ghost use Rattle.text_begins.specs.Begins.{most-text};
+ghost use Rattle.text_begins.specs.Begins.{most_text};
 ghost use Rattle.text_meaning.specs.Names.{are_same_bytes, place_in};
-ghost use Rattle.sheet_format.specs.Limits.{most-words, most-lines, most-variables};
+ghost use Rattle.sheet_format.specs.Limits.{most_words, most_lines, most_variables};
 ghost use Rattle.text_tokens.specs.Ends.{TokenBegins};
 ghost use Rattle.text_reader.specs.Held.{name_at, names_at, NamesBegin, ReaderRoom, BegunLine, PutField, WordAt, BlockBegun, PutBy, NotedBy, VariablePut, Marked, HeldSome, EndedBy, TakenBy, ReadAs};
 
@@ -56,7 +56,7 @@ fn begin_line(
 
 // One field more in the last line.
 fn put_field(words: &mut [i32], lines: usize, fields: usize, w: i32) -> usize
-    requires { length words.old ≡ most-words }
+    requires { length words.old ≡ most_words }
     ensures { PutField words.old words.new lines fields w result }
 {
     if lines == 0 {
@@ -125,7 +125,7 @@ fn begin(c: Control, n: Counts, words: &mut [i32], begun: &mut [usize]) -> Count
 
 // The term of the variable that has a place among the block's.
 fn term_at(place: usize) -> i32
-    requires { place ≤ most-variables }
+    requires { place ≤ most_variables }
     ensures { result ≡ negsuc place }
 {
     -((place + 1) as i32)
@@ -133,7 +133,7 @@ fn term_at(place: usize) -> i32
 
 // Notes the name that begins at a place of the text, where its place among the block's is new and there is room.
 fn note(names: &mut [usize], count: usize, place: usize, at: usize) -> usize
-    requires { length names.old ≡ most-variables }
+    requires { length names.old ≡ most_variables }
     ensures { NotedBy names.old names.new count place at result }
 {
     if place < count {
@@ -156,7 +156,7 @@ fn put_variable(
     names: &mut [usize],
 ) -> Counts
     requires word_at { WordAt text.now at e × (at < e) }
-    requires words_len { (length words.old ≡ most-words) × (length names.old ≡ most-variables) × (n.names ≤ most-variables) × NamesBegin text.now names.old n.names }
+    requires words_len { (length words.old ≡ most_words) × (length names.old ≡ most_variables) × (n.names ≤ most_variables) × NamesBegin text.now names.old n.names }
     ensures { VariablePut text.now at e words.old words.new names.old names.new n result }
 {
     let count = n.names;
@@ -182,7 +182,7 @@ fn put(
     names: &mut [usize],
 ) -> Counts
     requires word_at { WordAt text.now at e × Marked text.now at e m }
-    requires words_len { (length words.old ≡ most-words) × (length names.old ≡ most-variables) × (n.names ≤ most-variables) × NamesBegin text.now names.old n.names }
+    requires words_len { (length words.old ≡ most_words) × (length names.old ≡ most_variables) × (n.names ≤ most_variables) × NamesBegin text.now names.old n.names }
     ensures { PutBy text.now at e c m words.old words.new names.old names.new n result }
 {
     if !c.puts {
@@ -202,7 +202,7 @@ fn put(
 
 // Counts the line of the text that a token ends.
 fn end_line(c: Control, m: Mark, n: Counts) -> Counts
-    requires { n.line ≤ most-text + 1 }
+    requires { n.line ≤ most_text + 1 }
     ensures { EndedBy c m n result }
 {
     if m.kind != b'\n' {
@@ -231,7 +231,7 @@ fn take(
     names: &mut [usize],
 ) -> ReadTo
     requires word_at { WordAt text.now at e × HeldSome text.now words.old begun.old names.old n }
-    requires kind_bound { (c.kind ≤ 5) × (n.line ≤ most-text + 1) }
+    requires kind_bound { (c.kind ≤ 5) × (n.line ≤ most_text + 1) }
     ensures { TakenBy text.now at e c words.old words.new begun.old begun.new names.old names.new n result }
 {
     let m = mark(&text[at..e]);
@@ -246,7 +246,7 @@ fn take(
 
 // Reads a text to its end, or to the first token that does not fit: the lines of its number form, and the lines of the text that they begin in.
 pub fn run(text: &[u8], words: &mut [i32], begun: &mut [usize]) -> ReadTo
-    requires { (length text.now ≤ most-text) × (words.old ≡ replicate most-words (pos 0)) × (begun.old ≡ replicate most-lines 0) }
+    requires { (length text.now ≤ most_text) × (words.old ≡ replicate most_words (pos 0)) × (begun.old ≡ replicate most_lines 0) }
     ensures { ReadAs text.now words.new begun.new result }
 {
     let mut names = [0usize; NAMED];

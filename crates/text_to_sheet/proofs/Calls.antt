@@ -9,9 +9,9 @@ use lib.IntN.{ℤ, pos}
 use lib.ListN.{length, get_or, take, drop, replicate, length-append, length-drop, length-replicate, get_or-eq_default}
 use lib.Seq.{take_at, drop_at}
 use borrow.Author.Tests.{eq-eqb, ne_eqb, lt-ltb, le-ltb, ltb-false}
-use Rattle.text_begins.specs.Begins.{most-text}
+use Rattle.text_begins.specs.Begins.{most_text}
 use Rattle.list_laws.proofs.Lists.{padded_get}
-use Rattle.sheet_format.specs.Limits.{most-words, most_bytes, line-words, most-lines}
+use Rattle.sheet_format.specs.Limits.{most_words, most_bytes, line_word_count, most_lines}
 use Rattle.sheet_format.specs.Line.{bytes_of, word_lines}
 use Rattle.sheet_format.specs.Table.{Table, ten, table_in}
 use Rattle.sheet_format.specs.Cause.{refusal, refusal_of}
@@ -49,14 +49,14 @@ line_at b (suc n) h = let e : suc n - 1 ≡ n = omega arith in rw e
 
 -- ---- what comes of a text
 
-pub too_long : {table : Table} {t out : List ℕ} → most-text < length t → MadeAs table t out out (made.Expected 1 18 0)
+pub too_long : {table : Table} {t out : List ℕ} → most_text < length t → MadeAs table t out out (made.Expected 1 18 0)
 unfolding made_of
-too_long {t} h = record { result = rw (lt-ltb most-text (length t) h); lent = refl }
+too_long {t} h = record { result = rw (lt-ltb most_text (length t) h); lent = refl }
 
-module _ (table : Table) (t out : List ℕ) (few : length t ≤ most-text) {w : List ℤ} {b : List ℕ} {r : ReadTo} (k : ReadAs t w b r) where
+module _ (table : Table) (t out : List ℕ) (few : length t ≤ most_text) {w : List ℤ} {b : List ℕ} {r : ReadTo} (k : ReadAs t w b r) where
   read_made : (m : Made) → m ≡ made_from table (reading_of t) (length out) → m ≡ made_of table t (length out)
   unfolding made_of
-  read_made m e = rw (le-ltb most-text (length t) few) e
+  read_made m e = rw (le-ltb most_text (length t) few) e
 
   pub expected-made : (r.control.expected ≡ 0 → ⊥) → MadeAs table t out out (made.Expected r.counts.line r.control.expected r.control.relation)
   expected-made f =
@@ -72,18 +72,18 @@ module _ (table : Table) (t out : List ℕ) (few : length t ≤ most-text) {w : 
         let x : eqb (reading_of t).control.expected 0 ≡ eqb r.control.expected 0 = ap (λ c. eqb c.expected 0) k.control in
         read_made m (rw (x, eq-eqb r.control.expected 0 f) e)
 
-    pub many-made : most-lines < r.counts.lines → MadeAs table t out out (made.Refused 1 0 0)
+    pub many-made : most_lines < r.counts.lines → MadeAs table t out out (made.Refused 1 0 0)
     unfolding write_ending words_refusal form_of
     many-made h =
         let ls = (reading_of t).lines in
         let c = k.kept.count in
         let l = form-length ls k.kept.fit in
         record {
-          result = fitted (made.Refused 1 0 0) (rw (lt-ltb most-words (length (form_of (reading_of t))) (omega arith)));
+          result = fitted (made.Refused 1 0 0) (rw (lt-ltb most_words (length (form_of (reading_of t))) (omega arith)));
           lent = refl;
         }
 
-    module _ (h : r.counts.lines ≤ most-lines) where
+    module _ (h : r.counts.lines ≤ most_lines) where
       stored : Stored w b (reading_of t).lines (reading_of t).starts
       stored = let c = k.kept.count in k.kept.stored (omega arith)
 
@@ -94,11 +94,11 @@ module _ (table : Table) (t out : List ℕ) (few : length t ≤ most-text) {w : 
           let c = k.kept.count in
           let s = stored in
           let l = form-length ls k.kept.fit in
-          ap (take (r.counts.lines * 7 - 0)) s.form ∙ take_at (form_of (reading_of t)) (replicate (most-words - length ls * 7) (pos 0)) (r.counts.lines * 7 - 0) (omega arith)
+          ap (take (r.counts.lines * 7 - 0)) s.form ∙ take_at (form_of (reading_of t)) (replicate (most_words - length ls * 7) (pos 0)) (r.counts.lines * 7 - 0) (omega arith)
 
       line-is : (l : ℕ) → begun_line b l ≡ text_line (reading_of t) l
       line-is zero = refl
-      line-is (suc n) = let s = stored in ap (λ x. get_or x n 0) s.places ∙ padded_get 0 (reverse (reading_of t).starts) (most-lines - length (reading_of t).lines) n
+      line-is (suc n) = let s = stored in ap (λ x. get_or x n 0) s.places ∙ padded_get 0 (reverse (reading_of t).starts) (most_lines - length (reading_of t).lines) n
 
       module _ (new : List ℕ) (x : Ending) (e : x ≡ write_ending table (take (r.counts.lines * 7 - 0) w) (length out)) (y : new ≡ write_bytes table (take (r.counts.lines * 7 - 0) w) out) where
         ends : x ≡ write_ending table (form_of (reading_of t)) (length out)
@@ -124,7 +124,7 @@ module _ (table : Table) (t out : List ℕ) (few : length t ≤ most-text) {w : 
 
 done_of : (table : Table) (t : List ℕ) (room n : ℕ) → made.Sheet n ≡ made_of table t room → write_ending table (form_of (reading_of t)) room ≡ Done n
 unfolding made_of
-done_of table t room n e = by (ltb most-text (length t)) (eqb (reading_of t).control.expected 0) (write_ending table (form_of (reading_of t)) room) e
+done_of table t room n e = by (ltb most_text (length t)) (eqb (reading_of t).control.expected 0) (write_ending table (form_of (reading_of t)) room) e
   where
     by : (a b : Bool) (x : Ending) → made.Sheet n ≡ cond a (made.Expected 1 18 0) (cond b (made_by_writing (reading_of t) x) (made.Expected (reading_of t).line (reading_of t).control.expected (reading_of t).control.relation)) → x ≡ Done n
     by true b x e = let z : ◌≡◌ {A = ℕ} 0 1 = cc in absurd (omega arith)
@@ -132,13 +132,13 @@ done_of table t room n e = by (ltb most-text (length t)) (eqb (reading_of t).con
     by false true (Refused c l) e = let z : ◌≡◌ {A = ℕ} 0 1 = cc in absurd (omega arith)
     by false false x e = let z : ◌≡◌ {A = ℕ} 0 1 = cc in absurd (omega arith)
 
-few_words : (table : Table) (ws : List ℤ) → (words_refusal table ws).number ≡ 0 → length ws ≤ most-words
+few_words : (table : Table) (ws : List ℤ) → (words_refusal table ws).number ≡ 0 → length ws ≤ most_words
 unfolding words_refusal
-few_words table ws e = by (ltb most-words (length ws)) refl e
+few_words table ws e = by (ltb most_words (length ws)) refl e
   where
-    by : (a : Bool) → ltb most-words (length ws) ≡ a → (cond a (refusal 1 0) (cond (eqb (length ws % line-words) 0) (refusal_of table (word_lines ws)) (refusal 2 0))).number ≡ 0 → length ws ≤ most-words
+    by : (a : Bool) → ltb most_words (length ws) ≡ a → (cond a (refusal 1 0) (cond (eqb (length ws % line_word_count) 0) (refusal_of table (word_lines ws)) (refusal 2 0))).number ≡ 0 → length ws ≤ most_words
     by true i f = absurd (omega arith)
-    by false i f = ltb-false most-words (length ws) i
+    by false i f = ltb-false most_words (length ws) i
 
 module _ {table : Table} {t old new : List ℕ} {n : ℕ} (m : MadeAs table t old new (made.Sheet n)) where
   -- its bytes are the definition's, and they fit
@@ -149,8 +149,8 @@ module _ {table : Table} {t old new : List ℕ} {n : ℕ} (m : MadeAs table t ol
       let bs = bytes_of (word_lines ws) in
       let a = ending-done (words_refusal table ws) (length old) most_bytes (length bs) n (done_of table t (length old) n m.result) in
       let w = few_words table ws a.clean in
-      let f = bytes-size (word_lines ws) (sevens-good (length ws / line-words) ws) in
-      let l = sevens-length (length ws / line-words) ws in
+      let f = bytes-size (word_lines ws) (sevens-good (length ws / line_word_count) ws) in
+      let l = sevens-length (length ws / line_word_count) ws in
       let k = a.count in
       let r = a.enough in
       (omega arith, omega arith)
@@ -165,14 +165,14 @@ module _ {table : Table} {t old new : List ℕ} {n : ℕ} (m : MadeAs table t ol
       let ws = form_of (reading_of t) in
       let bs = sheet_bytes t in
       let d = done_of table t (length old) n m.result in
-      let z = replicate most-words (pos 0) in
-      let r = write_read table ws old n d z (omega (arith, length-replicate most-words (pos 0))) in
+      let z = replicate most_words (pos 0) in
+      let r = write_read table ws old n d z (omega (arith, length-replicate most_words (pos 0))) in
       let e = sized.0 in
       let f = sized.1 in
       let i : new ≡ write_bytes table ws old = m.lent ∙ sym (ap (λ r. lent_by r bs old) d) in
       let l : length new ≡ length old = ap length m.lent ∙ length-append bs (drop (length bs) old) ∙ (let k = length-drop (length bs) old in omega arith) in
       record {
-        accepted = rw i (clean-sheet table (take n (write_bytes table ws old)) _ (subst (λ k. read_ending table (take n (write_bytes table ws old)) k ≡ Done (length ws / line-words)) (length-replicate most-words (pos 0)) r.0));
+        accepted = rw i (clean-sheet table (take n (write_bytes table ws old)) _ (subst (λ k. read_ending table (take n (write_bytes table ws old)) k ≡ Done (length ws / line_word_count)) (length-replicate most_words (pos 0)) r.0));
         fits = omega arith;
         same = l;
         rest = ap (drop n) m.lent ∙ drop_at bs (drop (length bs) old) n (sym e) ∙ ap (λ k. drop k old) (sym e);

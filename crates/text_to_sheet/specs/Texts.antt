@@ -8,7 +8,7 @@ use Rattle.sheet_format.specs.declared.Ending.{Ending}
 use Rattle.sheet_format.specs.declared.Ending.TheVariants.{Done, Refused}
 use Rattle.sheet_table.specs.Tables.{table_refusal, table_of}
 use Rattle.sheet.specs.ByTable.{if_refused}
-use Rattle.text_begins.specs.Begins.{most-text}
+use Rattle.text_begins.specs.Begins.{most_text}
 use Rattle.text_meaning.specs.Reading.{Reading, reading_of, form_of, text_line}
 use Rattle.text_to_sheet.specs.declared.Made.{Made}
 use Rattle.text_to_sheet.specs.declared.Made.TheVariants as made
@@ -26,7 +26,7 @@ made_from table s room = cond (eqb s.control.expected 0) (made_by_writing s (wri
 
 -- a text that is too long is not read: a shorter one (18) was expected
 unfoldable pub made_of : Table → List ℕ → ℕ → Made
-made_of table t room = cond (ltb most-text (length t)) (made.Expected 1 18 0) (made_from table (reading_of t) room)
+made_of table t room = cond (ltb most_text (length t)) (made.Expected 1 18 0) (made_from table (reading_of t) room)
 
 -- by the bytes of a table, tb: its refusal comes first, and names no line of the text
 unfoldable pub made_of_by : List ℕ → List ℕ → ℕ → Made

@@ -11,7 +11,7 @@ use lib.Dec.{eqb, ltb, leb}
 use lib.IntN.{ℤ, pos}
 use lib.ListN.{length, take, drop, get_or, length-append, length-take, length-map, get_or-eq_default}
 use Rattle.list_laws.proofs.Lists.{inside}
-use Rattle.sheet_format.specs.Limits.{field-bytes, most-fields, field_end, line-words, most-columns}
+use Rattle.sheet_format.specs.Limits.{field_byte_count, most_fields, field_end, line_word_count, most_columns}
 use Rattle.sheet_format.specs.Field.{field_bytes}
 use Rattle.sheet_format.specs.Line.{all, natural}
 use Rattle.sheet_format.specs.Cause.{term_of}
@@ -25,15 +25,15 @@ use Rattle.sheet_format.proofs.Lists.{and_left, and_right, and_both}
 use Rattle.text_buffer.specs.Puts.{Put}
 use Rattle.text_buffer.specs.Words.{bytes}
 use Rattle.text_buffer.proofs.Laws.{reached-all, placed-all}
-use Rattle.text_begins.specs.Begins.{most-text}
-use Rattle.text_writer.specs.Rooms.{text-room}
+use Rattle.text_begins.specs.Begins.{most_text}
+use Rattle.text_writer.specs.Rooms.{text_room}
 use Rattle.text_writer.specs.Texts.{without_blanks, following, separated, groups, word_bytes, number_bytes, term_as, term_bytes, terms_bytes, relation_names, relation_bytes, fact_bytes, facts_bytes, small, line_terms, head_bytes, atom_bytes, values_bytes, row_bytes, kind_bytes, line_text, block_kind, line_kind, kind_of_first, lines_from, lines_bytes, causes, cause_bytes, place_bytes, refusal_bytes, counts, count_bytes, columns_bytes, expectations, length_bytes, what_bytes, expected_bytes}
 use Rattle.text_writer.specs.Says.{Silent, Spoken}
 use Rattle.text_writer.proofs.Parts.{groups-length}
 
 -- ---- what is put where there is room for it
 
-pub all-put : {a b s : List ℕ} {r : ℕ} → Put a b 0 s r → text-room ≤ length a → length s ≤ text-room → Spoken s a b r
+pub all-put : {a b s : List ℕ} {r : ℕ} → Put a b 0 s r → text_room ≤ length a → length s ≤ text_room → Spoken s a b r
 all-put {a} {b} {s} {r} p room few =
     record {
       room = room;
@@ -45,20 +45,20 @@ all-put {a} {b} {s} {r} p room few =
 
 -- a term with its comma; a relation's name, or its letter and number; a fact with at most four terms in brackets, and with its comma
 abbrev pub term-bytes : ℕ
-term-bytes = field-bytes + 1
+term-bytes = field_byte_count + 1
 
 abbrev pub name-bytes : ℕ
-name-bytes = field-bytes + 1
+name-bytes = field_byte_count + 1
 
 abbrev fact-bytes : ℕ
-fact-bytes = name-bytes + most-columns * term-bytes + 2
+fact-bytes = name-bytes + most_columns * term-bytes + 2
 
 abbrev pub next-fact-bytes : ℕ
 next-fact-bytes = fact-bytes + 2
 
 -- the terms of a line in brackets; a line with what stands around it
 abbrev line-terms-bytes : ℕ
-line-terms-bytes = (most-fields - 1) * term-bytes + 2
+line-terms-bytes = (most_fields - 1) * term-bytes + 2
 
 abbrev pub line-bytes : ℕ
 line-bytes = line-terms-bytes + 4
@@ -80,18 +80,18 @@ unfolding without_blanks
 plain-few [] = omega arith
 plain-few (b ∷ s) = let h = plain-few s in either-few (eqb b 32) (without_blanks s) (b ∷ without_blanks s) (suc (length s)) (omega arith) (omega arith)
 
-word-few : (w : ℤ) → length (word_bytes w) ≤ field-bytes
+word-few : (w : ℤ) → length (word_bytes w) ≤ field_byte_count
 unfolding word_bytes
 word-few w = let a = plain-few (field_bytes w) in let b = field-length w in omega arith
 
-number-few : (n : ℕ) → length (number_bytes n) ≤ field-bytes
-number-few n = either-few (ltb n field_end) (word_bytes (pos n)) [] field-bytes (word-few (pos n)) (omega arith)
+number-few : (n : ℕ) → length (number_bytes n) ≤ field_byte_count
+number-few n = either-few (ltb n field_end) (word_bytes (pos n)) [] field_byte_count (word-few (pos n)) (omega arith)
 
-term_few : (w : ℤ) → length (term_bytes w) ≤ field-bytes
+term_few : (w : ℤ) → length (term_bytes w) ≤ field_byte_count
 unfolding term_bytes
 term_few w = by (term_of w)
   where
-    by : (t : FieldTerm) → length (term_as t w) ≤ field-bytes
+    by : (t : FieldTerm) → length (term_as t w) ≤ field_byte_count
     by (Variable i) = omega arith
     by (Constant n) = word-few w
     by OutOfRange = word-few w
@@ -162,7 +162,7 @@ facts-few table narrow count ws =
 
 -- ---- lines
 
-small-few : (w : ℤ) → small w ≤ most-fields
+small-few : (w : ℤ) → small w ≤ most_fields
 small-few w = by (ltb 6 (natural w)) refl
   where
     by : (t : Bool) → ltb 6 (natural w) ≡ t → cond t 0 (natural w) ≤ 6
@@ -211,7 +211,7 @@ lines-few table narrow block (l ∷ ls) =
     simp length-append (omega arith)
 
 -- the text of a number form
-pub text-few : (table : Table) → Narrow table → (ws : List ℤ) → length (lines_bytes table ws) ≤ length ws / line-words * line-bytes
+pub text-few : (table : Table) → Narrow table → (ws : List ℤ) → length (lines_bytes table ws) ≤ length ws / line_word_count * line-bytes
 unfolding lines_bytes
 text-few table narrow ws =
     let n = length ws / 7 in
@@ -233,7 +233,7 @@ unless_few n s k h = either-few (eqb n 0) [] s k (omega arith) h
 after-few : (n : ℕ) (s : List ℕ) → length s ≤ 20 → length (cond (eqb n 0) [] (s ++ number_bytes n)) ≤ 28
 after-few n s h = let k = number-few n in unless_few n (s ++ number_bytes n) 28 (simp length-append (omega arith))
 
-pub refusal-few : (number line text : ℕ) → length (refusal_bytes number line text) ≤ text-room
+pub refusal-few : (number line text : ℕ) → length (refusal_bytes number line text) ≤ text_room
 unfolding refusal_bytes place_bytes
 refusal-few number line text =
     let a = after-few number (bytes "cause ") (omega arith) in
@@ -256,14 +256,14 @@ relation-columns-few n =
 
 length-few : length length_bytes ≤ cause-bytes
 unfolding length_bytes
-length-few = let a = number-few most-text in simp length-append (omega arith)
+length-few = let a = number-few most_text in simp length-append (omega arith)
 
 what_few : (what relation : ℕ) → length (what_bytes what relation) ≤ cause-bytes
 what_few zero relation = length-few
 what_few (suc n) relation =
     few-at (expectations relation) cause-bytes (and_both (leb (length (columns_bytes relation)) cause-bytes) _ (le-leb _ _ (relation-columns-few relation)) refl) length_bytes length-few n
 
-pub expected-few : (line what relation : ℕ) → length (expected_bytes line what relation) ≤ text-room
+pub expected-few : (line what relation : ℕ) → length (expected_bytes line what relation) ≤ text_room
 unfolding expected_bytes
 expected-few line what relation =
     let a = number-few line in

@@ -1,6 +1,6 @@
 -- The bytes of numbers, terms, facts, lines, causes and what was expected.
 use Rattle.std.specs.Prelude.{Bool, cond, List, [], ◌∷◌, ◌++◌, map, ℕ, zero, suc, ◌+◌, ◌-◌, ◌/◌, min, eqb, ltb, ℤ, pos, length, get_or, take, drop}
-use Rattle.sheet_format.specs.Limits.{most-fields, line-words, field_end}
+use Rattle.sheet_format.specs.Limits.{most_fields, line_word_count, field_end}
 use Rattle.sheet_format.specs.Field.{field_bytes}
 use Rattle.sheet_format.specs.Line.{natural}
 use Rattle.sheet_format.specs.Cause.{term_of}
@@ -9,7 +9,7 @@ use Rattle.sheet_format.specs.declared.FieldTerm.{FieldTerm}
 use Rattle.sheet_format.specs.declared.FieldTerm.TheVariants.{Constant, Variable, OutOfRange}
 use Rattle.text_buffer.specs.Words.{bytes}
 use Rattle.text_begins.specs.Begins.{letter_of}
-use Rattle.text_begins.specs.Begins.{most-text}
+use Rattle.text_begins.specs.Begins.{most_text}
 
 -- ---- parts
 
@@ -103,7 +103,7 @@ facts_bytes t count ws = separated (bytes ", ") (map (fact_bytes t) (groups 5 (m
 
 -- a field count or a kind; 0 for any other word
 abbrev pub small : ℤ → ℕ
-small w = cond (ltb most-fields (natural w)) 0 (natural w)
+small w = cond (ltb most_fields (natural w)) 0 (natural w)
 
 -- a line's kind
 abbrev pub line_kind : List ℤ → ℕ
@@ -153,7 +153,7 @@ lines_from t block (l ∷ ls) = line_text t l (line_kind l) (block_kind (line_ki
 
 -- the text of a number form
 unfoldable pub lines_bytes : Table → List ℤ → List ℕ
-lines_bytes t ws = lines_from t 0 (groups line-words (length ws / line-words) ws)
+lines_bytes t ws = lines_from t 0 (groups line_word_count (length ws / line_word_count) ws)
 
 -- ---- causes
 
@@ -230,7 +230,7 @@ expectations relation =
 
 -- a text that is not too long
 unfoldable pub length_bytes : List ℕ
-length_bytes = bytes "at most " ++ number_bytes most-text ++ bytes " bytes"
+length_bytes = bytes "at most " ++ number_bytes most_text ++ bytes " bytes"
 
 -- what was expected
 abbrev pub what_bytes : ℕ → ℕ → List ℕ

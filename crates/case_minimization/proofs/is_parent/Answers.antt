@@ -4,7 +4,7 @@ use Prim.Native.Nat.{ℕ, ◌≤◌, ◌<◌, ◌-◌, ◌+◌}
 use native.Mathlib.Omega.{arith}
 use borrow.Author.Count.{below_more}
 use borrow.Author.Rules.{rules}
-use Rattle.sheet_format.specs.Limits.{most-relations}
+use Rattle.sheet_format.specs.Limits.{most_relations}
 use Rattle.tableau_plan.specs.Plan.{parent_in}
 use Rattle.case_minimization.proofs.Laws.{no-parent}
 use Rattle.case_minimization.proofs.is_parent.Goals as goal

@@ -1,6 +1,6 @@
 use mathlib.Core.Path.{subst, ◌≡◌}
 use borrow.Author.Tests.{not-true, not-false}
-use Rattle.tableau_layout.specs.Layout.{view-block}
+use Rattle.tableau_layout.specs.Layout.{view_block}
 use Rattle.tableau_plan.specs.Plan.{row_at, row_values, row_count}
 use Rattle.tableau_parts.specs.Walks.{FormedPlan, GivenTo, GivesAtBy}
 use Rattle.tableau_parts.proofs.Laws.{given-none, given-more}

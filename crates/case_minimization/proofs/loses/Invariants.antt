@@ -1,7 +1,7 @@
 use mathlib.Core.Bool.{true≢false}
 use mathlib.Core.Path.{subst, sym}
 use borrow.Author.Tests.{not-true}
-use Rattle.tableau_layout.specs.Layout.{view-block}
+use Rattle.tableau_layout.specs.Layout.{view_block}
 use Rattle.tableau_plan.specs.Plan.{row_at, row_values}
 use Rattle.tableau_parts.specs.Walks.{GivesAtBy}
 use Prim.Native.Nat.{◌≤◌, ◌-◌, ◌+◌}

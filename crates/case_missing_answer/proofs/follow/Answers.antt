@@ -1,4 +1,4 @@
-use Rattle.sheet_format.specs.Limits.{most-atoms}
+use Rattle.sheet_format.specs.Limits.{most_atoms}
 use Rattle.tableau_parts.proofs.Laws.{MachineWords, room_falls, room-ends, follow-none}
 use Rattle.tableau_parts.specs.Walks.{BelowBy}
 use Rattle.query_join.specs.Joins.{NextBy}

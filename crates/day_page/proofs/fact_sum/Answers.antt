@@ -3,7 +3,7 @@ use Prim.Native.Nat.{◌≤◌, ◌+◌, ◌*◌, ◌-◌}
 use native.Mathlib.Omega.{arith}
 use borrow.Author.Rules.{rules}
 use lib.ListN.{length, take}
-use Rattle.judge_result.specs.Judged.{least-room}
+use Rattle.judge_result.specs.Judged.{least_room}
 use Rattle.judge_ends.specs.Sets.{most_sheets}
 use Rattle.day_page.specs.Page.{sum_of_facts}
 use Rattle.day_page.proofs.Laws.{sum_none, sum_more, shown-at}

@@ -5,7 +5,7 @@ use native.Mathlib.Omega.{arith}
 use borrow.Author.Rules.{rules}
 use borrow.Author.Tests.{not-true, not-false}
 use lib.ListN.{length, get_or, drop}
-use Rattle.sheet_format.specs.Limits.{most-atoms}
+use Rattle.sheet_format.specs.Limits.{most_atoms}
 use Rattle.list_laws.proofs.Words.{word_back}
 use Rattle.sheet_format.proofs.WordLines.{lines-length}
 use Rattle.sheet_format.specs.Line.{word_lines}

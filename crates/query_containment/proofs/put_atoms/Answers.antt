@@ -1,4 +1,4 @@
-use Rattle.sheet_format.specs.Limits.{most-atoms}
+use Rattle.sheet_format.specs.Limits.{most_atoms}
 use Rattle.query_containment.specs.Containment.{AtomsPut}
 use Rattle.query_containment.proofs.Laws.{atoms-none, atoms-more}
 use mathlib.Core.Path.{◌≡◌, subst}

@@ -5,7 +5,7 @@ use native.Mathlib.Omega.{arith}
 use borrow.Author.Count.{below_more}
 use borrow.Author.Tests.{not-false}
 use lib.ListN.{get_or}
-use Rattle.query_layout.specs.Layout.{block-head}
+use Rattle.query_layout.specs.Layout.{block_head}
 use Rattle.query_dominance.specs.Dominance.{Dominates, AtomDominates}
 use Rattle.query_dominance.proofs.Laws.{dominance}
 use borrow.Author.Rules.{rules}

@@ -3,7 +3,7 @@ use borrow.Author.Count.{below_more}
 use mathlib.Core.Path.{sym}
 use Prim.Native.Nat.{ℕ, ◌≤◌, ◌<◌, ◌-◌}
 use native.Mathlib.Omega.{arith}
-use Rattle.query_layout.specs.Layout.{block-width}
+use Rattle.query_layout.specs.Layout.{block_width}
 use Rattle.query_dominance.specs.Dominance.{OtherTerm}
 use borrow.Author.Rules.{rules}
 use Rattle.query_dominance.specs.Dominance.{OtherTerm}

@@ -3,7 +3,7 @@ use borrow.Author.Count.{below_more}
 use mathlib.Core.Path.{sym}
 use Prim.Native.Nat.{ℕ, ◌≤◌, ◌<◌, ◌-◌}
 use native.Mathlib.Omega.{arith}
-use Rattle.query_layout.specs.Layout.{block-width}
+use Rattle.query_layout.specs.Layout.{block_width}
 use Rattle.query_dominance.specs.Dominance.{OtherTerm}
 use borrow.Author.Rules.{rules}
 use Rattle.query_dominance.specs.Dominance.{OtherTerm}
@@ -11,7 +11,7 @@ use borrow.Author.Rules.{rules}
 use Rattle.query_dominance.proofs.is_lone.Given as goal
 
 abbrev pub invariant-loop-k : goal.invariant-loop-k
-invariant-loop-k state = (state.k ≤ block-width) × ((l : ℕ) → l < state.k → OtherTerm state.blk state.at l)
+invariant-loop-k state = (state.k ≤ block_width) × ((l : ℕ) → l < state.k → OtherTerm state.blk state.at l)
 
 abbrev pub decreases-loop-k : goal.decreases-loop-k
-decreases-loop-k l = block-width - l.k
+decreases-loop-k l = block_width - l.k

@@ -16,7 +16,7 @@ use Rattle.sheet_format.proofs.Slices.{above_step, above-end}
 use Rattle.list_laws.proofs.Words.{word_back}
 use Rattle.sheet_format.specs.Cause.{above}
 use Rattle.query_meaning.specs.Facts.{facts_in}
-use Rattle.query_facts.proofs.Laws.{fact-words, next-words}
+use Rattle.query_facts.proofs.Laws.{fact_words, next-words}
 use Rattle.query_facts.proofs.is_above.Given as goal
 
 abbrev pub invariant-loop-j : goal.invariant-loop-j

@@ -1,11 +1,11 @@
 -- `back` is safe and ends.
 use borrow.Author.Rules.{rules}
 use Prim.Native.Nat.{◌*◌, ◌≤◌, ◌-◌}
-use Rattle.search_board.specs.Sizes.{fact-set-words}
+use Rattle.search_board.specs.Sizes.{fact_set_words}
 use Rattle.search_advice.proofs.back.Given as goal
 
 abbrev pub invariant-loop-w : goal.invariant-loop-w
-invariant-loop-w l = l.w ≤ fact-set-words * 2
+invariant-loop-w l = l.w ≤ fact_set_words * 2
 
 abbrev pub decreases-loop-w : goal.decreases-loop-w
-decreases-loop-w l = fact-set-words * 2 - l.w
+decreases-loop-w l = fact_set_words * 2 - l.w

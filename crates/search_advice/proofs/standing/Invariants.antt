@@ -3,11 +3,11 @@ use borrow.Author.Rules.{rules}
 use mathlib.Core.Path.{◌≡◌}
 use Prim.Native.Nat.{◌+◌, ◌*◌, ◌≤◌, ◌-◌}
 use lib.ListN.{length}
-use Rattle.search_board.specs.Sizes.{fact-set-words}
+use Rattle.search_board.specs.Sizes.{fact_set_words}
 use Rattle.search_advice.proofs.standing.Given as goal
 
 abbrev pub invariant-loop-w : goal.invariant-loop-w
-invariant-loop-w l = (l.w ≤ fact-set-words * 2) × (length l.stand ≡ fact-set-words * 2 + 1)
+invariant-loop-w l = (l.w ≤ fact_set_words * 2) × (length l.stand ≡ fact_set_words * 2 + 1)
 
 abbrev pub decreases-loop-w : goal.decreases-loop-w
-decreases-loop-w l = fact-set-words * 2 - l.w
+decreases-loop-w l = fact_set_words * 2 - l.w

@@ -3,11 +3,11 @@ use borrow.Author.Rules.{rules}
 use mathlib.Core.Path.{◌≡◌}
 use Prim.Native.Nat.{◌≤◌, ◌-◌}
 use lib.ListN.{length}
-use Rattle.search_board.specs.Sizes.{fact-set-words}
+use Rattle.search_board.specs.Sizes.{fact_set_words}
 use Rattle.search_board.proofs.both.Given as goal
 
 abbrev pub invariant-loop-w : goal.invariant-loop-w
-invariant-loop-w l = (l.w ≤ fact-set-words) × (length l.set ≡ fact-set-words)
+invariant-loop-w l = (l.w ≤ fact_set_words) × (length l.set ≡ fact_set_words)
 
 abbrev pub decreases-loop-w : goal.decreases-loop-w
-decreases-loop-w l = fact-set-words - l.w
+decreases-loop-w l = fact_set_words - l.w

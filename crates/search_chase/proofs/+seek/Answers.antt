@@ -3,13 +3,13 @@ use Rattle.std.proofs.Common.{arith, ◌∙◌, ℕ, ◌+◌, ◌*◌, ◌-◌, 
 use Prim.Native.Nat.{min}
 use mathlib.Core.Logic.{⊎_elim}
 use Rattle.list_laws.proofs.Order.{less?}
-use Rattle.sheet_format.specs.Limits.{most-rows}
+use Rattle.sheet_format.specs.Limits.{most_rows}
 use Rattle.search_chase.proofs.Ahead.{judged-taken, judged-node}
 use Rattle.search_step.proofs.Onward.{begun-behind, onward-wordly, onward-found, onward-begun, onward-good, onward-failed}
 use Rattle.search_chase.proofs.+seek.Goals as goal
 
 -- of plain numbers, so that omega reads no more than these
-fewer : (i k : ℕ) → 0 < i → i ≤ 2 * most-rows → (0 < k → (i < k) × (k ≤ 2 * most-rows)) → min (k * (2 * most-rows + 1)) (2 * most-rows + 1 - k) < min (i * (2 * most-rows + 1)) (2 * most-rows + 1 - i)
+fewer : (i k : ℕ) → 0 < i → i ≤ 2 * most_rows → (0 < k → (i < k) × (k ≤ 2 * most_rows)) → min (k * (2 * most_rows + 1)) (2 * most_rows + 1 - k) < min (i * (2 * most_rows + 1)) (2 * most_rows + 1 - i)
 fewer i k lt le f = ⊎_elim (λ some. let m = f some in omega arith) (λ none. omega arith) (less? 0 k)
 
 pub loop-i-init : goal.loop-i-init

@@ -1,7 +1,7 @@
 use mathlib.Core.Path.{◌≡◌, ap, ◌∙◌}
 use Prim.Native.Nat.{◌-◌}
 use native.Mathlib.Omega.{arith}
-use Rattle.sheet_format.specs.Limits.{most-rows}
+use Rattle.sheet_format.specs.Limits.{most_rows}
 use Rattle.case_verdicts.specs.Tableau.{Good}
 use Rattle.search_task.specs.Task.{sheet_by}
 use Rattle.search_node.proofs.Choices.{many-few}
@@ -16,9 +16,9 @@ returns-then-from-eq0-clause-advanced c = let a = c.args in
     let z = c.if-from-eq0.true in
     let q = c.next in λ x r old w b.
     let f = b.first z in
-    from-kept a.p.now x (sheet_by a.goal x) a.ws.now old a.set.now a.node.now 0 a.below.now most-rows a.sl.now a.sm.now q.new.set q.result q.new.ws f.0
+    from-kept a.p.now x (sheet_by a.goal x) a.ws.now old a.set.now a.node.now 0 a.below.now most_rows a.sl.now a.sm.now q.new.set q.result q.new.ws f.0
     (q.ensures.advanced x r a.goal) w
-    (going_first a.p.now x (Good (sheet_by a.goal x)) old a.node.now a.ws.now a.set.now f.0 f.1 a.below.now most-rows (many-few a.node.now a.p.now r.plan.rows_few) a.sl.now a.sm.now f.2)
+    (going_first a.p.now x (Good (sheet_by a.goal x)) old a.node.now a.ws.now a.set.now f.0 f.1 a.below.now most_rows (many-few a.node.now a.p.now r.plan.rows_few) a.sl.now a.sm.now f.2)
 
 pub returns-then-jump-clause-advanced : goal.returns-then-jump-clause-advanced
 returns-then-jump-clause-advanced c = let a = c.args in

@@ -1,7 +1,7 @@
 use Prim.Native.Nat.{◌<◌}
 use native.Mathlib.Omega.{arith}
 use borrow.Author.Tests.{not-true, not-false}
-use Rattle.sheet_format.specs.Limits.{most-rows}
+use Rattle.sheet_format.specs.Limits.{most_rows}
 use Rattle.search_node.specs.Choices.{how_many}
 use Rattle.search_node.proofs.Choices.{many-few}
 use Rattle.search_chase.proofs.Ahead.{live-so, ahead-clashed, ahead-wordly, ahead-memory, ahead-left, ahead-unknown}
@@ -17,7 +17,7 @@ returns-then-not-take-clause-learnt_ahead c = let a = c.args in
     let few = c.alternatives.ensures.limited in
     let in-many = c.if-alternatives-k.false in
     let lt : k < how_many a.p.now node = omega arith in
-    let low : k < most-rows = omega arith in
+    let low : k < most_rows = omega arith in
     ahead-clashed a.p.now x r a.goal a.ws.now w s.new.set node (s.ensures.open_state x r w (not-false s.result c.if-not-show_node.false-raw)) a.sl.now a.sm.now m k
     (live-so a.p.now node k lt c.is_live.result (not-false c.is_live.result c.if-not-is_live.false-raw) (c.is_live.ensures low))
     t.result t.new.ws (t.ensures.equated_by low lt) (not-true t.result c.if-not-take.true-raw)
@@ -36,7 +36,7 @@ returns-then-is_ended-clause-learnt_ahead c = let d = c.leave in
     let few = c.alternatives.ensures.limited in
     let in-many = c.if-alternatives-k.false in
     let lt : k < how_many a.p.now node = omega arith in
-    let low : k < most-rows = omega arith in
+    let low : k < most_rows = omega arith in
     let o = s.ensures.open_state x r w (not-false s.result c.if-not-show_node.false-raw) in
     let live = live-so a.p.now node k lt c.is_live.result (not-false c.is_live.result c.if-not-is_live.false-raw) (c.is_live.ensures low) in
     ahead-left a.p.now x r a.goal a.ws.now w set node o a.sl.now a.sm.now m k live t.result t.new.ws (t.ensures.equated_by low lt) on
@@ -59,7 +59,7 @@ returns-clause-learnt_ahead c = let u = c.untake in
     let few = c.alternatives.ensures.limited in
     let in-many = c.if-alternatives-k.false in
     let lt : k < how_many a.p.now node = omega arith in
-    let low : k < most-rows = omega arith in
+    let low : k < most_rows = omega arith in
     let o = s.ensures.open_state x r w (not-false s.result c.if-not-show_node.false-raw) in
     let live = live-so a.p.now node k lt c.is_live.result (not-false c.is_live.result c.if-not-is_live.false-raw) (c.is_live.ensures low) in
     ahead-unknown a.p.now x r a.goal a.ws.now w set node o a.sl.now a.sm.now m k live t.result t.new.ws (t.ensures.equated_by low lt) on

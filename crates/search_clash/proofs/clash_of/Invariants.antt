@@ -1,11 +1,11 @@
 -- `clash_of` is safe and ends.
 use Prim.Native.Nat.{◌≤◌, ◌-◌}
-use Rattle.search_board.specs.Sizes.{fact-end}
+use Rattle.search_board.specs.Sizes.{fact_end}
 use borrow.Author.Rules.{rules}
 use Rattle.search_clash.proofs.clash_of.Given as goal
 
 abbrev pub invariant-loop-i : goal.invariant-loop-i
-invariant-loop-i l = l.i ≤ fact-end
+invariant-loop-i l = l.i ≤ fact_end
 
 abbrev pub decreases-loop-i : goal.decreases-loop-i
-decreases-loop-i l = fact-end - l.i
+decreases-loop-i l = fact_end - l.i

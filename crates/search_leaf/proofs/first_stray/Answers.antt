@@ -4,8 +4,8 @@ use Prim.Native.Nat.{◌*◌, min}
 use native.Mathlib.Omega.{arith}
 use borrow.Author.Rules.{rules}
 use lib.Seq.{length-take-le}
-use Rattle.sheet_format.specs.Limits.{most-atoms}
-use Rattle.tableau_layout.specs.Layout.{view-block}
+use Rattle.sheet_format.specs.Limits.{most_atoms}
+use Rattle.tableau_layout.specs.Layout.{view_block}
 use Rattle.query_answers.specs.Answers.{WitnessAt}
 use Rattle.tableau_plan.specs.Plan.{block_numbers, block_size}
 use Rattle.tableau_parts.specs.Views.{StrayBy}
@@ -18,5 +18,5 @@ returns-clause-stray_by c = let p = c.args.p.now in
 
 pub returns-clause-witness_at : goal.returns-clause-witness_at
 returns-clause-witness_at c = let p = c.args.p.now in
-    let v = c.first.result in λ x r size on. subst (λ ns. WitnessAt (block_numbers p (view-block v.view)) (min (block_size p (view-block v.view)) most-atoms) ns v.values v.at) (c.write_facts-n.ensures.out_after x r size)
+    let v = c.first.result in λ x r size on. subst (λ ns. WitnessAt (block_numbers p (view_block v.view)) (min (block_size p (view_block v.view)) most_atoms) ns v.values v.at) (c.write_facts-n.ensures.out_after x r size)
     (c.first.ensures.witness_at (ready-views p x r) on)

@@ -5,7 +5,7 @@ use borrow.Author.Count.{below_more}
 use borrow.Author.Rules.{rules}
 use lib.ListN.{length-set, length, get_or}
 use lib.Seq.{get_or-set_same, get_or-set_other}
-use Rattle.tableau_layout.specs.Layout.{slot-end}
+use Rattle.tableau_layout.specs.Layout.{slot_end}
 use Rattle.case_verdicts.specs.Sheets.{top}
 use Rattle.case_verdicts.proofs.Words.{words-free}
 use Rattle.search_links.proofs.free.Goals as goal

@@ -5,7 +5,7 @@ use borrow.Author.Count.{below_more}
 use borrow.Author.Rules.{rules}
 use lib.ListN.{length, get_or, length-set}
 use lib.Seq.{get_or-set_same, get_or-set_other}
-use Rattle.tableau_layout.specs.Layout.{slot-end}
+use Rattle.tableau_layout.specs.Layout.{slot_end}
 use Rattle.case_verdicts.specs.Sheets.{top}
 use Rattle.search_links.specs.Links.{linked_state}
 use Rattle.search_links.proofs.Words.{place-slot}

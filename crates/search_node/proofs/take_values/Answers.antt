@@ -7,7 +7,7 @@ use borrow.Author.Rules.{rules}
 use borrow.Author.Tests.{not-false}
 use lib.ListN.{length, get_or, length-set}
 use lib.Seq.{get_or-set_same, get_or-set_other}
-use Rattle.tableau_layout.specs.Layout.{slot-end}
+use Rattle.tableau_layout.specs.Layout.{slot_end}
 use Rattle.case_verdicts.specs.Verdict.{Sheet}
 use Rattle.search_task.specs.Task.{ReadyPlan}
 use Rattle.search_node.specs.Node.{Standing, Wordly}

@@ -2,7 +2,7 @@ use borrow.Author.Rules.{rules}
 use mathlib.Core.Path.{refl, ◌∙◌}
 use native.Mathlib.Omega.{arith}
 use lib.ListN.{length-set}
-use Rattle.search_nogoods.specs.Sizes.{memory-count-at}
+use Rattle.search_nogoods.specs.Sizes.{memory_count_at}
 use Rattle.search_nogoods.proofs.Laws.{less_none, less-some}
 use Rattle.search_nogoods.proofs.forget.Goals as goal
 

@@ -5,7 +5,7 @@ use native.Mathlib.Omega.{arith}
 use lib.ListN.{length, length-set}
 use Rattle.search_slots.specs.Slots.{set_words}
 use Rattle.search_nogoods.specs.Memory.{memory_set}
-use Rattle.search_nogoods.specs.Sizes.{memory-words}
+use Rattle.search_nogoods.specs.Sizes.{memory_words}
 use Rattle.search_nogoods.proofs.Laws.{SetStoring, rests-length, storing_none, storing_more, storing_read, storing_all}
 use Rattle.search_nogoods.proofs.move_set.Goals as goal
 

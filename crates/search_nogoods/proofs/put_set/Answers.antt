@@ -4,7 +4,7 @@ use Prim.Native.Nat.{◌≤◌, ◌-◌, ◌+◌, ◌*◌}
 use native.Mathlib.Omega.{arith}
 use lib.ListN.{length, length-set}
 use Rattle.search_slots.specs.Slots.{set_words}
-use Rattle.search_nogoods.specs.Sizes.{memory-words}
+use Rattle.search_nogoods.specs.Sizes.{memory_words}
 use Rattle.search_nogoods.proofs.Laws.{SetStoring, storing_none, storing_more, storing_all}
 use Rattle.search_nogoods.proofs.put_set.Goals as goal
 

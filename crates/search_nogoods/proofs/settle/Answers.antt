@@ -3,7 +3,7 @@ use mathlib.Core.Path.{◌≡◌, refl, ◌∙◌}
 use Prim.Native.Nat.{◌≤◌, ◌<◌, ◌-◌}
 use native.Mathlib.Omega.{arith}
 use lib.ListN.{length}
-use Rattle.search_nogoods.specs.Sizes.{memory-numbers, memory-words}
+use Rattle.search_nogoods.specs.Sizes.{memory_numbers, memory_words}
 use Rattle.search_nogoods.specs.Parts.{ApartBefore}
 use Rattle.search_nogoods.proofs.Laws.{KeepingApart, keeping_start, keeping_skip, keeping_move}
 use Rattle.search_nogoods.proofs.settle.Goals as goal

@@ -6,7 +6,7 @@ use lib.Bits.{bit_or}
 use lib.ListN.{length}
 use Rattle.list_laws.specs.Kept.{Filled}
 use Rattle.list_laws.proofs.Ranges.{filled_none, filled_more}
-use Rattle.search_slots.specs.Slots.{full-word, set_word}
+use Rattle.search_slots.specs.Slots.{full_word, set_word}
 use Rattle.search_slots.proofs.Words.{read-unwritten, filled-joined}
 use Rattle.search_slots.proofs.join.Goals as goal
 

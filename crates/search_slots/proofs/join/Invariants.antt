@@ -7,12 +7,12 @@ use lib.Bits.{bit_or}
 use lib.ListN.{length}
 use Rattle.list_laws.specs.Kept.{Filled}
 use Rattle.list_laws.proofs.Ranges.{filled_none, filled_more}
-use Rattle.search_slots.specs.Slots.{full-word, set_word}
+use Rattle.search_slots.specs.Slots.{full_word, set_word}
 use Rattle.search_slots.proofs.Words.{read-unwritten, filled-joined}
 use Rattle.search_slots.proofs.join.Given as goal
 
 abbrev pub invariant-loop-w : goal.invariant-loop-w
-invariant-loop-w l = (l.w ≤ l.end) × (l.end ≡ length l.initial.set) × Filled full-word l.initial.set l.set 0 l.w (λ v. bit_or (set_word l.initial.set v) (set_word l.others v))
+invariant-loop-w l = (l.w ≤ l.end) × (l.end ≡ length l.initial.set) × Filled full_word l.initial.set l.set 0 l.w (λ v. bit_or (set_word l.initial.set v) (set_word l.others v))
 
 abbrev pub decreases-loop-w : goal.decreases-loop-w
 decreases-loop-w l = l.end - l.w

@@ -5,7 +5,7 @@ use native.Mathlib.Omega.{arith}
 use lib.ListN.{length}
 use Rattle.list_laws.specs.Kept.{Filled}
 use Rattle.list_laws.proofs.Ranges.{filled_none, filled_more}
-use Rattle.search_slots.specs.Slots.{full-word, set_word}
+use Rattle.search_slots.specs.Slots.{full_word, set_word}
 use Rattle.search_slots.proofs.Words.{filled_put}
 use Rattle.search_slots.proofs.put.Goals as goal
 

@@ -5,7 +5,7 @@ use native.Mathlib.Omega.{arith}
 use lib.ListN.{length}
 use Rattle.list_laws.specs.Kept.{Filled}
 use Rattle.list_laws.proofs.Ranges.{filled_none, filled_more}
-use Rattle.search_slots.specs.Slots.{full-word, set_word, word_less}
+use Rattle.search_slots.specs.Slots.{full_word, set_word, word_less}
 use Rattle.search_slots.proofs.Words.{read-unwritten, filled-less}
 use Rattle.search_slots.proofs.subtract.Goals as goal
 

@@ -6,7 +6,7 @@ use native.Mathlib.Omega.{arith}
 use borrow.Author.Rules.{rules}
 use borrow.Author.Tests.{not-true}
 use lib.ListN.{length}
-use Rattle.sheet_format.specs.Limits.{most-rows}
+use Rattle.sheet_format.specs.Limits.{most_rows}
 use Rattle.case_verdicts.specs.Verdict.{Sheet}
 use Rattle.case_verdicts.specs.Tableau.{Good}
 use Rattle.search_task.specs.Task.{ReadyPlan, sheet_by}
@@ -65,7 +65,7 @@ returns-then-take-clause-advanced c = let a = c.args in
     let many = n.ensures.exact (many-few a.node.now a.p.now r.plan.rows_few) in
     let is = turn_at a.p.now a.node.now many l.i k.result k.ensures.0 in
     let lt = k.ensures.1 test in
-    let few : k.result < most-rows = let m = n.ensures.limited in omega arith in
+    let few : k.result < most_rows = let m = n.ensures.limited in omega arith in
     let inside : k.result < how_many a.p.now a.node.now = omega arith in
     let s = refuted-not q.result a.p.now l.ws a.node.now a.last k.result a.below.now a.sl.now a.sm.now l.set q.new.set c.if-is_refuted.false (q.ensures.refuted_as few inside) in
     turn-taken a.p.now x r goal a.ws.now w a.node.now q.new.set l.i l.ws a.below.now a.last a.sl.now a.sm.now
@@ -87,7 +87,7 @@ loop-i-preserved c = let a = c.args in
           let many = n.ensures.exact (many-few a.node.now a.p.now r.plan.rows_few) in
           let is = turn_at a.p.now a.node.now many l.i k.result k.ensures.0 in
           let lt = k.ensures.1 test in
-          let few : k.result < most-rows = let m = n.ensures.limited in omega arith in
+          let few : k.result < most_rows = let m = n.ensures.limited in omega arith in
           let inside : k.result < how_many a.p.now a.node.now = omega arith in
           let s = refuted-not q.result a.p.now l.ws a.node.now a.last k.result a.below.now a.sl.now a.sm.now l.set q.new.set c.if-is_refuted.false (q.ensures.refuted_as few inside) in
           turn-clashed a.p.now x r goal a.ws.now w a.node.now q.new.set l.i l.ws a.below.now a.last a.sl.now a.sm.now

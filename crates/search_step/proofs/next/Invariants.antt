@@ -6,7 +6,7 @@ use native.Mathlib.Omega.{arith}
 use borrow.Author.Rules.{rules}
 use borrow.Author.Tests.{not-true}
 use lib.ListN.{length}
-use Rattle.sheet_format.specs.Limits.{most-rows}
+use Rattle.sheet_format.specs.Limits.{most_rows}
 use Rattle.case_verdicts.specs.Verdict.{Sheet}
 use Rattle.case_verdicts.specs.Tableau.{Good}
 use Rattle.search_task.specs.Task.{ReadyPlan, sheet_by}

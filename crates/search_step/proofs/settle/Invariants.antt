@@ -6,7 +6,7 @@ use Rattle.case_verdicts.specs.Words.{state_of}
 use Rattle.case_verdicts.specs.Search.{free}
 use Rattle.case_verdicts.specs.Sheets.{top}
 use Rattle.case_verdicts.specs.Verdict.{Sheet}
-use Rattle.tableau_layout.specs.Layout.{slot-end}
+use Rattle.tableau_layout.specs.Layout.{slot_end}
 use mathlib.Core.Path.{◌≡◌, ◌∙◌}
 use Prim.Native.Nat.{◌≤◌, ◌-◌, ◌+◌}
 use native.Mathlib.Omega.{arith}
@@ -16,7 +16,7 @@ use lib.ListN.{length}
 use Rattle.search_step.proofs.settle.Given as goal
 
 abbrev pub invariant-loop-i : goal.invariant-loop-i
-invariant-loop-i l = (length l.ws ≡ slot-end) × (l.i ≤ l.listed) × ((x : Sheet) → ReadyPlan l.p x → (goal : Goal) → state_of top l.initial.ws ≡ free top → Heads x (sheet_by goal x) l.ws l.i)
+invariant-loop-i l = (length l.ws ≡ slot_end) × (l.i ≤ l.listed) × ((x : Sheet) → ReadyPlan l.p x → (goal : Goal) → state_of top l.initial.ws ≡ free top → Heads x (sheet_by goal x) l.ws l.i)
 
 abbrev pub decreases-loop-i : goal.decreases-loop-i
 decreases-loop-i l = l.listed - l.i

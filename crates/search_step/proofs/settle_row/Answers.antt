@@ -3,7 +3,7 @@ use Rattle.search_task.proofs.Copies.{head-numbers}
 use Rattle.search_links.specs.Steps.{RootValues, EquatedBy}
 use Rattle.search_links.specs.Links.{linked_state}
 use Rattle.case_verdicts.specs.Sheets.{top}
-use Rattle.tableau_layout.specs.Layout.{view-block}
+use Rattle.tableau_layout.specs.Layout.{view_block}
 use mathlib.Core.List.{List}
 use mathlib.Core.Path.{ap, ◌∙◌, subst}
 use Prim.Native.Nat.{ℕ, ◌-◌}
@@ -16,7 +16,7 @@ pub returns-then-v-ge-MOST_VIEWS : goal.returns-then-v-ge-MOST_VIEWS
 returns-then-v-ge-MOST_VIEWS c = λ x r goal lt h.
     let v = c.view_at-v.ensures c.requires in
     let t = c.if-v-ge-MOST_VIEWS.true in
-    let few = r.plan.views-few in
+    let few = r.plan.views_few in
     let o = (r.plan.rows _ lt).view in
     absurd (omega arith)
 
@@ -28,5 +28,5 @@ returns c = λ x r goal lt h.
     let e = c.values_at-row.ensures c.requires in
     let q = c.equate in
     settled-by a.p.now x r goal a.ws.now a.i lt h q.result u.result q.new.ws
-    (u.ensures ∙ head-numbers a.p.now x r a.i lt (linked_state top a.ws.now) _ _ (omega arith) (ap view-block v)) (ap length u.ensures)
+    (u.ensures ∙ head-numbers a.p.now x r a.i lt (linked_state top a.ws.now) _ _ (omega arith) (ap view_block v)) (ap length u.ensures)
     (subst (λ (l : List ℕ). RootValues top a.ws.now u.result → RootValues top a.ws.now l → EquatedBy q.result top a.ws.now q.new.ws u.result l) e (q.ensures (ap length u.ensures) (ap length e)))

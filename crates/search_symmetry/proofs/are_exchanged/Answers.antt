@@ -6,9 +6,9 @@ use Rattle.search_symmetry.proofs.are_exchanged.Goals as goal
 pub returns : goal.returns
 returns c e =
     let l = c.if-not-are_listed.ensures refl in
-    let few = l.few-rows in
+    let few = l.few_rows in
     let one_in = l.one_inside in
-    let other_in = l.other-inside in
+    let other_in = l.other_inside in
     all_found c.args.p.now c.args.ws.now c.args.set.now c.args.u.now c.args.one c.args.other _ _ _
     (c.values_at-a.ensures (omega arith))
     (c.values_at-b.ensures (omega arith))

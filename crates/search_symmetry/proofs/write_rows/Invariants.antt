@@ -3,13 +3,13 @@ use mathlib.Core.Path.{sym, ◌∙◌, subst}
 use Prim.Native.Nat.{ℕ, ◌≤◌, ◌-◌}
 use native.Mathlib.Omega.{arith}
 use borrow.Author.Rules.{rules}
-use Rattle.sheet_format.specs.Limits.{most-rows}
+use Rattle.sheet_format.specs.Limits.{most_rows}
 use Rattle.search_symmetry.proofs.Laws.{never, ended, written-more}
 use Rattle.search_symmetry.specs.Steps.{Goes, WrittenCopies}
 use Rattle.search_symmetry.proofs.write_rows.Given as goal
 
 abbrev pub invariant-loop-i : goal.invariant-loop-i
-invariant-loop-i l = (l.i ≤ most-rows) × WrittenCopies l.p l.a l.b l.rows l.to l.i
+invariant-loop-i l = (l.i ≤ most_rows) × WrittenCopies l.p l.a l.b l.rows l.to l.i
 
 abbrev pub decreases-loop-i : goal.decreases-loop-i
-decreases-loop-i l = most-rows - l.i
+decreases-loop-i l = most_rows - l.i

@@ -4,7 +4,7 @@ use Prim.Native.Nat.{ℕ, suc, ◌-◌, min}
 use native.Mathlib.Omega.{arith}
 use lib.IntN.{pos}
 use Rattle.list_laws.proofs.Words.{back}
-use Rattle.sheet_format.specs.Limits.{most-columns}
+use Rattle.sheet_format.specs.Limits.{most_columns}
 use Rattle.sheet_format.specs.Table.{columns_of, table_in}
 use Rattle.sheet_terms.proofs.Laws.{no-columns, numbered, columns-at}
 use borrow.Author.Rules.{rules}
@@ -17,6 +17,6 @@ pub returns : goal.returns
 returns c = let (n, e) = (numbered c.args.relation (rw (back c.ranges.relation) at c.if-relation-lt1.false)) in
     let p : suc n - 1 ≡ n = omega arith in
     c.cut.ensures
-    ∙ ap (min most-columns) (rw (back c.ranges.relation, e, p) at (c.number_in.ensures (omega arith)))
+    ∙ ap (min most_columns) (rw (back c.ranges.relation, e, p) at (c.number_in.ensures (omega arith)))
     ∙ columns-at c.args.table.now n
     ∙ ap (columns_of (table_in c.args.table.now)) (sym e)

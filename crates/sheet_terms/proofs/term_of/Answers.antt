@@ -2,7 +2,7 @@ use mathlib.Core.Path.{◌≡◌, sym, ap, ◌∙◌}
 use Prim.Native.Nat.{ℕ, suc, ◌<◌}
 use native.Mathlib.Omega.{arith}
 use lib.IntN.{pos, negsuc, ◌-ℤ◌}
-use Rattle.sheet_format.specs.Limits.{constant-end}
+use Rattle.sheet_format.specs.Limits.{constant_end}
 use Rattle.list_laws.proofs.Words.{back, to_pos}
 use Rattle.sheet_format.specs.Cause.{term_of}
 use Rattle.sheet_terms.proofs.Laws.{variable, term-variable, term-low, constant, term-constant, term-high}

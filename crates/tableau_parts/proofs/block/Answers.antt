@@ -1,5 +1,5 @@
 use Rattle.tableau_layout.specs.Layout.{blocks_at}
-use Rattle.query_layout.specs.Layout.{block-width}
+use Rattle.query_layout.specs.Layout.{block_width}
 use Rattle.list_laws.specs.Kept.{Filled}
 use Rattle.list_laws.proofs.Lists.{part-is}
 use Rattle.list_laws.proofs.Ranges.{filled_none, filled_more}
@@ -15,4 +15,4 @@ returns c = let l = c.loop-i in
     let a = c.args in
     λ size.
     let n = l.invariant.2.kept.same in
-    part-is 0 a.p.now l.r (blocks_at + a.b * block-width) block-width (omega arith) (omega arith) (λ x lt. l.invariant.2.each x (omega arith) (omega arith))
+    part-is 0 a.p.now l.r (blocks_at + a.b * block_width) block_width (omega arith) (omega arith) (λ x lt. l.invariant.2.each x (omega arith) (omega arith))

@@ -1,5 +1,5 @@
 use mathlib.Core.Path.{◌≡◌, refl, ◌∙◌, subst}
-use Rattle.sheet_format.specs.Limits.{table-numbers}
+use Rattle.sheet_format.specs.Limits.{table_number_count}
 use native.Mathlib.Omega.{arith}
 use lib.ListN.{length}
 use Prim.Native.Nat.{◌/◌}

@@ -3,7 +3,7 @@ use Prim.Native.Nat.{◌≤◌, ◌-◌, ◌<◌}
 use native.Mathlib.Omega.{arith}
 use borrow.Author.Rules.{rules}
 use lib.ListN.{length}
-use Rattle.tableau_layout.specs.Layout.{most-blocks, plan-numbers}
+use Rattle.tableau_layout.specs.Layout.{most_blocks, plan_numbers}
 use Rattle.sheet_format.specs.Line.{word_lines}
 use Rattle.query_blocks.specs.Parts.{AcceptedLines}
 use Rattle.tableau_plan.specs.Parts.{BlockStored, place_of}
@@ -22,7 +22,7 @@ returns-then-at-ge-MOST_BLOCKS c = let f = c.block-found in
     let l = c.loop-b in
     let a = c.args in
     let e = c.place-at.ensures in
-    (l.invariant.1, λ ok so. begun-out l.p (word_lines a.ws.now) a.lists l.b ok so (l.invariant.2 ok) f.result.some f.result.atoms f.result.numbers (not-false _ c.if-not-found.false) (f.ensures ok.0 ok.1) (subst (λ n. most-blocks ≤ n) e c.if-at-ge-MOST_BLOCKS.true))
+    (l.invariant.1, λ ok so. begun-out l.p (word_lines a.ws.now) a.lists l.b ok so (l.invariant.2 ok) f.result.some f.result.atoms f.result.numbers (not-false _ c.if-not-found.false) (f.ensures ok.0 ok.1) (subst (λ n. most_blocks ≤ n) e c.if-at-ge-MOST_BLOCKS.true))
 
 pub loop-b-preserved : goal.loop-b-preserved
 loop-b-preserved c = let w = c.put_block in
@@ -32,7 +32,7 @@ loop-b-preserved c = let w = c.put_block in
     let e = c.place-at.ensures in (
       omega arith,
       w.ensures.long,
-      λ ok. begun_more l.p w.new.p (word_lines a.ws.now) a.lists l.b f.result.some f.result.atoms f.result.numbers (subst (λ n. n < most-blocks) e c.if-at-ge-MOST_BLOCKS.false) l.invariant.1
+      λ ok. begun_more l.p w.new.p (word_lines a.ws.now) a.lists l.b f.result.some f.result.atoms f.result.numbers (subst (λ n. n < most_blocks) e c.if-at-ge-MOST_BLOCKS.false) l.invariant.1
           (subst (λ n. BlockStored l.p w.new.p n f.result.atoms f.result.numbers) e w.ensures) (not-false _ c.if-not-found.false) (f.ensures ok.0 ok.1) (l.invariant.2 ok),
     )
 

@@ -3,7 +3,7 @@ use Prim.Native.Nat.{◌≤◌, ◌-◌, ◌+◌}
 use native.Mathlib.Omega.{arith}
 use borrow.Author.Rules.{rules}
 use lib.ListN.{get_or}
-use Rattle.query_layout.specs.Layout.{block-width}
+use Rattle.query_layout.specs.Layout.{block_width}
 use Rattle.list_laws.proofs.Ranges.{shifted, placed-none, placed-more, placed-all}
 use Rattle.list_laws.specs.Kept.{Filled}
 use Rattle.tableau_plan.proofs.put_numbers.Goals as goal
@@ -16,4 +16,4 @@ loop-x-preserved c = let l = c.loop-x in
 pub returns : goal.returns
 returns c = let l = c.loop-x in
     let a = c.args in
-    placed-all a.p.now l.p a.at l.x block-width (λ y. get_or a.numbers.now y 0) (omega arith) l.invariant.1
+    placed-all a.p.now l.p a.at l.x block_width (λ y. get_or a.numbers.now y 0) (omega arith) l.invariant.1

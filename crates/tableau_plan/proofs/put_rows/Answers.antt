@@ -4,7 +4,7 @@ use native.Mathlib.Omega.{arith}
 use borrow.Author.Rules.{rules}
 use lib.ListN.{length}
 use Rattle.tableau_layout.specs.Layout.{blocks_at, rows_at}
-use Rattle.sheet_format.specs.Limits.{most-rows}
+use Rattle.sheet_format.specs.Limits.{most_rows}
 use Rattle.list_laws.proofs.Ranges.{kept-none, kept_more}
 use Rattle.sheet_format.specs.Line.{word_lines}
 use Rattle.tableau_plan.specs.Parts.{KeptOutside, RowsDone}

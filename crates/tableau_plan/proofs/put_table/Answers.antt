@@ -3,7 +3,7 @@ use Prim.Native.Nat.{◌≤◌, ◌-◌, ◌+◌}
 use native.Mathlib.Omega.{arith}
 use borrow.Author.Rules.{rules}
 use lib.ListN.{get_or}
-use Rattle.sheet_format.specs.Limits.{table-numbers}
+use Rattle.sheet_format.specs.Limits.{table_number_count}
 use Rattle.tableau_layout.specs.Layout.{table_at}
 use Rattle.list_laws.proofs.Ranges.{shifted, placed-none, placed-more, placed-all}
 use Rattle.list_laws.specs.Kept.{Filled}
@@ -17,5 +17,5 @@ loop-x-preserved c = let l = c.loop-x in
 pub returns : goal.returns
 returns c = let l = c.loop-x in
     let a = c.args in
-    let w = placed-all a.p.now l.p table_at l.x table-numbers (λ y. get_or a.table.now y 0) (omega arith) l.invariant.1 in
+    let w = placed-all a.p.now l.p table_at l.x table_number_count (λ y. get_or a.table.now y 0) (omega arith) l.invariant.1 in
     (w.0, w.1, c.requires.0)

@@ -1,6 +1,6 @@
 -- The judgement by the table's numbers is the one by its bytes.
 use Rattle.std.proofs.Common.{◌≡◌, ℕ, length, arith, rules}
-use Rattle.query_meaning.specs.Evaluate.{answer-words}
+use Rattle.query_meaning.specs.Evaluate.{answer_word_count}
 use Rattle.text_judgement.specs.Verdict.{Verdict}
 use Rattle.text_judgement.proofs.Calls.{told}
 use Rattle.text_answer.proofs.Calls.{by_bytes, judged_in}
@@ -11,6 +11,6 @@ returns c = λ tb h z.
     let a = c.args in
     let j = c.judge_loaded-j in
     let p = c.put_judgement in
-    let m : length j.result.missing ≡ answer-words = search rules in
+    let m : length j.result.missing ≡ answer_word_count = search rules in
     by_bytes (λ t. Verdict t a.sheet.now a.out.now p.new.out p.result) tb a.table h z
     (told a.table.numbers a.sheet.now j.new.out j.result (judged_in tb a.table h z (j.ensures tb h)) m j.auto.out a.out.now p.new.out p.result (omega arith) c.columns.result c.columns.ensures p.ensures)

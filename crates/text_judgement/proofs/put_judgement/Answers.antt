@@ -2,7 +2,7 @@
 use borrow.Author.Rules.{rules}
 use Rattle.sheet_format.specs.Table.{table_in}
 use Rattle.text_buffer.proofs.Laws.{said}
-use Rattle.text_judgement.proofs.Calls.{covered, no-log, refused, case}
+use Rattle.text_judgement.proofs.Calls.{covered, no_log, refused, case}
 use Rattle.text_judgement.proofs.put_judgement.Goals as goal
 
 pub returns-then-verdict-eq-COVERED : goal.returns-then-verdict-eq-COVERED
@@ -11,7 +11,7 @@ returns-then-verdict-eq-COVERED c = let a = c.args in
 
 pub returns-then-verdict-eq-NO_LOG : goal.returns-then-verdict-eq-NO_LOG
 returns-then-verdict-eq-NO_LOG c = let a = c.args in
-    said (no-log (table_in a.table.now) a.columns a.j a.facts.now c.if-verdict-eq-NO_LOG.true) c.put-then-verdict-eq-NO_LOG.ensures
+    said (no_log (table_in a.table.now) a.columns a.j a.facts.now c.if-verdict-eq-NO_LOG.true) c.put-then-verdict-eq-NO_LOG.ensures
 
 pub returns-then-verdict-eq-REFUSED : goal.returns-then-verdict-eq-REFUSED
 returns-then-verdict-eq-REFUSED c = let a = c.args in

@@ -4,7 +4,7 @@ use native.Mathlib.Omega.{arith}
 use borrow.Author.Rules.{rules}
 use lib.IntN.{pos}
 use lib.ListN.{length, length-replicate}
-use Rattle.sheet_format.specs.Limits.{most-lines, most-words}
+use Rattle.sheet_format.specs.Limits.{most_lines, most_words}
 use Rattle.text_reader.proofs.Going.{Going, going_start, going_some, going_begins, going_word, end-word, going_fails, going_next, going_ends}
 use Rattle.text_reader.proofs.run.Goals as goal
 
