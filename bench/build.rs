@@ -1,4 +1,4 @@
-//! Links the library's archive where it is there: target/staticlib/libfigdawesa.a at the repository's root, or what FIGDAWESA_LIB names.
+//! Links the library's archive where it is there: crates/figdawesa/out/libfigdawesa.a of the repository, or what FIGDAWESA_LIB names.
 //! What it has decides what is measured: `judges` with figdawesa_judge, `sets` with figdawesa_judge_set, `reads` with figdawesa_read and
 //! figdawesa_write, `evaluates` with figdawesa_evaluate.
 //!
@@ -15,7 +15,7 @@ fn main() {
     }
     println!("cargo:rerun-if-env-changed=FIGDAWESA_LIB");
     let root = PathBuf::from(std::env::var("CARGO_MANIFEST_DIR").unwrap()).join("..");
-    let archive = std::env::var("FIGDAWESA_LIB").map_or(root.join("target/staticlib/libfigdawesa.a"), PathBuf::from);
+    let archive = std::env::var("FIGDAWESA_LIB").map_or(root.join("crates/figdawesa/out/libfigdawesa.a"), PathBuf::from);
     println!("cargo:rerun-if-changed={}", archive.display());
     let Ok(bytes) = std::fs::read(&archive) else { return };
     let has = |name: &str| bytes.windows(name.len()).any(|part| part == name.as_bytes());

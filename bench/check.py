@@ -7,7 +7,7 @@
 Run it at the repository's root, after `cargo build --release --offline` in bench/. It takes COUNT generated sheets (4,000
 unless said), half of them of Worn and Pulse, as many damaged ones, and the stored cases. Verdicts and refusals have to be the
 same with each strategy of the search; each case handed over has to be a case, without facts to spare, in order, with its least
-missing answer. PROGRAM, if given, is a program like target/bin/cover, and is asked beside it.
+missing answer. PROGRAM, if given, is a program like crates/cover/out/cover, and is asked beside it.
 
 With --sheets it takes the files of a folder, as `bench sheets` writes them, COUNT of them in even steps (all unless said), and the best
 strategy alone. The other judge is slow: what it does not judge, or whose case is not looked at, in SECONDS (2 unless said) is counted so.

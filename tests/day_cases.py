@@ -7,7 +7,7 @@ library. Each set is judged by tests/set_cases.py, which was made in the same wa
 
     python3 tests/day_cases.py            writes the part day of stdin and stdout of crates/test_judge; args, data and stdout of crates/day
     python3 tests/day_cases.py --check    only says whether these are what it would write
-    python3 tests/day_cases.py --run      runs the built program `day` (rt check) on files that cannot be taken, and looks at what it says
+    python3 tests/day_cases.py --run      runs the built program `day` (tests/programs.py) on files that cannot be taken, and looks at what it says
 
 Run it at the repository's root. It draws no chance from outside: each run writes the same bytes.
 """
@@ -21,6 +21,7 @@ import stored_parts
 import table_cases
 from cover_cases import LENT_WORDS, NO_ROOM, page
 from evaluate_cases import raised_lines
+from programs import program
 from set_cases import (CLUB_CASE, CLUB_COVERED, CLUB_NO_LOG, CLUB_NO_RELATION, COVERED_ONE, LAST_CASE, MOST_SHEETS, NO_LIST, NO_LOG_ONE, NO_RELATION, ONE_ROWER,
                        OTHER_LENGTH, OUT_OF_RANGE, ROWS_DESCEND, SETTLED, SEVENTH_ATOM, SMALL, TOO_LONG, TWO_RATES, TWO_TICKS, UNCLOSED, UNSAFE, WORKED, WRONG_ENDS,
                        ends_of, judged_alone, judged_set, refused, some_set, some_sheet, some_table, written)
@@ -248,7 +249,7 @@ def program_files():
 
 
 def ran(folder, *names):
-    done = subprocess.run([pathlib.Path("target/bin/day").resolve(), *names], cwd=folder, capture_output=True, check=True)
+    done = subprocess.run([program("day"), *names], cwd=folder, capture_output=True, check=True)
     return done.stdout, done.stderr.decode()
 
 

@@ -7,19 +7,21 @@ The program prints a line when a call has ended, so the time between two lines i
 first call (six atoms that share no variable, 128 facts, 128 answers) is 1: an evaluator that tried all valuations would need 10^12
 turns for it.
 """
-import pathlib
 import subprocess
 import sys
 import time
 
+from programs import CRATES, program
+
+NAME = "test_evaluate_speed"
 RUNS = 3
 
 
-def times(program):
+def times(built):
     """The lines that the program prints, each with the seconds since the one before."""
     found = []
     start = time.perf_counter()
-    with subprocess.Popen([program], stdin=subprocess.DEVNULL, stdout=subprocess.PIPE) as run:
+    with subprocess.Popen([built], stdin=subprocess.DEVNULL, stdout=subprocess.PIPE) as run:
         for line in run.stdout:
             now = time.perf_counter()
             found.append((line.decode().strip(), now - start))
@@ -28,10 +30,8 @@ def times(program):
 
 
 def main():
-    root = pathlib.Path(__file__).resolve().parent.parent
-    subprocess.run(["rt", "check", "test_evaluate_speed"], cwd=root, check=True, stdout=subprocess.DEVNULL)
-    program = root / "target" / "bin" / "test_evaluate_speed"
-    runs = [times(program) for _ in range(RUNS)]
+    subprocess.run(["rt", "run"], cwd=CRATES / NAME, check=True, capture_output=True)
+    runs = [times(program(NAME)) for _ in range(RUNS)]
     least = [min(run[at][1] for run in runs) for at in range(len(runs[0]))]
     for (line, _), seconds in zip(runs[0], least):
         print(f"{seconds / least[0]:10.2f}  {line}")

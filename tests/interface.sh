@@ -7,13 +7,13 @@ cd "$(dirname "$0")/.."
 cc=${CC:-cc}
 flags="-std=c99 -Wall -Wextra -Wpedantic -Werror -O2 -Iinclude"
 made=target/interface
-archive=target/staticlib/libfigdawesa.a
+archive=crates/figdawesa/out/libfigdawesa.a
 export CARGO_TARGET_DIR="$PWD/target/rust"
 
 echo "interface: proving and building $archive; from nothing this takes minutes"
 mkdir -p "$made"
-rt staticlib figdawesa >"$made/staticlib.out" 2>&1 || {
-    cat "$made/staticlib.out"
+(cd crates/figdawesa && rt lib) >"$made/lib.out" 2>&1 || {
+    cat "$made/lib.out"
     exit 1
 }
 

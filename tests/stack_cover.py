@@ -3,7 +3,7 @@
 
     python3 tests/stack_cover.py [NAME..]       all sheets, or those that are named
 
-It runs target/bin/cover, which `rt check cover` writes. Each sheet has 40 rows, of views whose three atoms have all twelve
+It runs the built program `cover` (tests/programs.py). Each sheet has 40 rows, of views whose three atoms have all twelve
 variables, and is judged with less and less stack (what `ulimit -s` sets), down to the least that works. It prints that, in
 KiB, with the made-up values at the start of the search and the processor time of a run (as a multiple of that of the first
 sheet that is run), and fails where more than 256 KiB are needed or the verdict is another than the one that is due.
@@ -25,9 +25,10 @@ import tempfile
 
 import table_cases
 from cover_cases import MADE_UP, NO_LOG, NOT_COVERED, OWN, is_case, law_by, most_general, page, parts_of
+from programs import program
 from sheet_cases import MOST_WORDS, read
 
-PROGRAM = "target/bin/cover"
+PROGRAM = program("cover")
 MOST_KIB = 256
 PAGE_KIB = 4
 TOP_KIB = 1024

@@ -3,22 +3,21 @@
 
 usage: text_cases.py            writes the part text of stdin and stdout of crates/test_judge
        text_cases.py --check    says whether that part is this
-       text_cases.py --run      runs the built programs (rt check) on made-up sheets, and compares them with a writer and a reader of
-                                its own
+       text_cases.py --run      runs the built programs (tests/programs.py) on made-up sheets, and compares them with a writer and a
+                                reader of its own
 
 What is expected was worked out by hand from the description in words, and not taken from the program; a reader of texts of its own, written from
 the same description, has to agree with it. Each log that stands in it is the only one that may be handed over for its sheet. Which values beyond the sheet's a log has is free: --run looks at a few that need some, and
 asks of them only what has to hold (FREE_VALUES).
 """
-import pathlib
 import random
 import re
 import subprocess
 import sys
 
 import stored_parts
+from programs import program
 
-ROOT = pathlib.Path(__file__).resolve().parent.parent
 RELATIONS = "a relation: Rower, Strap, Worn, Sig, Beat, Noise, Pulse, Coach, Seat or Pause"
 CAUSES = {
     1: "the sheet is too long",
@@ -413,7 +412,7 @@ VERDICTS = ("covered", "no log gives these rows", "not covered: ", "refused: ", 
 
 
 def ran(name, data):
-    r = subprocess.run([ROOT / "target" / "bin" / name], input=data, capture_output=True, check=True)
+    r = subprocess.run([program(name)], input=data, capture_output=True, check=True)
     return r.stdout, r.stderr
 
 

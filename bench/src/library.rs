@@ -239,10 +239,10 @@ pub fn run_here(words: &[String]) {
     std::thread::Builder::new().stack_size(STACK).spawn(judged).unwrap().join().unwrap();
 }
 
-/// The program cover: what COVER names, or the one that is built at the repository's root.
+/// The program cover: what COVER names, or the one that is built in its crate's folder.
 pub fn program() -> PathBuf {
     let root = PathBuf::from(env!("CARGO_MANIFEST_DIR")).join("..");
-    std::env::var("COVER").map_or(root.join("target/bin/cover"), PathBuf::from)
+    std::env::var("COVER").map_or(root.join("crates/cover/out/cover"), PathBuf::from)
 }
 
 /// Runs the library on a sheet. Without the linked library the time is that of a process, and `floor` is taken off.

@@ -193,7 +193,7 @@ fn library(sheet: &[u8], facts: &[i32], out: &mut [i32]) -> usize {
 
 #[cfg(not(evaluates))]
 fn library(_: &[u8], _: &[i32], _: &mut [i32]) -> usize {
-    eprintln!("the library is not linked: run `rt staticlib figdawesa` first");
+    eprintln!("the library is not linked: run `rt lib` in crates/figdawesa first");
     std::process::exit(2)
 }
 
