@@ -15,7 +15,7 @@
  *     has a stretch of `out`, of which this holds.)
  *   - Nothing is kept between calls, and nothing is allocated. Threads can call at the same time, each with an `out` (and `page`) of its own.
  *   - Stack: give the thread that calls figdawesa_judge, figdawesa_judge_set, figdawesa_judge_day or figdawesa_answer, or one of these by a table,
- *     256 KiB or more. No proof speaks of the stack; it was measured, under the older toolchain (README.md, "How fast").
+ *     256 KiB or more. No proof speaks of the stack; it is measured.
  */
 #ifndef FIGDAWESA_H
 #define FIGDAWESA_H

@@ -10,7 +10,7 @@ made=target/interface
 archive=crates/figdawesa/out/libfigdawesa.a
 export CARGO_TARGET_DIR="$PWD/target/rust"
 
-echo "interface: proving and building $archive; from nothing this takes minutes"
+echo "interface: proving and building $archive; from nothing this takes about half an hour"
 mkdir -p "$made"
 (cd crates/figdawesa && rt lib) >"$made/lib.out" 2>&1 || {
     cat "$made/lib.out"
