@@ -2,13 +2,14 @@
 #![tactic(auto)]
 
 ghost use Rattle.std.specs.Prelude.{◌≡◌, map, ◌-◌};
+ghost use Rattle.sheet_format.specs.Returns.{ending_of};
 ghost use Rattle.sheet_format.specs.Sheet.{returned};
 ghost use Rattle.c_results.specs.Passed.{returned_of, judgement_of, set_judgement_of, day_judgement_of};
 
 use day_page::DayJudgement;
 use judge_ends::{MOST_SHEETS, SetJudgement};
 use judge_result::Judgement;
-use sheet_format::Ending;
+use sheet_format::Refusal;
 
 // How a call ended: a refusal's number and line, both 0 where nothing is refused, and the count of what was written.
 #[repr(C)]
@@ -57,17 +58,17 @@ pub struct DayOutcome {
 }
 
 // An ending in three numbers.
-pub fn in_numbers(e: Ending) -> Ended
-    ensures { returned_of result ≡ returned e }
+pub fn in_numbers(e: Result<usize, Refusal>) -> Ended
+    ensures { returned_of result ≡ returned (ending_of e) }
 {
     match e {
-        Ending::Done(count) => Ended {
+        Ok(count) => Ended {
             number: 0,
             line: 0,
             count,
         },
-        Ending::Refused(number, line) => Ended {
-            number,
+        Err(Refusal { cause, line }) => Ended {
+            number: cause.number(),
             line,
             count: 0,
         },

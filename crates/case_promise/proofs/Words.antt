@@ -19,7 +19,7 @@ use Rattle.sheet_format.proofs.Lists.{all_index}
 use Rattle.sheet_format.specs.Cause.{above, none}
 use Rattle.sheet_format.specs.Line.{all, is_zero, natural, null}
 use Rattle.sheet_format.specs.Table.{Table, columns_of}
-use Rattle.sheet_format.specs.declared.Refusal.{Refusal}
+use Rattle.sheet_format.specs.Answers.{Refusal}
 use Rattle.query_meaning.specs.Meaning.{Fact, Log, In, fact}
 use Rattle.query_meaning.specs.Facts.{fact_by_fact, facts_in, facts_refusal, is_value, log_of, value_end, wrong_fact, most_facts}
 use Rattle.query_encoding.specs.Encoding as numbers

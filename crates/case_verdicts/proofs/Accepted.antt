@@ -13,10 +13,10 @@ use Rattle.sheet_format.specs.Limits.{constant_end, most_variables}
 use Rattle.sheet_format.specs.Table.{Table, columns_of}
 use Rattle.sheet_format.specs.Line.{Line, all, null, natural}
 use Rattle.sheet_format.specs.Cause.{Kind, question, saved, view, atom, row, other, kind, rest, second, terms, or_out, term_of, is_term, is_constant, term, constant, in_place, misplaced, wrong_columns, out_of_range, too_many_blocks, wrong_length, cause, start, next_by, next, refusal, scan, is_head, is_atom, atoms, same, occurs, bound, unsafe, heads, refusal_of}
-use Rattle.sheet_format.specs.declared.Refusal.{Refusal}
-use Rattle.sheet_format.specs.declared.Seen.{Seen}
-use Rattle.sheet_format.specs.declared.FieldTerm.{FieldTerm}
-use Rattle.sheet_format.specs.declared.FieldTerm.TheVariants.{Constant, Variable, OutOfRange}
+use Rattle.sheet_format.specs.Answers.{Refusal}
+use Rattle.sheet_format.specs.Answers.{Seen}
+use Rattle.sheet_format.specs.Answers.{FieldTerm}
+use Rattle.sheet_format.specs.Answers.FieldTerm.{Constant, Variable, OutOfRange}
 use Rattle.sheet_format.proofs.Lists.{no_way, passed}
 use Rattle.sheet_format.proofs.ScanLaws.{accepted-scan}
 use Rattle.query_meaning.specs.Meaning.{var, Block, In}

@@ -50,8 +50,7 @@ fn cover(rt: &impl Print, table: &[u8], sheet: &[u8]) -> io::Result<()> {
     let missing = j.missing;
     print_count(rt, count)?;
     print_missing(rt, &missing, columns(sheet))?;
-    let loaded = sheet_table::load(table);
-    let numbers = loaded.numbers;
+    let numbers = sheet_table::load(table).unwrap_or([0; TABLE_NUMBERS]);
     print_facts(rt, &numbers, &facts, count)
 }
 

@@ -12,7 +12,7 @@ ghost use Rattle.day_page.specs.Refusal.{refusal_of_day};
 
 use judge_ends::{MOST_SHEETS, SetJudgement};
 use judge_result::{COVERED, Judgement, NO_LOG, NOT_COVERED, REFUSED};
-use sheet_format::NO_ROOM;
+use sheet_format::Cause;
 use text_buffer::{put, put_byte};
 
 // The set's judgement, and how many bytes its page has; none where the set is sent back.
@@ -135,7 +135,7 @@ pub fn day_refusal(bytes: &[u8], ends: &[usize], out: &[i32], page: &[u8]) -> us
         return number;
     }
     if page.len() < PAGE_ROOM {
-        return NO_ROOM;
+        return Cause::NoRoom.number();
     }
     0
 }

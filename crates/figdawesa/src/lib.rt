@@ -5,7 +5,7 @@ ghost use Rattle.std.specs.Prelude.{◌≡◌, ◌+◌, ◌≤◌, length, take,
 ghost use Rattle.sheet_format.specs.Table.{ten};
 ghost use Rattle.sheet_format.specs.Line.{line_at};
 ghost use Rattle.sheet_format.specs.Sheet.{returned, read_ending, read_words, write_ending, write_bytes};
-ghost use Rattle.sheet_format.specs.declared.Ending.{Ending};
+ghost use Rattle.sheet_format.specs.Answers.{Ending};
 ghost use Rattle.sheet.specs.ByTable.{read_ending_by, read_words_by, write_ending_by, write_bytes_by, own_ending, own_lent};
 ghost use Rattle.query_meaning.specs.Evaluate.{Evaluated};
 ghost use Rattle.evaluate.specs.ByTable.{EvaluatedBy};

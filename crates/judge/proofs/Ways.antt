@@ -14,9 +14,9 @@ use Rattle.sheet_format.specs.Table.{Table, Sound, ten, table_in}
 use Rattle.sheet_format.specs.Line.{Line, byte_lines}
 use Rattle.sheet_format.specs.Cause.{refusal, refusal_of}
 use Rattle.sheet_format.specs.Sheet.{sheet_refusal, read_ending}
-use Rattle.sheet_format.specs.declared.Refusal.{Refusal}
-use Rattle.sheet_format.specs.declared.Ending.{Ending}
-use Rattle.sheet_format.specs.declared.Ending.TheVariants.{Done, Refused}
+use Rattle.sheet_format.specs.Answers.{Refusal}
+use Rattle.sheet_format.specs.Answers.{Ending}
+use Rattle.sheet_format.specs.Answers.Ending.{Done, Refused}
 use Rattle.query_meaning.specs.Blocks.{nowhere, all_blocks, block_at}
 use Rattle.query_encoding.specs.Encoding.{Shaped, has_block}
 use Rattle.query_encoding.proofs.Lists.{in-at}
@@ -24,7 +24,7 @@ use Rattle.query_blocks.proofs.Shape.{accepted-shaped}
 use Rattle.sheet.proofs.Calls.{refused-by, clean-sheet}
 use Rattle.sheet_table.specs.Tables.{table_refusal}
 use Rattle.sheet_table.specs.Loads.{Loads}
-use Rattle.sheet_table.specs.declared.Loaded.{Loaded}
+use Rattle.sheet_table.specs.Loads.{Loaded}
 use Rattle.sheet_table.proofs.Sound.{table-sound}
 use Rattle.sheet_own_table.specs.Own.{own_bytes}
 use Rattle.sheet_own_table.proofs.Means.{own-passes, own_means}

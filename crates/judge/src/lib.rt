@@ -9,11 +9,11 @@ ghost use Rattle.case_verdicts.specs.Verdict.{Sheet};
 ghost use Rattle.case_verdicts.specs.Sheets.{sheet_of};
 ghost use Rattle.search_task.specs.Task.{ReadyPlan};
 ghost use Rattle.judge_result.specs.Judged.{Decided, Judged, JudgedBy, least_room};
-ghost use Rattle.sheet_table.specs.Loads.{Loads};
+ghost use Rattle.sheet_table.specs.Loads.{Loads, loaded_of};
 
 use judge_result::{COVERED, Judgement, LEAST_ROOM, NO_LOG, NOT_COVERED, REFUSED, plain};
 use search_task::Goal;
-use sheet_format::{Ending, LINE_WORDS, MOST_WORDS, NO_ROOM, TABLE_NUMBERS};
+use sheet_format::{Cause, LINE_WORDS, MOST_WORDS, TABLE_NUMBERS};
 use sheet_table::Loaded;
 use tableau_layout::{PLAN_NUMBERS, SLOTS};
 
@@ -46,7 +46,7 @@ fn judge_words(table: &[usize; TABLE_NUMBERS], ws: &[i32], out: &mut [i32]) -> J
     ensures { Sound (table_in table.now) → Decided (sheet_of (table_in table.now) (word_lines ws.now)) out.old out.new result }
 {
     if out.len() < LEAST_ROOM {
-        return plain(REFUSED, NO_ROOM, 0);
+        return plain(REFUSED, Cause::NoRoom.number(), 0);
     }
     let mut p = [0usize; PLAN_NUMBERS];
     tableau_plan::plan(table, ws, &mut p);
@@ -59,20 +59,19 @@ fn judge_numbers(table: &[usize; TABLE_NUMBERS], sheet: &[u8], out: &mut [i32]) 
 {
     let mut ws = [0i32; MOST_WORDS];
     match sheet_reader::read(table, sheet, &mut ws) {
-        Ending::Refused(number, line) => plain(REFUSED, number, line),
-        Ending::Done(lines) => judge_words(table, &ws[..lines * LINE_WORDS], out),
+        Err(refusal) => plain(REFUSED, refusal.cause.number(), refusal.line),
+        Ok(lines) => judge_words(table, &ws[..lines * LINE_WORDS], out),
     }
 }
 
 // Judges a sheet by a table that was loaded before.
 pub fn judge_loaded(table: Loaded, sheet: &[u8], out: &mut [i32]) -> Judgement
-    ensures { (tb : List ℕ) → Loads tb table → JudgedBy tb sheet.now out.old out.new result }
+    ensures { (tb : List ℕ) → Loads tb (loaded_of table) → JudgedBy tb sheet.now out.old out.new result }
 {
-    if table.number != 0 {
-        return plain(REFUSED, table.number, table.line);
+    match table {
+        Err(refusal) => plain(REFUSED, refusal.cause.number(), refusal.line),
+        Ok(numbers) => judge_numbers(&numbers, sheet, out),
     }
-    let numbers = table.numbers;
-    judge_numbers(&numbers, sheet, out)
 }
 
 // Judges a sheet by the library's own table.

@@ -14,8 +14,8 @@ use Rattle.sheet_format.specs.Table.{Relation, Table}
 use Rattle.sheet_format.specs.Line.{Line, byte_lines, null}
 use Rattle.sheet_format.specs.Cause.{cause, misplaced, wrong_columns, out_of_range, too_many_blocks, wrong_length, not_above, kind, next, start, refusal, none, missing, scan, heads, atoms, unsafe, refusal_of}
 use Rattle.sheet_format.specs.Sheet.{over, sheet_refusal}
-use Rattle.sheet_format.specs.declared.Refusal.{Refusal}
-use Rattle.sheet_format.specs.declared.Seen.{Seen}
+use Rattle.sheet_format.specs.Answers.{Refusal}
+use Rattle.sheet_format.specs.Answers.{Seen}
 use Rattle.text_buffer.specs.Puts.{Put}
 use Rattle.text_buffer.proofs.Laws.{reached-all, placed-all}
 use Rattle.sheet_table.specs.Tables.{relation_on_line, line_right, lines_refusal, table_refusal, table_of}

@@ -3,7 +3,7 @@
 
 ghost use Rattle.std.specs.Prelude.{◌≡◌, List, ℕ};
 ghost use Rattle.sheet_format.specs.Table.{ten};
-ghost use Rattle.sheet_table.specs.Loads.{Loads};
+ghost use Rattle.sheet_table.specs.Loads.{Loads, loaded_of};
 ghost use Rattle.judge_result.specs.Judged.{Judged, JudgedBy};
 ghost use Rattle.judge_ends.specs.Sets.{SetJudged};
 ghost use Rattle.judge_day.specs.Days.{set_sent, DayJudged};
@@ -21,7 +21,7 @@ fn judge_unless(
     out: &mut [i32],
 ) -> SetJudgement
     ensures out_unchanged { (number ≡ 0 → ⊥) → (out.new ≡ out.old) × (result ≡ set_sent number) }
-    ensures set_judged { number ≡ 0 → (tb : List ℕ) → Loads tb table → SetJudged (JudgedBy tb) bytes.now ends.now out.old out.new result }
+    ensures set_judged { number ≡ 0 → (tb : List ℕ) → Loads tb (loaded_of table) → SetJudged (JudgedBy tb) bytes.now ends.now out.old out.new result }
 {
     if number != 0 {
         return judge_ends::sent(number);
@@ -37,8 +37,8 @@ fn judge_day_loaded(
     out: &mut [i32],
     page: &mut [u8],
 ) -> DayJudgement
-    requires { (tb : List ℕ) × Loads tb table }
-    ensures { (tb : List ℕ) → Loads tb table → DayJudged (JudgedBy tb) bytes.now ends.now out.old out.new page.old page.new result }
+    requires { (tb : List ℕ) × Loads tb (loaded_of table) }
+    ensures { (tb : List ℕ) → Loads tb (loaded_of table) → DayJudged (JudgedBy tb) bytes.now ends.now out.old out.new page.old page.new result }
 {
     let number = day_page::day_refusal(bytes, ends, out, page);
     let set = judge_unless(number, table, bytes, ends, out);

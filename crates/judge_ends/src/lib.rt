@@ -6,13 +6,10 @@ ghost use Rattle.judge_result.specs.Judged.{least_room};
 ghost use Rattle.judge_ends.specs.Sets.{most_sheets, start_of, ends_fall_back, has_wrong_ends, refusal_of_set, unjudged, set_judgement};
 
 use judge_result::{Judgement, LEAST_ROOM, REFUSED};
-use sheet_format::NO_ROOM;
+use sheet_format::Cause;
 
 // A set has so many sheets at most.
 pub const MOST_SHEETS: usize = 16;
-
-// The cause for sending a set back by its ends.
-pub const WRONG_ENDS: usize = 14;
 
 // A set that is sent back: its number and line. Otherwise both are 0, the count is that of the sheets, and their judgements stand first.
 #[derive(Clone, Copy)]
@@ -78,10 +75,10 @@ pub fn set_refusal(bytes: &[u8], ends: &[usize], out: &[i32]) -> usize
     let wrong = wrong_ends(bytes.len(), ends);
     let short = too_short(out.len(), ends.len());
     if wrong {
-        return WRONG_ENDS;
+        return Cause::WrongEnds.number();
     }
     if short {
-        return NO_ROOM;
+        return Cause::NoRoom.number();
     }
     0
 }

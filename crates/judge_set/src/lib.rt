@@ -4,7 +4,7 @@
 
 ghost use Rattle.std.specs.Prelude.{List, ℕ, ◌<◌, length};
 ghost use Rattle.sheet_format.specs.Table.{ten};
-ghost use Rattle.sheet_table.specs.Loads.{Loads};
+ghost use Rattle.sheet_table.specs.Loads.{Loads, loaded_of};
 ghost use Rattle.judge_result.specs.Judged.{Judged, JudgedBy};
 ghost use Rattle.judge_ends.specs.Sets.{JudgedTo, SetJudged};
 ghost use Rattle.judge_ends.specs.Places.{Parted, JudgedAt};
@@ -25,7 +25,7 @@ fn judge_place(
 ) -> Judgement
     requires parted { Parted bytes.now ends.now (length out.old) }
     requires place_in_bounds { place < length ends.now }
-    ensures { (tb : List ℕ) → Loads tb table → JudgedAt (JudgedBy tb) place bytes.now ends.now out.old out.new result }
+    ensures { (tb : List ℕ) → Loads tb (loaded_of table) → JudgedAt (JudgedBy tb) place bytes.now ends.now out.old out.new result }
 {
     let start = start_of(ends, place);
     let end = ends[place];
@@ -45,7 +45,7 @@ fn judge_places(
     out: &mut [i32],
 ) -> [Judgement; MOST_SHEETS]
     requires { Parted bytes.now ends.now (length out.old) }
-    ensures { (tb : List ℕ) → Loads tb table → JudgedTo (JudgedBy tb) (length ends.now) bytes.now ends.now out.old out.new result }
+    ensures { (tb : List ℕ) → Loads tb (loaded_of table) → JudgedTo (JudgedBy tb) (length ends.now) bytes.now ends.now out.old out.new result }
 {
     let mut sheets = none_judged(0);
     let mut next = 0;
@@ -65,7 +65,7 @@ pub fn judge_set_loaded(
     ends: &[usize],
     out: &mut [i32],
 ) -> SetJudgement
-    ensures { (tb : List ℕ) → Loads tb table → SetJudged (JudgedBy tb) bytes.now ends.now out.old out.new result }
+    ensures { (tb : List ℕ) → Loads tb (loaded_of table) → SetJudged (JudgedBy tb) bytes.now ends.now out.old out.new result }
 {
     let number = set_refusal(bytes, ends, out);
     if number != 0 {

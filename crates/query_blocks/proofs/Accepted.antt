@@ -11,8 +11,8 @@ use borrow.Author.Tests.{eqb-true, eqb-false, leb-true, leb-false, not-false}
 use Rattle.sheet_format.specs.Table.{Table, relation, columns_of}
 use Rattle.sheet_format.specs.Line.{Line, all}
 use Rattle.sheet_format.specs.Cause.{Kind, question, saved, view, atom, row, other, kind, rest, second, terms, term, possible, wrong_columns, out_of_range, too_many_blocks, atoms_of, cause, start, next_by, next, refusal, scan, is_head, is_atom, atoms, unsafe, heads, refusal_of}
-use Rattle.sheet_format.specs.declared.Refusal.{Refusal}
-use Rattle.sheet_format.specs.declared.Seen.{Seen}
+use Rattle.sheet_format.specs.Answers.{Refusal}
+use Rattle.sheet_format.specs.Answers.{Seen}
 use Rattle.sheet_format.proofs.Lists.{no_way, both}
 pub use Rattle.sheet_format.proofs.Lists.{neither}
 use Rattle.sheet_format.proofs.ScanLaws.{accepted-scan, clean_line}

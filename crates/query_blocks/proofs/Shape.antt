@@ -14,8 +14,8 @@ use Rattle.sheet_format.specs.Limits.{constant_end, most_atoms}
 use Rattle.sheet_format.specs.Table.{Table, columns_of}
 use Rattle.sheet_format.specs.Line.{Line, all, null, natural}
 use Rattle.sheet_format.specs.Cause.{kind, rest, second, terms, term, is_term, or_out, term_of, scan, start, next, is_head, atoms, same, occurs, bound, unsafe, heads, refusal_of}
-use Rattle.sheet_format.specs.declared.Seen.{Seen}
-use Rattle.sheet_format.specs.declared.FieldTerm.TheVariants.{Constant, Variable}
+use Rattle.sheet_format.specs.Answers.{Seen}
+use Rattle.sheet_format.specs.Answers.FieldTerm.{Constant, Variable}
 use Rattle.sheet_format.proofs.Lists.{no_way, both, neither}
 use Rattle.sheet_format.proofs.ScanLaws.{accepted-scan, Clean}
 use Rattle.query_meaning.specs.Meaning.{con, var, Atom, Block, In}

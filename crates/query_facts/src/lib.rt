@@ -3,6 +3,7 @@
 
 ghost use Rattle.std.specs.Prelude.{◌≡◌, ◌||◌, [], ◌+◌, ◌/◌, ◌≤◌, ◌<◌, length, get_or, take};
 ghost use Rattle.std.proofs.Math.Seq.{slice};
+ghost use Rattle.sheet_format.specs.Returns.{refusal_in};
 ghost use Rattle.sheet_format.specs.Table.{Table, table_in};
 ghost use Rattle.sheet_format.specs.Cause.{above};
 ghost use Rattle.sheet_format.specs.Line.{all, natural, null};
@@ -11,17 +12,12 @@ ghost use Rattle.query_encoding.specs.Encoding.{FactNumbers};
 ghost use Rattle.query_facts.specs.Parts.{fact_before, in_range};
 
 use query_meaning::{FACT_WORDS, MOST_FACTS, VALUE_END};
-use sheet_format::Refusal;
+use sheet_format::{Cause, Refusal};
 
 const MOST_FACT_WORDS: usize = MOST_FACTS * FACT_WORDS;
 
 // An unused word is 0.
 const UNUSED_END: i32 = 1;
-
-// The causes for sending back: a wrong word count, relation, value or unused word; too many facts, or a fact not above the one before it.
-pub const BAD_FACT: usize = 11;
-
-pub const FACT_ORDER: usize = 12;
 
 // The words from one place up to another are 0 or more, and below an end.
 fn all_in_range(fs: &[i32], from: usize, to: usize, end: i32) -> bool
@@ -93,44 +89,44 @@ fn in_order(fs: &[i32], i: usize) -> bool
 }
 
 // The refusal of the first fact that has a cause.
-fn by_facts(table: &[usize], fs: &[i32]) -> Refusal
-    ensures { result ≡ fact_by_fact (table_in table.now) [] (facts_in fs.now) }
+fn by_facts(table: &[usize], fs: &[i32]) -> Result<(), Refusal>
+    ensures { refusal_in result ≡ fact_by_fact (table_in table.now) [] (facts_in fs.now) }
 {
     let n = fs.len() / FACT_WORDS;
     let mut i = 0;
     while i < n {
         if is_wrong(table, fs, i) {
-            return Refusal {
-                number: BAD_FACT,
+            return Err(Refusal {
+                cause: Cause::BadFact,
                 line: 0,
-            };
+            });
         }
         if !in_order(fs, i) {
-            return Refusal {
-                number: FACT_ORDER,
+            return Err(Refusal {
+                cause: Cause::FactOrder,
                 line: 0,
-            };
+            });
         }
         i += 1;
     }
-    Refusal { number: 0, line: 0 }
+    Ok(())
 }
 
-// Why facts are sent back, by a table of relations: the word count, then fact by fact.
-pub fn refusal(table: &[usize], fs: &[i32]) -> Refusal
-    ensures { result ≡ facts_refusal (table_in table.now) fs.now }
+/// Why facts are sent back, by a table of relations: the word count, then fact by fact.
+pub fn refusal(table: &[usize], fs: &[i32]) -> Result<(), Refusal>
+    ensures { refusal_in result ≡ facts_refusal (table_in table.now) fs.now }
 {
     if fs.len() % FACT_WORDS != 0 {
-        return Refusal {
-            number: BAD_FACT,
+        return Err(Refusal {
+            cause: Cause::BadFact,
             line: 0,
-        };
+        });
     }
     if MOST_FACT_WORDS < fs.len() {
-        return Refusal {
-            number: FACT_ORDER,
+        return Err(Refusal {
+            cause: Cause::FactOrder,
             line: 0,
-        };
+        });
     }
     by_facts(table, fs)
 }

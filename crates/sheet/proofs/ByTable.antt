@@ -7,11 +7,11 @@ use lib.IntN.{ℤ}
 use lib.ListN.{length}
 use Rattle.sheet_format.specs.Table.{Table, ten, table_in}
 use Rattle.sheet_format.specs.Sheet.{returned, read_ending, read_returned, read_words, write_ending, write_returned, write_bytes}
-use Rattle.sheet_format.specs.declared.Ending.{Ending}
-use Rattle.sheet_format.specs.declared.Ending.TheVariants.{Refused}
+use Rattle.sheet_format.specs.Answers.{Ending}
+use Rattle.sheet_format.specs.Answers.Ending.{Refused}
 use Rattle.sheet_table.specs.Tables.{table_refusal, table_of}
 use Rattle.sheet_table.specs.Loads.{Loads}
-use Rattle.sheet_table.specs.declared.Loaded.{Loaded}
+use Rattle.sheet_table.specs.Loads.{Loaded}
 use Rattle.sheet_own_table.specs.Own.{own_bytes}
 use Rattle.sheet_own_table.proofs.Means.{own-passes, own_means}
 use Rattle.sheet.specs.ByTable.{if_refused, table_refused, table_returned, read_ending_by, read_returned_by, read_words_by, write_ending_by, write_returned_by, write_bytes_by}

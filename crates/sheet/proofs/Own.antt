@@ -6,7 +6,7 @@ use borrow.Author.Tests.{lt-ltb, le-ltb}
 use lib.ListN.{length}
 use Rattle.sheet_format.specs.Cause.{none}
 use Rattle.sheet_format.specs.Sheet.{returned}
-use Rattle.sheet_format.specs.declared.Ending.TheVariants.{Done, Refused}
+use Rattle.sheet_format.specs.Answers.Ending.{Done, Refused}
 use Rattle.sheet_format.proofs.Endings.{short-way, done-way}
 use Rattle.list_laws.specs.Wrote.{Wrote}
 use Rattle.list_laws.proofs.Laws.{wrote-over}

@@ -2,8 +2,8 @@
 use Rattle.std.specs.Prelude.{cond, List, ℕ, eqb, ℤ, length}
 use Rattle.sheet_format.specs.Cause.{none}
 use Rattle.sheet_format.specs.Sheet.{Returned, refused_by, answered, ending, lent_by, read_ending, read_returned, read_words, write_ending, write_returned, write_bytes}
-use Rattle.sheet_format.specs.declared.Ending.{Ending}
-use Rattle.sheet_format.specs.declared.Ending.TheVariants.{Refused}
+use Rattle.sheet_format.specs.Answers.{Ending}
+use Rattle.sheet_format.specs.Answers.Ending.{Refused}
 use Rattle.sheet_table.specs.Tables.{table_refusal, table_of}
 use Rattle.sheet_own_table.specs.Own.{own_bytes}
 

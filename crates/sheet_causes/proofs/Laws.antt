@@ -21,9 +21,9 @@ use Rattle.list_laws.proofs.Lists.{drop-next}
 use Rattle.sheet_format.specs.Line.{Line, all, null, word_line}
 use Rattle.sheet_format.specs.Table.{Table}
 use Rattle.sheet_format.specs.Cause.{kind_of, kind, rest, terms, is_head, is_atom, atoms, same, occurs, bound, unsafe, refusal, none, heads, cause, next, step_of, or_at, missing, start, scan, refusal_of}
-use Rattle.sheet_format.specs.declared.Refusal.{Refusal}
-use Rattle.sheet_format.specs.declared.Seen.{Seen}
-use Rattle.sheet_format.specs.declared.LineStep.TheVariants.{Goes, Stops}
+use Rattle.sheet_format.specs.Answers.{Refusal}
+use Rattle.sheet_format.specs.Answers.{Seen}
+use Rattle.sheet_format.specs.Answers.LineStep.{Goes, Stops}
 use Rattle.sheet_causes.specs.Formed.{FormedLines}
 
 -- ---- the lines of a number form

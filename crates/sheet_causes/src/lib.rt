@@ -1,14 +1,15 @@
 // Why the lines of a number form are sent back, by a table of relations: the first cause among the lines or at the end, and then cause 8 by heads.
 #![tactic(auto)]
 
-ghost use Rattle.std.specs.Prelude.{◌≡◌, false, not, [], ◌+◌, ◌/◌, ◌≤◌, ◌<◌, length, get_or, drop};
+ghost use Rattle.std.specs.Prelude.{◌≡◌, false, not, [], ◌+◌, ◌/◌, ◌≤◌, ◌<◌, ltb, length, get_or, drop};
 ghost use Rattle.sheet_format.specs.Limits.{line_word_count};
 ghost use Rattle.sheet_format.specs.Line.{all, null, word_line, word_lines};
+ghost use Rattle.sheet_format.specs.Returns.{refusal_in, seen_of};
 ghost use Rattle.sheet_format.specs.Table.{table_in};
 ghost use Rattle.sheet_format.specs.Cause.{kind, rest, terms, is_head, is_atom, atoms, occurs, bound, unsafe, heads, start, scan, refusal_of};
 ghost use Rattle.sheet_causes.specs.Formed.{FormedLines};
 
-use sheet_format::{LINE_WORDS, LineStep, MISPLACED, Refusal, SAVED_KIND, Seen, UNSAFE_HEAD};
+use sheet_format::{Cause, Kind, LINE_WORDS, Refusal, Seen};
 
 // The words of line i, counted from 0.
 fn line_at(ws: &[i32], i: usize) -> [i32; LINE_WORDS]
@@ -145,74 +146,57 @@ fn is_unsafe(ws: &[i32], i: usize) -> bool
 }
 
 // The refusal of the first unsafe head.
-fn by_heads(ws: &[i32]) -> Refusal
+fn by_heads(ws: &[i32]) -> Result<(), Refusal>
     requires { FormedLines (word_lines ws.now) }
-    ensures { result ≡ heads 1 (word_lines ws.now) }
+    ensures { refusal_in result ≡ heads 1 (word_lines ws.now) }
 {
     let n = ws.len() / LINE_WORDS;
-    let mut i = 0;
-    while i < n {
+    for i in 0..n {
         if is_unsafe(ws, i) {
-            return Refusal {
-                number: UNSAFE_HEAD,
+            return Err(Refusal {
+                cause: Cause::UnsafeHead,
                 line: i + 1,
-            };
+            });
         }
-        i += 1;
     }
-    Refusal { number: 0, line: 0 }
+    Ok(())
+}
+
+// Whether the question or every list is missing, where no line follows.
+fn lacks_lists(g: Seen) -> bool
+    ensures { result ≡ ltb (seen_of g).block 2 }
+{
+    matches!(g.block, None | Some(Kind::Question))
 }
 
 // The refusal of the first line that has a cause, or of a block that is missing.
-fn by_lines(table: &[usize], ws: &[i32]) -> Refusal
-    ensures { result ≡ scan (table_in table.now) start [] 1 (word_lines ws.now) }
+fn by_lines(table: &[usize], ws: &[i32]) -> Result<(), Refusal>
+    ensures { refusal_in result ≡ scan (table_in table.now) start [] 1 (word_lines ws.now) }
 {
     let n = ws.len() / LINE_WORDS;
-    let mut g = Seen {
-        block: 0,
-        last: 0,
-        atoms: 0,
-        lists: 0,
-        views: 0,
-        rows: 0,
-        asked: 0,
-        columns: 0,
-    };
+    let mut g = Seen::default();
     let mut before = [0; LINE_WORDS];
-    let mut i = 0;
-    while i < n {
+    for i in 0..n {
         let l = line_at(ws, i);
-        let s = sheet_line_causes::step(table, g, &before, &l);
-        match s {
-            LineStep::Goes(next) => {
-                g = next;
-            }
-            LineStep::Stops(c) => {
-                return Refusal {
-                    number: c,
-                    line: i + 1,
-                };
-            }
+        match sheet_line_causes::step(table, g, &before, &l) {
+            Ok(next) => g = next,
+            Err(cause) => return Err(Refusal { cause, line: i + 1 }),
         }
         before = l;
-        i += 1;
     }
-    if g.block < SAVED_KIND {
-        return Refusal {
-            number: MISPLACED,
+    if lacks_lists(g) {
+        return Err(Refusal {
+            cause: Cause::Misplaced,
             line: 0,
-        };
+        });
     }
-    Refusal { number: 0, line: 0 }
+    Ok(())
 }
 
-// Why the lines of a number form are sent back, seven words a line.
-pub fn refusal(table: &[usize], ws: &[i32]) -> Refusal
-    ensures { result ≡ refusal_of (table_in table.now) (word_lines ws.now) }
+/// Why the lines of a number form are sent back, seven words a line.
+pub fn refusal(table: &[usize], ws: &[i32]) -> Result<(), Refusal>
+    ensures { refusal_in result ≡ refusal_of (table_in table.now) (word_lines ws.now) }
 {
-    let r = by_lines(table, ws);
-    if r.number == 0 {
-        return by_heads(ws);
-    }
-    r
+    by_lines(table, ws)?;
+    by_heads(ws)
 }

@@ -20,7 +20,7 @@ use Rattle.sheet_format.proofs.Lists.{no_way}
 use Rattle.sheet_format.specs.Field.{digit, byte, run, minus, field_of, field_at, lead, decimal, field_bytes}
 use Rattle.sheet_format.specs.declared.Digits.{Digits}
 use Rattle.sheet_format.specs.declared.Digits.TheVariants.{Blank, Minus, Run, Broken}
-use Rattle.sheet_format.specs.declared.Field.TheVariants.{Malformed}
+use Rattle.sheet_format.specs.Answers.Field.{Malformed}
 use Rattle.sheet_fields.specs.Below.{DigitsBelow}
 
 -- ---- reading: the rest of the eight bytes, from i on

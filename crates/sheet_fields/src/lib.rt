@@ -4,10 +4,11 @@
 ghost use Rattle.std.specs.Prelude.{◌≡◌, ◌++◌, ℕ, ◌+◌, ◌≤◌, ◌<◌, nat_abs, length, take, drop, replicate};
 ghost use Rattle.sheet_format.specs.Limits.{field_end};
 ghost use Rattle.sheet_format.specs.Field.{digit, byte, run, signed, told, field_at, lead, decimal, field_bytes};
+ghost use Rattle.sheet_format.specs.Returns.{field_in};
 ghost use Rattle.sheet_format.specs.declared.Digits.TheVariants.{Blank};
 ghost use Rattle.sheet_fields.specs.Below.{DigitsBelow};
 
-use sheet_format::{Digits, Field};
+use sheet_format::Digits;
 
 // A number and one digit more.
 fn digit(neg: bool, v: usize, b: u8) -> Digits
@@ -80,27 +81,22 @@ fn signed(neg: bool, v: usize) -> i32
 }
 
 // What the bytes came to.
-fn told(d: Digits) -> Field
+fn told(d: Digits) -> Option<i32>
     requires { DigitsBelow field_end d }
-    ensures { result ≡ told d }
+    ensures { field_in result ≡ told d }
 {
-    match d {
-        Digits::Run(neg, v) => Field::Number(signed(neg, v)),
-        Digits::Blank => Field::Malformed,
-        Digits::Minus => Field::Malformed,
-        Digits::Broken => Field::Malformed,
-    }
+    let Digits::Run(neg, v) = d else {
+        return None;
+    };
+    Some(signed(neg, v))
 }
 
-// The field at a place of a sheet's bytes; malformed where fewer than eight bytes are left.
-pub fn field(s: &[u8], at: usize) -> Field
-    ensures { result ≡ field_at s.now at }
+/// The field at a place of a sheet's bytes; none where it is malformed, or fewer than eight bytes are left.
+pub fn field(s: &[u8], at: usize) -> Option<i32>
+    ensures { field_in result ≡ field_at s.now at }
 {
-    if s.len() < 8 {
-        return Field::Malformed;
-    }
-    if s.len() - 8 < at {
-        return Field::Malformed;
+    if s.len() < 8 || s.len() - 8 < at {
+        return None;
     }
     told(run(s, at))
 }

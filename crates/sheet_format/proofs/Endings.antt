@@ -4,9 +4,13 @@ use mathlib.Core.List.{List}
 use Prim.Native.Nat.{ℕ, ◌<◌, ◌≤◌}
 use borrow.Author.Tests.{lt-ltb, eq-eqb, ne_eqb}
 use lib.ListN.{length}
+use native.Mathlib.Omega.{arith}
+use Rattle.sheet_format.specs.declared.Cause.{Cause}
+use Rattle.sheet_format.specs.declared.Cause.TheVariants.{TooLong, Malformed, Misplaced, WrongColumns, OutOfRange, TooMany, WrongLength, UnsafeHead, NotAbove, NoBlock, BadFact, FactOrder, NoRoom, WrongEnds, WrongTable}
+use Rattle.sheet_format.specs.Returns.{cause_number}
 use Rattle.sheet_format.specs.Sheet.{ending, over, lent_by}
-use Rattle.sheet_format.specs.declared.Refusal.{Refusal}
-use Rattle.sheet_format.specs.declared.Ending.TheVariants.{Done, Refused}
+use Rattle.sheet_format.specs.Answers.{Refusal}
+use Rattle.sheet_format.specs.Answers.Ending.{Done, Refused}
 use Rattle.sheet_format.proofs.RoundTrip.{ending-is}
 
 ending-refused : (r : Refusal) (room wanted n : ℕ) → (r.number ≡ 0 → ⊥) → ending r room wanted n ≡ Refused r.number r.line
@@ -28,3 +32,21 @@ module _ {A : Type 0} (r : Refusal) (wanted n : ℕ) (new out : List A) where
   pub done-way : (after : List A) (m : ℕ) → r.number ≡ 0 → wanted ≤ length out → m ≡ n → after ≡ over new out
       → (Done m ≡ ending r (length out) wanted n) × (after ≡ lent_by (ending r (length out) wanted n) new out)
   done-way after m z le e a = let f = ending-is r (length out) wanted n z le in (ap Done e ∙ sym f, a ∙ sym (ap (λ x. lent_by x new out) f))
+
+-- a cause has a number
+pub named : (c : Cause) → cause_number c ≡ 0 → ⊥
+named TooLong e = omega arith
+named Malformed e = omega arith
+named Misplaced e = omega arith
+named WrongColumns e = omega arith
+named OutOfRange e = omega arith
+named TooMany e = omega arith
+named WrongLength e = omega arith
+named UnsafeHead e = omega arith
+named NotAbove e = omega arith
+named NoBlock e = omega arith
+named BadFact e = omega arith
+named FactOrder e = omega arith
+named NoRoom e = omega arith
+named WrongEnds e = omega arith
+named WrongTable e = omega arith

@@ -15,7 +15,7 @@ use Rattle.sheet_format.specs.Field.{digit, byte, run, told, field_of, lead, dec
 use Rattle.sheet_format.specs.Line.{all}
 use Rattle.sheet_format.specs.declared.Digits.{Digits}
 use Rattle.sheet_format.specs.declared.Digits.TheVariants.{Blank, Minus, Run, Broken}
-use Rattle.sheet_format.specs.declared.Field.TheVariants.{Number, Malformed}
+use Rattle.sheet_format.specs.Answers.Field.{Number, Malformed}
 
 -- ---- columns
 

@@ -12,8 +12,8 @@ use lib.Seq.{take-append_seam, drop-append_seam, take_at, drop_at}
 use Rattle.sheet_format.specs.Limits.{field_byte_count, most_fields, line_word_count}
 use Rattle.sheet_format.specs.Field.{field_of, field_bytes, fits}
 use Rattle.sheet_format.specs.Line.{Line, all, gather, null, closed_from, closed, open_from, eights, is_number, number, fields_in, is_well_formed, line_of, byte_lines, line_bytes, bytes_of, natural, is_zero, count, well_formed_words, word_line, sevens, word_lines, line_words, words_of}
-use Rattle.sheet_format.specs.declared.Field.{Field}
-use Rattle.sheet_format.specs.declared.Field.TheVariants.{Number, Malformed}
+use Rattle.sheet_format.specs.Answers.{Field}
+use Rattle.sheet_format.specs.Answers.Field.{Number, Malformed}
 use Rattle.sheet_format.proofs.Lists.{no_way, and_left, and_right, and_both, all_append, all_replicate, append-nil}
 use Rattle.sheet_format.proofs.Good.{FittingLine, Goods, LinesNonempty, nil_good, formed-head, formed_tail}
 use Rattle.sheet_format.proofs.FieldLaws.{field-length, field_back, field-shown, field_fits, field_open}

@@ -10,9 +10,9 @@ use Rattle.sheet_format.specs.Limits.{most_words, most_bytes}
 use Rattle.sheet_format.specs.Table.{Table}
 use Rattle.sheet_format.specs.Line.{byte_lines, bytes_of, word_lines}
 use Rattle.sheet_format.specs.Sheet.{returned, refused_by, done_with, answered, ending, sheet_refusal, words_refusal, read_ending, read_returned, write_ending, write_returned}
-use Rattle.sheet_format.specs.declared.Refusal.{Refusal}
-use Rattle.sheet_format.specs.declared.Ending.{Ending}
-use Rattle.sheet_format.specs.declared.Ending.TheVariants.{Done, Refused}
+use Rattle.sheet_format.specs.Answers.{Refusal}
+use Rattle.sheet_format.specs.Answers.{Ending}
+use Rattle.sheet_format.specs.Answers.Ending.{Done, Refused}
 
 returned-ending : (r : Refusal) (room wanted n : ℕ) → returned (ending r room wanted n) ≡ answered r room wanted n
 returned-ending r room wanted n = go (eqb r.number 0) (ltb room wanted)

@@ -14,8 +14,8 @@ use Rattle.sheet_format.specs.Line.{Line, byte_lines, bytes_of, word_lines, word
 use Rattle.sheet_format.specs.Table.{Table}
 use Rattle.sheet_format.specs.Cause.{refusal, refusal_of}
 use Rattle.sheet_format.specs.Sheet.{ending, over, lent_by, sheet_refusal, read_ending, read_words, words_refusal, write_ending, write_bytes}
-use Rattle.sheet_format.specs.declared.Refusal.{Refusal}
-use Rattle.sheet_format.specs.declared.Ending.TheVariants.{Done, Refused}
+use Rattle.sheet_format.specs.Answers.{Refusal}
+use Rattle.sheet_format.specs.Answers.Ending.{Done, Refused}
 use Rattle.sheet_format.proofs.Good.{Goods}
 use Rattle.sheet_format.proofs.LineLaws.{sevens-length, sevens-good, sevens-shown, bytes_back, bytes_good, bytes-shown, bytes-size, words_back, all-words-length}
 use Rattle.sheet_format.proofs.ScanLaws.{accepted-lines, accepted-length}

@@ -11,8 +11,8 @@ use Rattle.sheet_format.specs.Limits.{most_lists, most_views, most_rows, most_li
 use Rattle.sheet_format.specs.Line.{Line, all, null}
 use Rattle.sheet_format.specs.Table.{Table}
 use Rattle.sheet_format.specs.Cause.{Kind, question, saved, view, atom, row, other, kind, in_place, possible, misplaced, wrong_columns, out_of_range, too_many_blocks, atoms_of, cause, start, next_by, next, refusal, missing, scan, heads, unsafe, atoms, refusal_of}
-use Rattle.sheet_format.specs.declared.Refusal.{Refusal}
-use Rattle.sheet_format.specs.declared.Seen.{Seen}
+use Rattle.sheet_format.specs.Answers.{Refusal}
+use Rattle.sheet_format.specs.Answers.{Seen}
 use Rattle.sheet_format.proofs.Lists.{true-false, both, passed}
 
 -- a missing block names no line

@@ -4,12 +4,12 @@ use Rattle.std.specs.Int.Signed.{lt_z}
 use Rattle.sheet_format.specs.Limits.{constant_end, most_variables, most_atoms, most_view_atoms, most_lists, most_views, most_rows}
 use Rattle.sheet_format.specs.Table.{Table, columns_of}
 use Rattle.sheet_format.specs.Line.{Line, all, null}
-use Rattle.sheet_format.specs.declared.Refusal.{Refusal}
-use Rattle.sheet_format.specs.declared.Seen.{Seen}
-use Rattle.sheet_format.specs.declared.LineStep.{LineStep}
-use Rattle.sheet_format.specs.declared.LineStep.TheVariants.{Goes, Stops}
-use Rattle.sheet_format.specs.declared.FieldTerm.{FieldTerm}
-use Rattle.sheet_format.specs.declared.FieldTerm.TheVariants.{Constant, Variable, OutOfRange}
+use Rattle.sheet_format.specs.Answers.{Refusal}
+use Rattle.sheet_format.specs.Answers.{Seen}
+use Rattle.sheet_format.specs.Answers.{LineStep}
+use Rattle.sheet_format.specs.Answers.LineStep.{Goes, Stops}
+use Rattle.sheet_format.specs.Answers.{FieldTerm}
+use Rattle.sheet_format.specs.Answers.FieldTerm.{Constant, Variable, OutOfRange}
 
 -- ---- a line's kind is its first field
 

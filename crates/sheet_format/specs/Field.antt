@@ -4,8 +4,8 @@ use Rattle.std.specs.Prelude.{Bool, true, false, cond, List, [], ◌∷◌, ◌+
 use Rattle.sheet_format.specs.Limits.{field_byte_count, field_end, field_minus_end}
 use Rattle.sheet_format.specs.declared.Digits.{Digits}
 use Rattle.sheet_format.specs.declared.Digits.TheVariants.{Blank, Minus, Run, Broken}
-use Rattle.sheet_format.specs.declared.Field.{Field}
-use Rattle.sheet_format.specs.declared.Field.TheVariants.{Number, Malformed}
+use Rattle.sheet_format.specs.Answers.{Field}
+use Rattle.sheet_format.specs.Answers.Field.{Number, Malformed}
 
 -- ---- reading
 

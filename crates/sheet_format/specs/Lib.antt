@@ -1,7 +1,9 @@
 pub mod Limits
 pub mod Relations
 pub mod Table
+pub mod Answers
 pub mod Field
 pub mod Line
 pub mod Cause
 pub mod Sheet
+pub mod Returns

@@ -1,17 +1,17 @@
 -- Lines: 1 to 6 fields each. A line that is malformed (cause 2) has no fields.
 use Rattle.std.specs.Prelude.{Bool, true, false, cond, ◌&&◌, List, [], ◌∷◌, ◌++◌, map, ℕ, zero, suc, ◌+◌, ◌-◌, ◌*◌, ◌/◌, ◌%◌, eqb, ltb, leb, ℤ, pos, negsuc, length, take, drop, get_or, replicate}
+use Rattle.std.specs.List.{list_all}
 use Rattle.sheet_format.specs.Limits.{field_byte_count, most_fields, line_word_count}
 use Rattle.sheet_format.specs.Field.{field_of, field_bytes, fits}
-use Rattle.sheet_format.specs.declared.Field.{Field}
-use Rattle.sheet_format.specs.declared.Field.TheVariants.{Number, Malformed}
+use Rattle.sheet_format.specs.Answers.{Field}
+use Rattle.sheet_format.specs.Answers.Field.{Number, Malformed}
 
 abbrev pub Line : Type 0
 Line = List ℤ
 
 -- every element passes the test; f of each element, joined
 abbrev pub all : {A : Type 0} → (A → Bool) → List A → Bool
-all p [] = true
-all p (x ∷ l) = p x && all p l
+all p l = list_all p l
 
 abbrev pub gather : {A B : Type 0} → (A → List B) → List A → List B
 gather f [] = []

@@ -4,9 +4,9 @@ use Rattle.sheet_format.specs.Limits.{most_sheet_bytes, most_words, most_bytes, 
 use Rattle.sheet_format.specs.Table.{Table}
 use Rattle.sheet_format.specs.Line.{byte_lines, bytes_of, word_lines, words_of}
 use Rattle.sheet_format.specs.Cause.{refusal, refusal_of}
-use Rattle.sheet_format.specs.declared.Refusal.{Refusal}
-use Rattle.sheet_format.specs.declared.Ending.{Ending}
-use Rattle.sheet_format.specs.declared.Ending.TheVariants.{Done, Refused}
+use Rattle.sheet_format.specs.Answers.{Refusal}
+use Rattle.sheet_format.specs.Answers.{Ending}
+use Rattle.sheet_format.specs.Answers.Ending.{Done, Refused}
 
 -- what is returned for each answer: number, line and count
 pub record Returned : Type 0 where

@@ -1,5 +1,8 @@
-// What the sheet's definitions (specs/) and the calls share: the limits, each behind one name, the kinds and causes by number, and the types.
+// What the sheet's definitions (specs/) and the calls share: the limits, each behind one name, and the types: kinds, causes and refusals.
 #![tactic(auto)]
+
+ghost use Rattle.std.specs.Prelude.{◌≡◌};
+ghost use Rattle.sheet_format.specs.Returns.{cause_number};
 
 // A sheet's bytes, at most.
 pub const MOST_SHEET_BYTES: usize = 8192;
@@ -69,7 +72,7 @@ pub const OWN_TABLE: [usize; TABLE_NUMBERS] = [
 // The lines of an accepted sheet, at most: this follows from the limits above.
 pub const MOST_LINES: usize = 107;
 
-// The kinds of a line, and of a block by its head; 0 is none.
+// The kinds of a line, and of a block by its head, as words have them: the numbers of `Kind`.
 pub const QUESTION_KIND: usize = 1;
 
 pub const SAVED_KIND: usize = 2;
@@ -80,45 +83,85 @@ pub const ATOM_KIND: usize = 4;
 
 pub const ROW_KIND: usize = 5;
 
-// The causes for sending back.
-pub const TOO_LONG: usize = 1;
+/// The kind of a line, and of a block by its head.
+#[derive(Clone, Copy, PartialEq, Eq, Debug)]
+pub enum Kind {
+    Question,
+    Saved,
+    View,
+    Atom,
+    Row,
+}
 
-pub const MALFORMED: usize = 2;
+/// Why a sheet, facts, a set of sheets or a table is sent back, or that too little room is lent.
+#[derive(Clone, Copy, PartialEq, Eq, Debug)]
+pub enum Cause {
+    /// More bytes or words than there may be.
+    TooLong,
+    /// A line that is no fields, or words that are no lines.
+    Malformed,
+    /// A line that its kind does not allow at its place.
+    Misplaced,
+    /// A relation that the table does not have, or not with so many columns.
+    WrongColumns,
+    /// A term out of range, or a variable in a row.
+    OutOfRange,
+    /// More atoms, lists, views or rows than there may be.
+    TooMany,
+    /// A list's head not as long as the question's, or a row not as long as its view's.
+    WrongLength,
+    /// A head without atoms, or with a variable that none of its atoms has.
+    UnsafeHead,
+    /// A row that is not above the one before it.
+    NotAbove,
+    /// The sheet has no such block.
+    NoBlock,
+    /// A wrong word count, relation, value or unused word of facts.
+    BadFact,
+    /// Too many facts, or one that is not above the one before it.
+    FactOrder,
+    /// Too little room is lent.
+    NoRoom,
+    /// Ends that do not part a run of bytes into sheets, or into too many.
+    WrongEnds,
+    /// A table's line that is not right, or a table without lines.
+    WrongTable,
+}
 
-pub const MISPLACED: usize = 3;
+impl Cause {
+    /// The cause's number, as C, pages and the documents have it: 1 to 15.
+    pub fn number(self) -> usize
+        ensures { result ≡ cause_number self }
+    {
+        match self {
+            Cause::TooLong => 1,
+            Cause::Malformed => 2,
+            Cause::Misplaced => 3,
+            Cause::WrongColumns => 4,
+            Cause::OutOfRange => 5,
+            Cause::TooMany => 6,
+            Cause::WrongLength => 7,
+            Cause::UnsafeHead => 8,
+            Cause::NotAbove => 9,
+            Cause::NoBlock => 10,
+            Cause::BadFact => 11,
+            Cause::FactOrder => 12,
+            Cause::NoRoom => 13,
+            Cause::WrongEnds => 14,
+            Cause::WrongTable => 15,
+        }
+    }
+}
 
-pub const WRONG_COLUMNS: usize = 4;
-
-pub const OUT_OF_RANGE: usize = 5;
-
-pub const TOO_MANY: usize = 6;
-
-pub const WRONG_LENGTH: usize = 7;
-
-pub const UNSAFE_HEAD: usize = 8;
-
-pub const NOT_ABOVE: usize = 9;
-
-pub const NO_ROOM: usize = 13;
-
-pub const WRONG_TABLE: usize = 15;
-
-// Why a sheet is sent back: the cause's number and the line, counted from 1, or 0 where none is named. Nothing is refused where both are 0.
-#[derive(Clone, Copy)]
+/// The cause, and the line, counted from 1, or 0 where none is named.
+#[derive(Clone, Copy, PartialEq, Eq, Debug)]
 pub struct Refusal {
-    pub number: usize,
+    pub cause: Cause,
     pub line: usize,
 }
 
-// How a call ends: with the count of what it wrote, or with the cause's number and the line.
-#[derive(Clone, Copy)]
-pub enum Ending {
-    Done(usize),
-    Refused(usize, usize),
-}
-
-// What the bytes of a field so far are: blanks, a minus, a number with its sign, or no field.
-#[derive(Clone, Copy)]
+/// What the bytes of a field so far are: blanks, a minus, a number with its sign, or no field.
+#[derive(Clone, Copy, PartialEq, Eq, Debug)]
 pub enum Digits {
     Blank,
     Minus,
@@ -126,38 +169,23 @@ pub enum Digits {
     Broken,
 }
 
-// What eight bytes are as a field.
-#[derive(Clone, Copy)]
-pub enum Field {
-    Number(i32),
-    Malformed,
-}
-
-// What a number stands for as a term: a constant, or a variable by its index from 1.
-#[derive(Clone, Copy)]
-pub enum FieldTerm {
+/// What a number stands for as a term: a constant, or a variable by its index from 1.
+#[derive(Clone, Copy, PartialEq, Eq, Debug)]
+pub enum Term {
     Constant(usize),
     Variable(usize),
-    OutOfRange,
 }
 
-// What a line's place goes by: the kind of the block and of the line before (0 for none), the block's atoms, the lists, views and rows so
-// far, the lengths of the question's head and of the block's.
-#[derive(Clone, Copy)]
+/// What a line's place goes by: the kind of the block and of the line before, the block's atoms, the lists, views and rows so far, the lengths
+/// of the question's head and of the block's.
+#[derive(Clone, Copy, Default, PartialEq, Eq, Debug)]
 pub struct Seen {
-    pub block: usize,
-    pub last: usize,
+    pub block: Option<Kind>,
+    pub last: Option<Kind>,
     pub atoms: usize,
     pub lists: usize,
     pub views: usize,
     pub rows: usize,
     pub asked: usize,
     pub columns: usize,
-}
-
-// What a line does to the sheet: it goes on, or stops by its cause.
-#[derive(Clone, Copy)]
-pub enum LineStep {
-    Goes(Seen),
-    Stops(usize),
 }

@@ -11,17 +11,22 @@ use lib.Dec.{eqb, leb}
 use lib.IntN.{ℤ, pos}
 use lib.ListN.{length, get_or, take, drop}
 use lib.Seq.{slice, slice-cons, slice_empty, length-slice, take_all, take-nil, drop-drop}
+use Rattle.std.proofs.lemmas.List.{drop-take}
 use Rattle.sheet_format.specs.Limits.{most_lists}
 use Rattle.sheet_format.specs.Field.{fits}
 use Rattle.sheet_format.specs.Line.{Line, all, count, is_zero, word_line, well_formed_words}
 use Rattle.sheet_format.specs.Cause.{Kind, rest, second, terms, term, constant, above, atoms_of, cause, in_place, possible, wrong_columns, out_of_range, too_many_blocks, kind_of, next, next_by, step_of}
 use Rattle.sheet_format.specs.Cause.Kind.{question, saved, view, atom, row}
 use Rattle.sheet_format.specs.Table.{Table, columns_of}
-use Rattle.sheet_format.specs.declared.Seen.{Seen}
-use Rattle.sheet_format.specs.declared.LineStep.TheVariants.{Goes, Stops}
+use Rattle.sheet_format.specs.Answers.{Seen}
+use Rattle.sheet_format.specs.Answers.LineStep.{Goes, Stops}
 use Rattle.sheet_line_causes.specs.Parts.{cause_by, CountedFields, count_of_fields, fields}
 
 -- ---- the fields by the words
+
+-- a part of the words, as a slice of it has them
+pub part-is : (a b : ℕ) (ws : List ℤ) → a ≤ b → take (b - a) (drop a ws) ≡ slice a b ws
+part-is a b ws h = let e : b ≡ a + (b - a) = omega arith in sym (ap (λ k. drop a (take k ws)) e ∙ drop-take a (b - a) ws)
 
 fields-are : (n : ℕ) (ws : List ℤ) → fields n ws ≡ take n (drop 1 ws)
 fields-are n [] = ap (drop 1) (take-nil (n + 1)) ∙ sym (take-nil n)
@@ -181,13 +186,16 @@ module _ {ws : List ℤ} {n : ℕ} (h : CountedFields ws n) where
     view-cause = rw (fields-rest n ws, fields-length)
 
     -- an atom in its place, whose relation has k columns
-    pub atom-cause : 1 ≤ g.last → g.last ≤ 4 → 3 ≤ n → (k : ℕ) → k ≡ columns_of table (get_or ws 2 (pos 0)) → cause_by table g [] atom (fields n ws) ≡ atom_rest g n ws k
-    atom-cause p q l k e =
+    pub atom-cause : in_place g atom ≡ true → 3 ≤ n → (k : ℕ) → k ≡ columns_of table (get_or ws 2 (pos 0)) → cause_by table g [] atom (fields n ws) ≡ atom_rest g n ws k
+    atom-cause p l k e =
         let m : 2 ≤ n = omega arith in
-        rw (le-leb 1 g.last p, le-leb g.last 4 q, fields-terms m, fields-second m, fields-length, terms-length, le-leb 3 n l, le-leb n 6 h.most, ← e)
+        rw (p, fields-terms m, fields-second m, fields-length, terms-length, le-leb 3 n l, le-leb n 6 h.most, ← e)
 
-    pub atom-short : 1 ≤ g.last → g.last ≤ 4 → n < 3 → cause_by table g [] atom (fields n ws) ≡ 3
-    atom-short p q l = rw (le-leb 1 g.last p, le-leb g.last 4 q, fields-length, lt-leb 3 n l)
+    pub atom-misplaced : in_place g atom ≡ false → cause_by table g [] atom (fields n ws) ≡ 3
+    atom-misplaced p = rw p
+
+    pub atom-short : in_place g atom ≡ true → n < 3 → cause_by table g [] atom (fields n ws) ≡ 3
+    atom-short p l = rw (p, fields-length, lt-leb 3 n l)
 
     -- a row of n fields
     pub row-place : (b : Line) → cause_by table g b row (fields n ws) ≡ cond (not (eqb g.block 3 && leb 4 g.last && leb n 5)) 3 (row_rest g b n ws (all constant (slice 2 (n + 1) ws)))

@@ -6,16 +6,7 @@ use Rattle.sheet_format.specs.Field.{fits}
 use Rattle.sheet_format.specs.Line.{Line, is_zero, natural}
 use Rattle.sheet_format.specs.Table.{Table}
 use Rattle.sheet_format.specs.Cause.{Kind, in_place, possible, wrong_columns, out_of_range, too_many_blocks, wrong_length, not_above, term, constant}
-use Rattle.sheet_format.specs.declared.Seen.{Seen}
-use Rattle.sheet_line_causes.specs.declared.Test.{Test}
-use Rattle.sheet_line_causes.specs.declared.Test.TheVariants.{Narrow, Zero, AnyTerm, ConstantTerm}
-
--- a word passes a test
-abbrev pub passes : Test → ℤ → Bool
-passes Narrow z = fits z
-passes Zero z = is_zero z
-passes AnyTerm z = term z
-passes ConstantTerm z = constant z
+use Rattle.sheet_format.specs.Answers.{Seen}
 
 -- a first word as a field count; 0 where it is none
 abbrev pub count_of_fields : ℤ → ℕ

@@ -2,7 +2,7 @@
 #![tactic(auto)]
 
 ghost use Rattle.std.specs.Prelude.{◌≡◌, [], ◌<◌, ◌≤◌, pos, get_or};
-ghost use Rattle.sheet_table.specs.Loads.{Loads};
+ghost use Rattle.sheet_table.specs.Loads.{Loads, loaded_of};
 ghost use Rattle.sheet_own_table.specs.Own.{own_lines, own_bytes, own_table_bytes};
 
 use sheet_format::{FIELD_BYTES, OWN_RELATIONS, OWN_TABLE, RELATION_NUMBERS, TABLE_FIELDS};
@@ -55,14 +55,9 @@ pub fn own_table() -> [u8; OWN_TABLE_BYTES]
     bytes
 }
 
-// The own table as if its bytes had been read.
+/// The own table as if its bytes had been read.
 pub fn own() -> Loaded
-    ensures { Loads own_bytes result }
+    ensures { Loads own_bytes (loaded_of result) }
 {
-    let numbers = sheet_terms::own_table();
-    Loaded {
-        number: 0,
-        line: 0,
-        numbers: numbers,
-    }
+    Ok(sheet_terms::own_table())
 }

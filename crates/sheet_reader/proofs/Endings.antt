@@ -12,9 +12,9 @@ use Rattle.sheet_format.specs.Line.{byte_lines, word_lines, words_of}
 use Rattle.sheet_format.specs.Table.{Table}
 use Rattle.sheet_format.specs.Cause.{refusal, refusal_of}
 use Rattle.sheet_format.specs.Sheet.{over, sheet_refusal, read_ending, read_words}
-use Rattle.sheet_format.specs.declared.Refusal.{Refusal}
-use Rattle.sheet_format.specs.declared.Ending.{Ending}
-use Rattle.sheet_format.specs.declared.Ending.TheVariants.{Done, Refused}
+use Rattle.sheet_format.specs.Answers.{Refusal}
+use Rattle.sheet_format.specs.Answers.{Ending}
+use Rattle.sheet_format.specs.Answers.Ending.{Done, Refused}
 use Rattle.sheet_format.proofs.LineLaws.{words_back}
 use Rattle.sheet_format.proofs.ScanLaws.{accepted-length}
 use Rattle.list_laws.specs.Wrote.{Wrote}

@@ -14,8 +14,8 @@ use Rattle.sheet_format.proofs.LineLaws.{line-by}
 use Rattle.sheet_format.specs.Limits.{field_byte_count, most_fields}
 use Rattle.sheet_format.specs.Field.{field_of, field_at}
 use Rattle.sheet_format.specs.Line.{all, eights, is_number, number, fields_in, is_well_formed, line_of, line_words}
-use Rattle.sheet_format.specs.declared.Field.{Field}
-use Rattle.sheet_format.specs.declared.Field.TheVariants.{Number, Malformed}
+use Rattle.sheet_format.specs.Answers.{Field}
+use Rattle.sheet_format.specs.Answers.Field.{Number, Malformed}
 use Rattle.sheet_format.proofs.Lists.{no_way, and_both, all_append, all-at, map_append}
 
 -- field j of the bytes t

@@ -4,14 +4,14 @@
 ghost use Rattle.std.specs.Prelude.{◌≡◌, ◌+◌, ◌-◌, ◌*◌, ◌≤◌, length, take, drop};
 ghost use Rattle.sheet_format.specs.Limits.{most_lines, line_word_count};
 ghost use Rattle.sheet_format.specs.Line.{line_of, line_words};
+ghost use Rattle.sheet_format.specs.Returns.{ending_of};
 ghost use Rattle.sheet_format.specs.Table.{table_in};
 ghost use Rattle.sheet_format.specs.Sheet.{read_ending, read_words, returned, read_returned};
 ghost use Rattle.list_laws.specs.Wrote.{Wrote};
 ghost use Rattle.sheet_reader.specs.Parsed.{Parsed};
 
 use sheet_format::{
-    Ending, FIELD_BYTES, Field, LINE_WORDS, MOST_FIELDS, MOST_LINES, MOST_SHEET_BYTES, MOST_WORDS,
-    NO_ROOM, TOO_LONG,
+    Cause, FIELD_BYTES, LINE_WORDS, MOST_FIELDS, MOST_LINES, MOST_SHEET_BYTES, MOST_WORDS, Refusal,
 };
 
 // The lines that are looked at: one more than an accepted sheet can have. Their words.
@@ -25,14 +25,11 @@ fn fields_at(s: &[u8], at: usize, n: usize) -> [i32; LINE_WORDS]
     ensures { result ≡ line_words (line_of (take (n * 8) (drop at s.now))) }
 {
     let mut ws = [0i32; LINE_WORDS];
-    let mut j = 0;
-    while j < n {
-        let f = sheet_fields::field(s, at + j * FIELD_BYTES);
-        let Field::Number(z) = f else {
+    for j in 0..n {
+        let Some(z) = sheet_fields::field(s, at + j * FIELD_BYTES) else {
             return [0i32; LINE_WORDS];
         };
         ws[j + 1] = z;
-        j += 1;
     }
     ws[0] = n as i32;
     ws
@@ -109,22 +106,25 @@ pub fn copy(ws: &[i32], n: usize, out: &mut [i32])
     }
 }
 
-// A sheet's bytes to its number form in the lent words, by a table in plain numbers.
-pub fn read(table: &[usize], sheet: &[u8], out: &mut [i32]) -> Ending
-    ensures { (result ≡ read_ending (table_in table.now) sheet.now (length out.old)) × (out.new ≡ read_words (table_in table.now) sheet.now out.old) × (returned result ≡ read_returned (table_in table.now) sheet.now (length out.old)) }
+/// A sheet's bytes to its number form in the lent words, by a table in plain numbers: how many lines it has.
+pub fn read(table: &[usize], sheet: &[u8], out: &mut [i32]) -> Result<usize, Refusal>
+    ensures { (ending_of result ≡ read_ending (table_in table.now) sheet.now (length out.old)) × (out.new ≡ read_words (table_in table.now) sheet.now out.old) × (returned (ending_of result) ≡ read_returned (table_in table.now) sheet.now (length out.old)) }
 {
     if MOST_SHEET_BYTES < sheet.len() {
-        return Ending::Refused(TOO_LONG, 0);
+        return Err(Refusal {
+            cause: Cause::TooLong,
+            line: 0,
+        });
     }
     let mut ws = [0i32; WORDS];
     let n = parse(sheet, &mut ws);
-    let r = sheet_causes::refusal(table, &ws[..n * LINE_WORDS]);
-    if r.number != 0 {
-        return Ending::Refused(r.number, r.line);
-    }
+    sheet_causes::refusal(table, &ws[..n * LINE_WORDS])?;
     if out.len() < MOST_WORDS {
-        return Ending::Refused(NO_ROOM, 0);
+        return Err(Refusal {
+            cause: Cause::NoRoom,
+            line: 0,
+        });
     }
     copy(&ws, n * LINE_WORDS, out);
-    Ending::Done(n)
+    Ok(n)
 }

@@ -13,8 +13,8 @@ use Rattle.sheet_format.specs.Limits.{field_byte_count, field_end, most_fields, 
 use Rattle.sheet_format.specs.Table.{Relation, unknown, relation}
 use Rattle.sheet_format.specs.Field.{field_of, field_at}
 use Rattle.sheet_format.specs.Line.{all, natural, eights, is_number, number, fields_in, is_well_formed, line_of}
-use Rattle.sheet_format.specs.declared.Field.{Field}
-use Rattle.sheet_format.specs.declared.Field.TheVariants.{Number, Malformed}
+use Rattle.sheet_format.specs.Answers.{Field}
+use Rattle.sheet_format.specs.Answers.Field.{Number, Malformed}
 use Rattle.sheet_format.proofs.Lists.{both, no_way}
 use Rattle.sheet_format.proofs.LineLaws.{line-by, eights-length}
 use Rattle.sheet_reader.proofs.LineOf.{eights-take, part_length}

@@ -9,7 +9,7 @@ use lib.Dec.{ltb}
 use lib.ListN.{length, get_or, get_or-eq_default}
 use Rattle.sheet_format.specs.Limits.{most_columns, most_relations}
 use Rattle.sheet_format.specs.Table.{Relation, unknown, table_by, table_in}
-use Rattle.sheet_format.specs.declared.Refusal.{Refusal}
+use Rattle.sheet_format.specs.Answers.{Refusal}
 use Rattle.sheet_table.specs.Tables.{relations_of, table_of}
 use Rattle.sheet_table.specs.Numbers.{relation_numbers, table_numbers, ReadLines}
 use Rattle.sheet_table.specs.Loads.{Loads}

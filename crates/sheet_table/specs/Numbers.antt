@@ -3,9 +3,9 @@ use Rattle.std.specs.Prelude.{◌≡◌, Bool, true, ◌&&◌, ◌||◌, List, [
 use Rattle.sheet_format.specs.Limits.{field_end, most_columns, most_relations}
 use Rattle.sheet_format.specs.Table.{Relation, unknown}
 use Rattle.sheet_format.specs.Line.{line_of}
-use Rattle.sheet_format.specs.declared.Refusal.{Refusal}
-use Rattle.sheet_format.specs.declared.Field.{Field}
-use Rattle.sheet_format.specs.declared.Field.TheVariants.{Number, Malformed}
+use Rattle.sheet_format.specs.Answers.{Refusal}
+use Rattle.sheet_format.specs.Answers.{Field}
+use Rattle.sheet_format.specs.Answers.Field.{Number, Malformed}
 use Rattle.sheet_table.specs.Tables.{relation_on_line, line_right, table_refusal, relations_of}
 
 -- a field as a plain number; one that is malformed or below 0 is a number that no field holds and that every rule refuses

@@ -4,7 +4,7 @@ use Rattle.sheet_format.specs.Limits.{most_relations, most_columns, table_fields
 use Rattle.sheet_format.specs.Table.{Relation, Table, relation, table_by}
 use Rattle.sheet_format.specs.Line.{Line, all, null, natural, byte_lines}
 use Rattle.sheet_format.specs.Cause.{refusal, none}
-use Rattle.sheet_format.specs.declared.Refusal.{Refusal}
+use Rattle.sheet_format.specs.Answers.{Refusal}
 
 -- ---- a line
 

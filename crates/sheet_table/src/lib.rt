@@ -4,12 +4,13 @@
 ghost use Rattle.std.specs.Prelude.{◌≡◌, ◌≤◌, ◌<◌, length, replicate};
 ghost use Rattle.sheet_format.specs.Limits.{most_relations};
 ghost use Rattle.sheet_format.specs.Field.{field_at};
-ghost use Rattle.sheet_table.specs.Loads.{Loads};
+ghost use Rattle.sheet_format.specs.Returns.{refusal_in};
+ghost use Rattle.sheet_table.specs.Loads.{Loads, loaded_of};
 ghost use Rattle.sheet_table.specs.Numbers.{plain_number, plain_of, parent_obeys, line_obeys, relation_put, TakenLine, ReadLines};
 
 use sheet_format::{
-    FIELD_BYTES, FIELD_END, Field, MOST_COLUMNS, MOST_RELATIONS, RELATION_NUMBERS, Refusal,
-    TABLE_FIELDS, TABLE_NUMBERS, WRONG_TABLE,
+    Cause, FIELD_BYTES, FIELD_END, MOST_COLUMNS, MOST_RELATIONS, RELATION_NUMBERS, Refusal,
+    TABLE_FIELDS, TABLE_NUMBERS,
 };
 
 const TABLE_LINE_BYTES: usize = TABLE_FIELDS * FIELD_BYTES;
@@ -31,8 +32,7 @@ fn plain(z: i32) -> usize
 fn plain_field(s: &[u8], at: usize) -> usize
     ensures { result ≡ plain_of (field_at s.now at) }
 {
-    let f = sheet_fields::field(s, at);
-    let Field::Number(z) = f else {
+    let Some(z) = sheet_fields::field(s, at) else {
         return NO_NUMBER;
     };
     plain(z)
@@ -120,68 +120,47 @@ fn take_line(s: &[u8], at: usize, e: usize, ns: &mut [usize; TABLE_NUMBERS], n: 
 }
 
 // The table's lines one after the other, up to the first that is not right: why they are sent back.
-fn read_lines(s: &[u8], ns: &mut [usize; TABLE_NUMBERS]) -> Refusal
+fn read_lines(s: &[u8], ns: &mut [usize; TABLE_NUMBERS]) -> Result<(), Refusal>
     requires { ns.old ≡ replicate 96 0 }
-    ensures { ReadLines s.now ns.new result }
+    ensures { ReadLines s.now ns.new (refusal_in result) }
 {
     let mut n = 0;
     let mut at = 0;
     while at < s.len() {
+        let wrong = Refusal {
+            cause: Cause::WrongTable,
+            line: n + 1,
+        };
         if n == MOST_RELATIONS {
-            return Refusal {
-                number: WRONG_TABLE,
-                line: n + 1,
-            };
+            return Err(wrong);
         }
         let e = sheet_line_ends::line_end(s, at);
         if e == s.len() {
-            return Refusal {
-                number: WRONG_TABLE,
-                line: n + 1,
-            };
+            return Err(wrong);
         }
         if !take_line(s, at, e, ns, n) {
-            return Refusal {
-                number: WRONG_TABLE,
-                line: n + 1,
-            };
+            return Err(wrong);
         }
         n += 1;
         at = e + 1;
     }
     if n == 0 {
-        return Refusal {
-            number: WRONG_TABLE,
+        return Err(Refusal {
+            cause: Cause::WrongTable,
             line: 0,
-        };
+        });
     }
-    Refusal { number: 0, line: 0 }
+    Ok(())
 }
 
-// A table that was read: why it is sent back, 0 where it is not, and its relations in plain numbers.
-#[derive(Clone, Copy)]
-pub struct Loaded {
-    pub number: usize,
-    pub line: usize,
-    pub numbers: [usize; TABLE_NUMBERS],
-}
+/// A table that was read: its relations in plain numbers, or why it is sent back.
+pub type Loaded = Result<[usize; TABLE_NUMBERS], Refusal>;
 
-// The table of the bytes; one without relations where they are sent back.
+/// The table of the bytes.
 pub fn load(s: &[u8]) -> Loaded
-    ensures { Loads s.now result }
+    ensures { Loads s.now (loaded_of result) }
 {
     let mut ns = [0usize; TABLE_NUMBERS];
-    let r = read_lines(s, &mut ns);
-    if r.number != 0 {
-        return Loaded {
-            number: r.number,
-            line: r.line,
-            numbers: [0usize; TABLE_NUMBERS],
-        };
-    }
-    Loaded {
-        number: r.number,
-        line: r.line,
-        numbers: ns,
-    }
+    read_lines(s, &mut ns)?;
+    Ok(ns)
 }

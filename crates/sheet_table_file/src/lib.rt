@@ -4,7 +4,7 @@
 ghost use Rattle.std.specs.Prelude.{◌≤◌, length};
 
 use program_input::NAME_ROOM;
-use sheet_format::{Ending, FIELD_BYTES, MOST_RELATIONS, TABLE_FIELDS};
+use sheet_format::{FIELD_BYTES, MOST_RELATIONS, TABLE_FIELDS};
 use std::env::Env;
 use std::rt::Files;
 
@@ -21,11 +21,10 @@ fn least(a: usize, b: usize) -> usize
 fn put_own(out: &mut [u8]) -> usize
     ensures { result ≤ length out.new }
 {
-    let r = sheet::own_table(out);
-    let Ending::Done(n) = r else {
-        return 0;
-    };
-    least(n, out.len())
+    match sheet::own_table(out) {
+        Ok(n) => least(n, out.len()),
+        Err(_) => 0,
+    }
 }
 
 // The bytes of the file that an argument names, none where it cannot be opened, which `errors` is told; how many they are.

@@ -16,7 +16,7 @@ use Rattle.sheet_format.proofs.Lists.{no_way}
 use Rattle.sheet_format.proofs.TableLaws.{Narrow}
 use Rattle.sheet_format.specs.Cause.{term_of, or_out}
 use Rattle.sheet_format.specs.Table.{Table, unknown, relation, columns_of, table_in}
-use Rattle.sheet_format.specs.declared.FieldTerm.TheVariants.{Constant, Variable, OutOfRange}
+use Rattle.sheet_format.specs.Answers.FieldTerm.{Constant, Variable, OutOfRange}
 
 -- ---- terms
 

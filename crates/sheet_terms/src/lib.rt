@@ -5,28 +5,29 @@ ghost use Rattle.std.specs.Prelude.{◌≡◌, ◌+◌, ◌*◌, ◌<◌, ◌≤
 ghost use Rattle.sheet_format.specs.Limits.{most_columns, relation_number_count};
 ghost use Rattle.sheet_format.specs.Cause.{term_of};
 ghost use Rattle.sheet_format.specs.Line.{natural};
+ghost use Rattle.sheet_format.specs.Returns.{term_in};
 ghost use Rattle.sheet_format.specs.Table.{columns_of, relation, table_in, ten};
 
 use sheet_format::{
-    CONSTANT_END, FieldTerm, MOST_COLUMNS, OWN_TABLE, RELATION_NUMBERS, TABLE_NUMBERS, VARIABLES,
+    CONSTANT_END, MOST_COLUMNS, OWN_TABLE, RELATION_NUMBERS, TABLE_NUMBERS, Term, VARIABLES,
 };
 
 const LAST_VARIABLE: i32 = -VARIABLES;
 
-// What a number stands for as a term; a variable's index is its number negated.
-pub fn term_of(t: i32) -> FieldTerm
-    ensures { result ≡ term_of t }
+/// What a number stands for as a term; a variable's index is its number negated. None where it is out of range.
+pub fn term_of(t: i32) -> Option<Term>
+    ensures { term_in result ≡ term_of t }
 {
     if t < 0 {
         if t < LAST_VARIABLE {
-            return FieldTerm::OutOfRange;
+            return None;
         }
-        return FieldTerm::Variable((-t) as usize);
+        return Some(Term::Variable((-t) as usize));
     }
     if t < CONSTANT_END {
-        return FieldTerm::Constant(t as usize);
+        return Some(Term::Constant(t as usize));
     }
-    FieldTerm::OutOfRange
+    None
 }
 
 // Number j of the relation at place n of a table, both from 0; 0 past the table's end.

@@ -12,9 +12,9 @@ use Rattle.sheet_format.specs.Line.{bytes_of, word_lines}
 use Rattle.sheet_format.specs.Table.{Table}
 use Rattle.sheet_format.specs.Cause.{refusal, refusal_of}
 use Rattle.sheet_format.specs.Sheet.{words_refusal, write_ending, write_bytes}
-use Rattle.sheet_format.specs.declared.Refusal.{Refusal}
-use Rattle.sheet_format.specs.declared.Ending.{Ending}
-use Rattle.sheet_format.specs.declared.Ending.TheVariants.{Done, Refused}
+use Rattle.sheet_format.specs.Answers.{Refusal}
+use Rattle.sheet_format.specs.Answers.{Ending}
+use Rattle.sheet_format.specs.Answers.Ending.{Done, Refused}
 use Rattle.list_laws.specs.Wrote.{Wrote}
 use Rattle.list_laws.proofs.Laws.{wrote-over}
 

@@ -6,13 +6,12 @@ ghost use Rattle.sheet_format.specs.Limits.{most_bytes};
 ghost use Rattle.sheet_format.specs.Field.{field_bytes};
 ghost use Rattle.sheet_format.specs.Line.{line_bytes, bytes_of, word_line, word_lines, null};
 ghost use Rattle.sheet_format.specs.Cause.{refusal_of};
+ghost use Rattle.sheet_format.specs.Returns.{ending_of};
 ghost use Rattle.sheet_format.specs.Table.{Table, table_in};
 ghost use Rattle.sheet_format.specs.Sheet.{write_ending, write_bytes, returned, write_returned};
 ghost use Rattle.list_laws.specs.Wrote.{Wrote};
 
-use sheet_format::{
-    Ending, FIELD_BYTES, LINE_WORDS, MALFORMED, MOST_BYTES, MOST_WORDS, NO_ROOM, TOO_LONG,
-};
+use sheet_format::{Cause, FIELD_BYTES, LINE_WORDS, MOST_BYTES, MOST_WORDS, Refusal};
 
 // Eight bytes at a place of the output.
 fn put_eight(out: &mut [u8], at: usize, b: [u8; FIELD_BYTES])
@@ -66,23 +65,28 @@ fn put_lines(words: &[i32], out: &mut [u8]) -> usize
     at
 }
 
-// A number form to its sheet's bytes in the lent bytes, by a table in plain numbers.
-pub fn write(table: &[usize], words: &[i32], out: &mut [u8]) -> Ending
-    ensures { (result ≡ write_ending (table_in table.now) words.now (length out.old)) × (out.new ≡ write_bytes (table_in table.now) words.now out.old) × (returned result ≡ write_returned (table_in table.now) words.now (length out.old)) }
+/// A number form to its sheet's bytes in the lent bytes, by a table in plain numbers: how many bytes it has.
+pub fn write(table: &[usize], words: &[i32], out: &mut [u8]) -> Result<usize, Refusal>
+    ensures { (ending_of result ≡ write_ending (table_in table.now) words.now (length out.old)) × (out.new ≡ write_bytes (table_in table.now) words.now out.old) × (returned (ending_of result) ≡ write_returned (table_in table.now) words.now (length out.old)) }
 {
     if MOST_WORDS < words.len() {
-        return Ending::Refused(TOO_LONG, 0);
+        return Err(Refusal {
+            cause: Cause::TooLong,
+            line: 0,
+        });
     }
     if words.len() % LINE_WORDS != 0 {
-        return Ending::Refused(MALFORMED, 0);
+        return Err(Refusal {
+            cause: Cause::Malformed,
+            line: 0,
+        });
     }
-    let r = sheet_causes::refusal(table, words);
-    if r.number != 0 {
-        return Ending::Refused(r.number, r.line);
-    }
+    sheet_causes::refusal(table, words)?;
     if out.len() < MOST_BYTES {
-        return Ending::Refused(NO_ROOM, 0);
+        return Err(Refusal {
+            cause: Cause::NoRoom,
+            line: 0,
+        });
     }
-    let n = put_lines(words, out);
-    Ending::Done(n)
+    Ok(put_lines(words, out))
 }

@@ -19,7 +19,7 @@ use Rattle.sheet_format.proofs.Lists.{neither}
 use Rattle.sheet_format.specs.Table.{Table}
 use Rattle.sheet_format.specs.Line.{Line}
 use Rattle.sheet_format.specs.Cause.{Kind, question, saved, view, atom, row, other, kind, rest, too_many_blocks, start, next_by, next, scan}
-use Rattle.sheet_format.specs.declared.Seen.{Seen}
+use Rattle.sheet_format.specs.Answers.{Seen}
 use Rattle.sheet_format.proofs.ScanLaws.{accepted-scan}
 use Rattle.query_meaning.specs.Blocks.{View, view_of, blocks, all_blocks, block_at}
 use Rattle.query_encoding.specs.Encoding.{BlockNumbers, BlockFound, has_block}

@@ -13,7 +13,7 @@ use Rattle.query_encoding.proofs.Lists.{in-at}
 use Rattle.sheet_format.specs.Table.{Table}
 use Rattle.sheet_format.specs.Line.{Line, natural, gather}
 use Rattle.sheet_format.specs.Cause.{Kind, question, saved, view, atom, row, other, kind_at, kind_of, kind, rest, in_place, start, next_by, next, scan, atoms}
-use Rattle.sheet_format.specs.declared.Seen.{Seen}
+use Rattle.sheet_format.specs.Answers.{Seen}
 use Rattle.sheet_format.proofs.Lists.{no_way, and_left, and_right, map_append}
 use Rattle.sheet_format.proofs.ScanLaws.{accepted-scan}
 use Rattle.query_meaning.specs.Meaning.{con, In}

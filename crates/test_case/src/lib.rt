@@ -8,7 +8,7 @@ ghost use Rattle.std.specs.Prelude.{◌≡◌, ◌+◌, ◌*◌, ◌<◌, ◌≤
 ghost use Rattle.sheet_format.specs.Limits.{most_words};
 
 use judge_result::LEAST_ROOM;
-use sheet_format::{CONSTANT_END, Ending, LINE_WORDS, MOST_LINES, MOST_WORDS};
+use sheet_format::{CONSTANT_END, LINE_WORDS, MOST_LINES, MOST_WORDS, TABLE_NUMBERS};
 
 // The words of a fact and of an answer, and the answers that there is room for.
 const FACT: usize = 5;
@@ -43,13 +43,12 @@ pub fn put_marks(
 
 // Whether evaluation takes the facts, and each value stands in the sheet or is made up.
 fn are_facts(table: &[u8], sheet: &[u8], words: &[i32], facts: &[i32]) -> bool {
-    let loaded = sheet_table::load(table);
-    let numbers = loaded.numbers;
+    let numbers = sheet_table::load(table).unwrap_or([0; TABLE_NUMBERS]);
     let mut answers = [0i32; ROOM];
     let ending = evaluate::evaluate_by_table(table, sheet, 1, facts, &mut answers);
     match ending {
-        Ending::Done(_) => are_known(&numbers, words, facts),
-        Ending::Refused(_, _) => false,
+        Ok(_) => are_known(&numbers, words, facts),
+        Err(_) => false,
     }
 }
 
@@ -143,8 +142,7 @@ fn agrees(table: &[u8], sheet: &[u8], words: &[i32], facts: &[i32]) -> bool
 
 // Whether a relation's parent has each of its rows, and no two rows are alike in a key.
 fn is_lawful(table: &[u8], facts: &[i32]) -> bool {
-    let loaded = sheet_table::load(table);
-    let numbers = loaded.numbers;
+    let numbers = sheet_table::load(table).unwrap_or([0; TABLE_NUMBERS]);
     if !have_parents(&numbers, facts) {
         return false;
     }
@@ -280,7 +278,7 @@ fn is_listed(table: &[u8], sheet: &[u8], words: &[i32], facts: &[i32], block: us
     let n = list(words, block, &mut listed);
     let mut given = [0i32; ROOM];
     let ending = evaluate::evaluate_by_table(table, sheet, block, facts, &mut given);
-    let Ending::Done(count) = ending else {
+    let Ok(count) = ending else {
         return false;
     };
     if count != n {
@@ -378,7 +376,7 @@ fn lacking(table: &[u8], sheet: &[u8], words: &[i32], facts: &[i32], asked: &mut
     ensures { result ≤ 1024 }
 {
     let question = evaluate::evaluate_by_table(table, sheet, 1, facts, asked);
-    let Ending::Done(n) = question else {
+    let Ok(n) = question else {
         return ANSWERS;
     };
     let lists = heads(words, MOST_LINES, LIST);
@@ -440,7 +438,7 @@ fn gives(table: &[u8], sheet: &[u8], block: usize, facts: &[i32], asked: &[i32],
 {
     let mut saved = [0i32; ROOM];
     let list = evaluate::evaluate_by_table(table, sheet, block, facts, &mut saved);
-    let Ending::Done(m) = list else {
+    let Ok(m) = list else {
         return true;
     };
     has(&saved, least(m, ANSWERS), asked, i)

@@ -1,16 +1,16 @@
 // How a call ended.
-use sheet_format::Ending;
+use sheet_format::Refusal;
 
 // Number, line and count, then whether what comes after the answers is as it was lent.
-pub(crate) fn put_ending(out: &mut [u8], e: Ending, kept: bool) -> usize {
+pub(crate) fn put_ending(out: &mut [u8], e: Result<usize, Refusal>, kept: bool) -> usize {
     let end = put_numbers(out, e);
     test_results::put_mark(out, end, kept)
 }
 
-fn put_numbers(out: &mut [u8], e: Ending) -> usize {
+fn put_numbers(out: &mut [u8], e: Result<usize, Refusal>) -> usize {
     match e {
-        Ending::Done(count) => put_three(out, 0, 0, count),
-        Ending::Refused(number, line) => put_three(out, number, line, 0),
+        Ok(count) => put_three(out, 0, 0, count),
+        Err(Refusal { cause, line }) => put_three(out, cause.number(), line, 0),
     }
 }
 
@@ -21,9 +21,9 @@ fn put_three(out: &mut [u8], number: usize, line: usize, count: usize) -> usize 
 }
 
 // How many answers were written.
-pub(crate) fn count(e: Ending) -> usize {
+pub(crate) fn count(e: Result<usize, Refusal>) -> usize {
     match e {
-        Ending::Done(n) => n,
-        Ending::Refused(_, _) => 0,
+        Ok(n) => n,
+        Err(_) => 0,
     }
 }

@@ -15,7 +15,7 @@ mod ending;
 
 ghost use Rattle.std.specs.Prelude.{◌≤◌};
 
-use sheet_format::Ending;
+use sheet_format::Refusal;
 use std::io;
 use std::io::Read;
 
@@ -156,7 +156,7 @@ fn answer(
     block: usize,
     facts: &[i32],
     lent: &mut [i32],
-) -> Ending {
+) -> Result<usize, Refusal> {
     if by_table {
         return evaluate::evaluate_by_table(table, sheet, block, facts, lent);
     }

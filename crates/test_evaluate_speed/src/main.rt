@@ -4,7 +4,7 @@
 
 ghost use Rattle.std.specs.Prelude.{◌<◌};
 
-use sheet_format::Ending;
+use sheet_format::Refusal;
 use std::io;
 
 fn main(rt: HostRuntime) -> io::Result<()> {
@@ -195,10 +195,10 @@ fn show(rt: &impl Print, name: &str, sheet: &[u8], facts: &[i32]) -> io::Result<
     print(rt, ending)
 }
 
-fn print(rt: &impl Print, e: Ending) -> io::Result<()> {
+fn print(rt: &impl Print, e: Result<usize, Refusal>) -> io::Result<()> {
     match e {
-        Ending::Done(count) => numbers(rt, 0, 0, count),
-        Ending::Refused(number, line) => numbers(rt, number, line, 0),
+        Ok(count) => numbers(rt, 0, 0, count),
+        Err(Refusal { cause, line }) => numbers(rt, cause.number(), line, 0),
     }
 }
 

@@ -5,7 +5,7 @@
 // What is printed: the name, a bar, and what is said of GIVEN in words. Of a text that has a sheet also the text of that sheet, and then "="
 // where the sheet of that text is the same sheet, and "!" where it is not.
 use crate::LINE;
-use sheet_format::{Ending, MOST_BYTES};
+use sheet_format::MOST_BYTES;
 use text_to_sheet::Made;
 use text_writer::TEXT_ROOM;
 
@@ -56,7 +56,7 @@ fn run_sheet(given: &[u8], out: &mut [u8], at: usize) -> usize {
 // The text of a sheet, and whether it has the same sheet.
 fn run_back(sheet: &[u8], out: &mut [u8], at: usize) -> usize {
     let mut back = [0u8; TEXT_ROOM];
-    let Ending::Done(n) = text_from_sheet::text_of(sheet, &mut back) else {
+    let Ok(n) = text_from_sheet::text_of(sheet, &mut back) else {
         return at;
     };
     let end = put_part(out, at, &back, n);

@@ -21,7 +21,7 @@ mod result;
 
 ghost use Rattle.std.specs.Prelude.{◌≤◌};
 
-use sheet_format::{Ending, LINE_WORDS, MOST_BYTES, MOST_WORDS};
+use sheet_format::{LINE_WORDS, MOST_BYTES, MOST_WORDS, Refusal};
 use std::io;
 use std::io::Read;
 
@@ -122,7 +122,7 @@ fn read(given: &[u8], lent: &mut [i32], out: &mut [u8]) -> usize {
 }
 
 // Puts what was read into the lent words.
-fn put_read(out: &mut [u8], answer: Ending, lent: &[i32]) -> usize {
+fn put_read(out: &mut [u8], answer: Result<usize, Refusal>, lent: &[i32]) -> usize {
     let done = least(words_of(result::count(answer)), lent.len());
     let end = result::put_answer(out, 0, answer, result::are_words(lent, done, 77777777));
     let bar = text_buffer::put_byte(out, end, b'|');
@@ -144,7 +144,7 @@ fn write(given: &[i32], lent: &mut [u8], out: &mut [u8], at: usize) -> usize {
 }
 
 // Puts what was written into the lent bytes at a place.
-fn put_written(out: &mut [u8], at: usize, answer: Ending, lent: &[u8]) -> usize {
+fn put_written(out: &mut [u8], at: usize, answer: Result<usize, Refusal>, lent: &[u8]) -> usize {
     let done = least(result::count(answer), lent.len());
     let end = result::put_answer(out, at, answer, result::are_bytes(lent, done, 35));
     let bar = text_buffer::put_byte(out, end, b'|');

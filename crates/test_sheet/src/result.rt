@@ -1,32 +1,32 @@
 // Puts the parts of a case's result.
-use sheet_format::Ending;
+use sheet_format::Refusal;
 
 // Number, line and count, then whether what comes after the count is as it was lent.
-pub(crate) fn put_answer(out: &mut [u8], at: usize, a: Ending, kept: bool) -> usize {
+pub(crate) fn put_answer(out: &mut [u8], at: usize, a: Result<usize, Refusal>, kept: bool) -> usize {
     let i = test_results::put_number(out, at, cause(a), b' ');
     let j = test_results::put_number(out, i, line(a), b' ');
     let k = test_results::put_number(out, j, count(a), b' ');
     test_results::put_mark(out, k, kept)
 }
 
-fn cause(a: Ending) -> usize {
+fn cause(a: Result<usize, Refusal>) -> usize {
     match a {
-        Ending::Done(_) => 0,
-        Ending::Refused(number, _) => number,
+        Ok(_) => 0,
+        Err(refusal) => refusal.cause.number(),
     }
 }
 
-fn line(a: Ending) -> usize {
+fn line(a: Result<usize, Refusal>) -> usize {
     match a {
-        Ending::Done(_) => 0,
-        Ending::Refused(_, line) => line,
+        Ok(_) => 0,
+        Err(refusal) => refusal.line,
     }
 }
 
-pub(crate) fn count(a: Ending) -> usize {
+pub(crate) fn count(a: Result<usize, Refusal>) -> usize {
     match a {
-        Ending::Done(n) => n,
-        Ending::Refused(_, _) => 0,
+        Ok(n) => n,
+        Err(_) => 0,
     }
 }
 

@@ -11,7 +11,7 @@
 // not; a bar; columns, key and parent of each relation, "/" after each.
 #![tactic(auto)]
 
-use sheet_format::{MOST_RELATIONS, RELATION_NUMBERS, TABLE_NUMBERS};
+use sheet_format::{MOST_RELATIONS, RELATION_NUMBERS, Refusal, TABLE_NUMBERS};
 use std::io;
 use std::io::Read;
 
@@ -84,12 +84,10 @@ fn call_own(out: &mut [u8]) -> usize {
 }
 
 fn read(given: &[u8], out: &mut [u8]) -> usize {
-    let table = sheet_table::load(given);
-    let numbers = table.numbers;
-    if table.number != 0 {
-        return put_answer(out, table.number, table.line, 0, are(&numbers, 0, 0));
+    match sheet_table::load(given) {
+        Ok(numbers) => put_taken(out, count(&numbers), &numbers),
+        Err(Refusal { cause, line }) => put_answer(out, cause.number(), line, 0, true),
     }
-    put_taken(out, count(&numbers), &numbers)
 }
 
 // How many relations follow each other: each has columns.

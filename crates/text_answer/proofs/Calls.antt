@@ -11,7 +11,7 @@ use Rattle.sheet_format.specs.Limits.{most_bytes}
 use Rattle.sheet_format.specs.Table.{Table, table_in, ten}
 use Rattle.sheet_table.specs.Tables.{table_refusal, table_of}
 use Rattle.sheet_table.specs.Loads.{Loads}
-use Rattle.sheet_table.specs.declared.Loaded.{Loaded}
+use Rattle.sheet_table.specs.Loads.{Loaded}
 use Rattle.sheet_own_table.specs.Own.{own_bytes}
 use Rattle.sheet_own_table.proofs.Means.{own-passes, own_means}
 use Rattle.judge_result.specs.Judged.{Judged, TableSent, JudgedBy}

@@ -11,15 +11,15 @@ use Rattle.sheet_format.specs.Table.{Table, ten, table_in}
 use Rattle.sheet_format.specs.Line.{byte_lines, words_of}
 use Rattle.sheet_format.specs.Sheet.{over, lent_by, sheet_refusal, read_ending, read_words}
 use Rattle.sheet_format.specs.Cause.{refusal}
-use Rattle.sheet_format.specs.declared.Ending.{Ending}
-use Rattle.sheet_format.specs.declared.Ending.TheVariants.{Done, Refused}
+use Rattle.sheet_format.specs.Answers.{Ending}
+use Rattle.sheet_format.specs.Answers.Ending.{Done, Refused}
 use Rattle.sheet_format.proofs.LineLaws.{bytes_good, all-words-length}
 use Rattle.sheet_format.proofs.ScanLaws.{accepted-length}
 use Rattle.sheet_format.proofs.RoundTrip.{ending-done, bytes-clean}
 use Rattle.sheet_format.proofs.TableLaws.{Narrow}
 use Rattle.sheet_terms.proofs.Laws.{columns-most}
 use Rattle.sheet_table.specs.Loads.{Loads}
-use Rattle.sheet_table.specs.declared.Loaded.{Loaded}
+use Rattle.sheet_table.specs.Loads.{Loaded}
 use Rattle.sheet_own_table.specs.Own.{own_bytes}
 use Rattle.sheet.specs.ByTable.{table_refused}
 use Rattle.sheet.proofs.ByTable.{answer, refused, taken, own}

@@ -3,7 +3,7 @@ use Rattle.std.specs.Prelude.{List, ℕ, length}
 use Rattle.sheet_format.specs.Table.{Table}
 use Rattle.sheet_format.specs.Line.{byte_lines, words_of}
 use Rattle.sheet_format.specs.Sheet.{ending, lent_by, sheet_refusal}
-use Rattle.sheet_format.specs.declared.Ending.{Ending}
+use Rattle.sheet_format.specs.Answers.{Ending}
 use Rattle.sheet_table.specs.Tables.{table_of}
 use Rattle.sheet.specs.ByTable.{if_refused, table_refused}
 use Rattle.text_writer.specs.Rooms.{text_room}

@@ -14,8 +14,8 @@ use Rattle.sheet_format.specs.Limits.{most_variables}
 use Rattle.sheet_format.specs.Table.{Table}
 use Rattle.sheet_format.specs.Line.{Line, all}
 use Rattle.sheet_format.specs.Cause.{kind_of, rest, term_of, term, constant, above, cause, start, next, scan, heads, refusal_of}
-use Rattle.sheet_format.specs.declared.FieldTerm.TheVariants.{Variable}
-use Rattle.sheet_format.specs.declared.Seen.{Seen}
+use Rattle.sheet_format.specs.Answers.FieldTerm.{Variable}
+use Rattle.sheet_format.specs.Answers.{Seen}
 use Rattle.sheet_format.proofs.Lists.{no_way, true-false, and_left, and_right, and_both}
 use Rattle.sheet_format.proofs.ScanLaws.{Clean, clean_line, accepted-scan}
 use Rattle.text_laws.specs.Numbered.{place_among, known, known_after, numbered_terms, known_behind, terms_in, known_in, numbered_lines}

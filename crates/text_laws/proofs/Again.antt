@@ -13,7 +13,7 @@ use Rattle.list_laws.proofs.Order.{less?}
 use Rattle.sheet_format.specs.Table.{Table}
 use Rattle.sheet_format.specs.Line.{Line}
 use Rattle.sheet_format.specs.Cause.{kind_of, start, next, scan, refusal_of}
-use Rattle.sheet_format.specs.declared.Seen.{Seen}
+use Rattle.sheet_format.specs.Answers.{Seen}
 use Rattle.sheet_format.proofs.Lists.{no_way, true-false}
 use Rattle.sheet_format.proofs.ScanLaws.{Clean, clean_line, accepted-scan}
 use Rattle.text_laws.specs.Numbered.{place_among, known, numbered_terms, known_behind, terms_in, known_in, numbered_lines}

@@ -11,7 +11,7 @@ use borrow.Author.Tests.{eqb-true, ne_eqb, leb-true}
 use Rattle.sheet_format.specs.Line.{Line, all, null, line_words}
 use Rattle.sheet_format.specs.Table.{Table}
 use Rattle.sheet_format.specs.Cause.{question, saved, view, atom, row, other, kind_at, kind_of, kind, rest, in_place, cause, next, refusal, scan, is_head, is_atom, atoms, bound, unsafe, heads}
-use Rattle.sheet_format.specs.declared.Seen.{Seen}
+use Rattle.sheet_format.specs.Answers.{Seen}
 use Rattle.sheet_format.proofs.Lists.{no_way, true-false, both}
 use Rattle.sheet_format.proofs.ScanLaws.{clean_line}
 use Rattle.text_writer.specs.Texts.{line_kind, kind_of_first}

@@ -13,8 +13,8 @@ use Rattle.list_laws.proofs.Order.{less?}
 use Rattle.sheet_format.specs.Line.{Line, all}
 use Rattle.sheet_format.specs.Limits.{most_variables, field_end}
 use Rattle.sheet_format.specs.Cause.{or_out, is_term, is_constant, term_of, term, constant}
-use Rattle.sheet_format.specs.declared.FieldTerm.{FieldTerm}
-use Rattle.sheet_format.specs.declared.FieldTerm.TheVariants.{Constant, Variable, OutOfRange}
+use Rattle.sheet_format.specs.Answers.{FieldTerm}
+use Rattle.sheet_format.specs.Answers.FieldTerm.{Constant, Variable, OutOfRange}
 use Rattle.sheet_format.proofs.Lists.{no_way, and_left, and_right, and_both}
 use Rattle.sheet_format.specs.Table.{columns_of, ten}
 use Rattle.text_buffer.specs.Words.{bytes}

@@ -14,7 +14,7 @@ use Rattle.sheet_format.specs.Line.{Line, all, line_words}
 use Rattle.sheet_format.specs.Limits.{field_end}
 use Rattle.sheet_format.specs.Table.{Table, relation, columns_of, ten}
 use Rattle.sheet_format.specs.Cause.{kind_of, kind, term, constant, start, next, scan, is_head, heads, refusal_of}
-use Rattle.sheet_format.specs.declared.Seen.{Seen}
+use Rattle.sheet_format.specs.Answers.{Seen}
 use Rattle.sheet_format.proofs.Lists.{no_way, true-false, both, neither}
 use Rattle.sheet_format.proofs.ScanLaws.{Clean, clean_line, accepted-scan}
 use Rattle.text_begins.specs.Begins.{letter_of}

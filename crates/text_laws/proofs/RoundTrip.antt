@@ -10,7 +10,7 @@ use Rattle.sheet_format.specs.Table.{Table}
 use Rattle.sheet_format.specs.Line.{Line, byte_lines, bytes_of, words_of}
 use Rattle.sheet_format.specs.Cause.{refusal_of}
 use Rattle.sheet_format.specs.Sheet.{sheet_refusal, words_refusal, write_ending}
-use Rattle.sheet_format.specs.declared.Ending.TheVariants.{Done}
+use Rattle.sheet_format.specs.Answers.Ending.{Done}
 use Rattle.sheet_format.proofs.Good.{Goods}
 use Rattle.sheet_format.proofs.LineLaws.{words_back, bytes_back, all-words-length, bytes_good, bytes-shown}
 use Rattle.sheet_format.proofs.ScanLaws.{accepted-lines, accepted-length}

@@ -13,8 +13,8 @@ use Rattle.list_laws.proofs.Lists.{map_append}
 use Rattle.sheet_format.specs.Limits.{most_variables, constant_end}
 use Rattle.sheet_format.specs.Line.{all}
 use Rattle.sheet_format.specs.Cause.{or_out, is_term, term_of, term}
-use Rattle.sheet_format.specs.declared.FieldTerm.{FieldTerm}
-use Rattle.sheet_format.specs.declared.FieldTerm.TheVariants.{Constant, Variable}
+use Rattle.sheet_format.specs.Answers.{FieldTerm}
+use Rattle.sheet_format.specs.Answers.FieldTerm.{Constant, Variable}
 use Rattle.sheet_format.proofs.Lists.{no_way, true-false, and_left, and_right}
 use Rattle.text_begins.specs.Begins.{is_blank_byte}
 use Rattle.text_writer.specs.Texts.{variable_letter, word_bytes, term_bytes}

@@ -1,7 +1,7 @@
 // Prints the text of the sheet of standard input; where it is refused, standard error says why.
 #![tactic(auto)]
 
-use sheet_format::{Ending, MOST_SHEET_BYTES};
+use sheet_format::{MOST_SHEET_BYTES, Refusal};
 use std::io;
 use text_to_sheet::Made;
 use text_writer::TEXT_ROOM;
@@ -18,19 +18,19 @@ fn main(rt: HostRuntime) -> io::Result<()> {
 fn print(rt: &impl Print, errors: &impl Print, given: &[u8]) -> io::Result<()> {
     let mut text = [0u8; TEXT_ROOM];
     match text_from_sheet::text_of(given, &mut text) {
-        Ending::Done(n) => {
+        Ok(n) => {
             if n <= text.len() {
                 rt.write_all(&text[0..n])?;
             }
             Ok(())
         }
-        Ending::Refused(number, line) => complain(errors, number, line),
+        Err(refusal) => complain(errors, refusal),
     }
 }
 
-fn complain(errors: &impl Print, number: usize, line: usize) -> io::Result<()> {
+fn complain(errors: &impl Print, refusal: Refusal) -> io::Result<()> {
     let mut words = [0u8; TEXT_ROOM];
-    let n = text_message::message(Made::Refused(number, line, 0), &mut words);
+    let n = text_message::message(Made::Refused(refusal.cause.number(), refusal.line, 0), &mut words);
     if n <= words.len() {
         errors.write_all(&words[0..n])?;
     }

@@ -16,13 +16,13 @@ use Rattle.sheet_format.specs.Line.{bytes_of, word_lines}
 use Rattle.sheet_format.specs.Table.{Table, ten, table_in}
 use Rattle.sheet_format.specs.Cause.{refusal, refusal_of}
 use Rattle.sheet_format.specs.Sheet.{over, lent_by, read_ending, words_refusal, write_ending, write_bytes}
-use Rattle.sheet_format.specs.declared.Ending.{Ending}
-use Rattle.sheet_format.specs.declared.Ending.TheVariants.{Done, Refused}
+use Rattle.sheet_format.specs.Answers.{Ending}
+use Rattle.sheet_format.specs.Answers.Ending.{Done, Refused}
 use Rattle.sheet_format.proofs.LineLaws.{sevens-good, sevens-length, bytes-size}
 use Rattle.sheet_format.proofs.RoundTrip.{ending-done, write_read}
 use Rattle.sheet_table.specs.Tables.{table_refusal, table_of}
 use Rattle.sheet_table.specs.Loads.{Loads}
-use Rattle.sheet_table.specs.declared.Loaded.{Loaded}
+use Rattle.sheet_table.specs.Loads.{Loaded}
 use Rattle.sheet_own_table.specs.Own.{own_bytes}
 use Rattle.sheet.proofs.ByTable.{refused, taken, own}
 use Rattle.sheet.proofs.Calls.{clean-sheet}

@@ -4,8 +4,8 @@ use Rattle.std.specs.Prelude.{◌≡◌, cond, List, ℕ, zero, suc, ◌≤◌, 
 use Rattle.sheet_format.specs.Line.{bytes_of, word_lines}
 use Rattle.sheet_format.specs.Table.{Table}
 use Rattle.sheet_format.specs.Sheet.{over, sheet_refusal, write_ending}
-use Rattle.sheet_format.specs.declared.Ending.{Ending}
-use Rattle.sheet_format.specs.declared.Ending.TheVariants.{Done, Refused}
+use Rattle.sheet_format.specs.Answers.{Ending}
+use Rattle.sheet_format.specs.Answers.Ending.{Done, Refused}
 use Rattle.sheet_table.specs.Tables.{table_refusal, table_of}
 use Rattle.sheet.specs.ByTable.{if_refused}
 use Rattle.text_begins.specs.Begins.{most_text}

@@ -5,7 +5,7 @@ ghost use Rattle.std.specs.Prelude.{◌≡◌, length};
 ghost use Rattle.sheet_format.specs.Table.{table_in, ten};
 ghost use Rattle.text_to_sheet.specs.Texts.{begun_line, MadeAs, MadeByTable};
 
-use sheet_format::{Ending, LINE_WORDS, MOST_LINES, MOST_WORDS, TABLE_NUMBERS, TOO_LONG};
+use sheet_format::{Cause, LINE_WORDS, MOST_LINES, MOST_WORDS, Refusal, TABLE_NUMBERS};
 use text_begins::MOST_TEXT;
 use text_meaning::EXPECT_SHORTER;
 use text_reader::run;
@@ -49,11 +49,13 @@ pub fn sheet_by_numbers(table: &[usize; TABLE_NUMBERS], text: &[u8], out: &mut [
     }
     let lines = n.lines;
     if MOST_LINES < lines {
-        return Made::Refused(TOO_LONG, 0, 0);
+        return Made::Refused(Cause::TooLong.number(), 0, 0);
     }
     match sheet_writer::write(table, &words[0..lines * LINE_WORDS], out) {
-        Ending::Done(n) => Made::Sheet(n),
-        Ending::Refused(number, line) => Made::Refused(number, line, text_line(&begun, line)),
+        Ok(n) => Made::Sheet(n),
+        Err(Refusal { cause, line }) => {
+            Made::Refused(cause.number(), line, text_line(&begun, line))
+        }
     }
 }
 
@@ -69,10 +71,8 @@ pub fn sheet_of(text: &[u8], out: &mut [u8]) -> Made
 pub fn sheet_of_by_table(table: &[u8], text: &[u8], out: &mut [u8]) -> Made
     ensures { MadeByTable table.now text.now out.old out.new result }
 {
-    let loaded = sheet_table::load(table);
-    if loaded.number == 0 {
-        let numbers = loaded.numbers;
-        return sheet_by_numbers(&numbers, text, out);
+    match sheet_table::load(table) {
+        Ok(numbers) => sheet_by_numbers(&numbers, text, out),
+        Err(Refusal { cause, line }) => Made::Refused(cause.number(), line, 0),
     }
-    Made::Refused(loaded.number, loaded.line, 0)
 }

@@ -17,8 +17,8 @@ use Rattle.sheet_format.specs.Line.{all, natural}
 use Rattle.sheet_format.specs.Cause.{term_of}
 use Rattle.sheet_format.specs.Sheet.{over}
 use Rattle.sheet_format.specs.Table.{Table, columns_of, ten}
-use Rattle.sheet_format.specs.declared.FieldTerm.{FieldTerm}
-use Rattle.sheet_format.specs.declared.FieldTerm.TheVariants.{Constant, Variable, OutOfRange}
+use Rattle.sheet_format.specs.Answers.{FieldTerm}
+use Rattle.sheet_format.specs.Answers.FieldTerm.{Constant, Variable, OutOfRange}
 use Rattle.sheet_format.proofs.FieldLaws.{field-length}
 use Rattle.sheet_format.proofs.TableLaws.{Narrow}
 use Rattle.sheet_format.proofs.Lists.{and_left, and_right, and_both}

@@ -19,8 +19,8 @@ use Rattle.sheet_format.specs.Limits.{field_end}
 use Rattle.sheet_format.specs.Line.{natural}
 use Rattle.sheet_format.specs.Cause.{term_of}
 use Rattle.sheet_format.specs.Table.{Table, columns_of, ten}
-use Rattle.sheet_format.specs.declared.FieldTerm.{FieldTerm}
-use Rattle.sheet_format.specs.declared.FieldTerm.TheVariants.{Constant, Variable, OutOfRange}
+use Rattle.sheet_format.specs.Answers.{FieldTerm}
+use Rattle.sheet_format.specs.Answers.FieldTerm.{Constant, Variable, OutOfRange}
 use Rattle.sheet_format.proofs.Lists.{append-nil, map_append}
 use Rattle.text_buffer.specs.Puts.{Put}
 use Rattle.text_buffer.specs.Words.{bytes}

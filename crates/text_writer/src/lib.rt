@@ -8,7 +8,7 @@ ghost use Rattle.text_buffer.specs.Puts.{Put};
 ghost use Rattle.text_buffer.specs.Words.{bytes};
 ghost use Rattle.text_writer.specs.Texts.{without_blanks, word_bytes, number_bytes, variable_letter, term_bytes, terms_bytes, relation_bytes};
 
-use sheet_format::{FIELD_END, FieldTerm, MOST_SHEET_BYTES};
+use sheet_format::{FIELD_END, MOST_SHEET_BYTES, Term};
 use text_buffer::put_byte;
 
 // The room that the text of a sheet, and all that is said in words, want: twice as many bytes as a sheet may have, for the facts of a case.
@@ -76,9 +76,9 @@ pub fn put_term(out: &mut [u8], at: usize, w: i32) -> usize
     ensures { Put out.old out.new at (term_bytes w) result }
 {
     match sheet_terms::term_of(w) {
-        FieldTerm::Variable(index) => put_byte(out, at, variable(index)),
-        FieldTerm::Constant(_) => put_word(out, at, w),
-        FieldTerm::OutOfRange => put_word(out, at, w),
+        Some(Term::Variable(index)) => put_byte(out, at, variable(index)),
+        Some(Term::Constant(_)) => put_word(out, at, w),
+        None => put_word(out, at, w),
     }
 }
 

@@ -5,6 +5,7 @@ use native.Mathlib.Omega.{arith}
 use lib.ListN.{length, get_or}
 use borrow.Author.Rules.{rules}
 use lib.Seq.{length-take-le}
+use Rattle.sheet_format.specs.Returns.{cause_number, ending_of}
 use Rattle.sheet_format.specs.Table.{table_in}
 use Rattle.sheet.proofs.Calls.{few-lines, lines-read, read-clean}
 use Rattle.judge.proofs.Ways.{judged-sent, judged-read}
@@ -13,8 +14,8 @@ use Rattle.judge.proofs.judge_numbers.Goals as goal
 pub overflow_mul-ws : goal.overflow_mul-ws
 overflow_mul-ws c = let a = c.args in
     let rd = c.read in
-    let m = c.in-Done.lines in
-    let done = sym rd.ensures.0 ∙ c.in-Done.is in
+    let m = c.in-Ok.lines in
+    let done = sym rd.ensures.0 ∙ ap ending_of c.in-Ok.is in
     let f = few-lines (table_in a.table.now) a.sheet.now m done in
     let k = rd.auto.out in
     omega arith
@@ -22,8 +23,8 @@ overflow_mul-ws c = let a = c.args in
 pub slice_bounds-ws-end : goal.slice_bounds-ws-end
 slice_bounds-ws-end c = let a = c.args in
     let rd = c.read in
-    let m = c.in-Done.lines in
-    let done = sym rd.ensures.0 ∙ c.in-Done.is in
+    let m = c.in-Ok.lines in
+    let done = sym rd.ensures.0 ∙ ap ending_of c.in-Ok.is in
     let f = few-lines (table_in a.table.now) a.sheet.now m done in
     let k = rd.auto.out in
     omega arith
@@ -31,8 +32,8 @@ slice_bounds-ws-end c = let a = c.args in
 pub slice_bounds-judge_words-end : goal.slice_bounds-judge_words-end
 slice_bounds-judge_words-end c = let a = c.args in
     let rd = c.read in
-    let m = c.in-Done.lines in
-    let done = sym rd.ensures.0 ∙ c.in-Done.is in
+    let m = c.in-Ok.lines in
+    let done = sym rd.ensures.0 ∙ ap ending_of c.in-Ok.is in
     let f = few-lines (table_in a.table.now) a.sheet.now m done in
     let k = rd.auto.out in
     sym (length-take-le (m * 7) rd.new.out (omega arith))
@@ -40,23 +41,23 @@ slice_bounds-judge_words-end c = let a = c.args in
 pub judge_words-requires : goal.judge_words-requires
 judge_words-requires c = let a = c.args in
     let rd = c.read in
-    let m = c.in-Done.lines in
-    let done = sym rd.ensures.0 ∙ c.in-Done.is in
+    let m = c.in-Ok.lines in
+    let done = sym rd.ensures.0 ∙ ap ending_of c.in-Ok.is in
     let f = few-lines (table_in a.table.now) a.sheet.now m done in
     let k = rd.auto.out in
     read-clean (table_in a.table.now) a.sheet.now m done _ rd.new.out refl rd.ensures.1
 
-pub returns-in-Done : goal.returns-in-Done
-returns-in-Done c = let a = c.args in
+pub returns-in-Ok : goal.returns-in-Ok
+returns-in-Ok c = let a = c.args in
     let rd = c.read in
-    let m = c.in-Done.lines in
-    let done = sym rd.ensures.0 ∙ c.in-Done.is in
+    let m = c.in-Ok.lines in
+    let done = sym rd.ensures.0 ∙ ap ending_of c.in-Ok.is in
     let f = few-lines (table_in a.table.now) a.sheet.now m done in
     let k = rd.auto.out in
     λ sound. judged-read (table_in a.table.now) a.sheet.now a.out.now c.judge_words.new.out m _ c.judge_words.result done (lines-read (table_in a.table.now) a.sheet.now m done _ refl rd.new.out rd.ensures.1) (c.judge_words.ensures sound)
 
-pub returns-in-Refused : goal.returns-in-Refused
-returns-in-Refused c =
+pub returns-in-Err : goal.returns-in-Err
+returns-in-Err c =
     let a = c.args in
     let rd = c.read in
-    λ sound. judged-sent (table_in a.table.now) a.sheet.now a.out.now c.in-Refused.number c.in-Refused.line rd.result rd.ensures.0 c.in-Refused.is c.plain.result c.plain.ensures
+    λ sound. judged-sent (table_in a.table.now) a.sheet.now a.out.now (cause_number c.in-Err.refusal.cause) c.in-Err.refusal.line (ending_of rd.result) rd.ensures.0 (ap ending_of c.in-Err.is) c.plain.result (search rules)

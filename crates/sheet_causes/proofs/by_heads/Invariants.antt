@@ -12,6 +12,3 @@ use Rattle.sheet_causes.proofs.by_heads.Given as goal
 
 abbrev pub invariant-loop-i : goal.invariant-loop-i
 invariant-loop-i l = heads (l.i + 1) (drop l.i (word_lines l.ws)) ≡ heads 1 (word_lines l.ws)
-
-abbrev pub decreases-loop-i : goal.decreases-loop-i
-decreases-loop-i l = l.n - l.i

@@ -2,6 +2,7 @@ use native.Mathlib.Omega.{arith}
 use borrow.Author.Tests.{leb-false}
 use Rattle.sheet_format.specs.Limits.{most_lists, most_rows, most_views}
 use Rattle.sheet_format.specs.Cause.{atoms_of}
+use Rattle.sheet_format.specs.Returns.{kind_number}
 use Rattle.sheet_line_causes.proofs.Words.{is-question, is-saved, is_view, is-atom, is_row, other-kind}
 use Rattle.sheet_line_causes.proofs.Lines.{atoms-most}
 use Rattle.sheet_line_causes.proofs.next.Goals as goal
@@ -13,7 +14,7 @@ pub overflow_add-result-in-3 : goal.overflow_add-result-in-3
 overflow_add-result-in-3 c = let h = leb-false most_views c.args.g.views (rw (is_view c.ranges.kind c.in-3.in-3-own.keys3) at c.requires) in omega arith
 
 pub overflow_add-result-in-4 : goal.overflow_add-result-in-4
-overflow_add-result-in-4 c = let h = leb-false (atoms_of c.args.g.block) c.args.g.atoms (rw (is-atom c.ranges.kind c.in-4.in-4-own.keys4) at c.requires) in let m = atoms-most c.args.g.block in omega arith
+overflow_add-result-in-4 c = let h = leb-false (atoms_of (kind_number c.args.g.block)) c.args.g.atoms (rw (is-atom c.ranges.kind c.in-4.in-4-own.keys4) at c.requires) in let m = atoms-most (kind_number c.args.g.block) in omega arith
 
 pub overflow_add-result-in-5 : goal.overflow_add-result-in-5
 overflow_add-result-in-5 c = let h = leb-false most_rows c.args.g.rows (rw (is_row c.ranges.kind c.in-5.in-5-own.keys5) at c.requires) in omega arith

@@ -3,4 +3,4 @@ use Rattle.sheet_own_table.proofs.Means.{own_loads}
 use Rattle.sheet_own_table.proofs.own.Goals as goal
 
 pub returns : goal.returns
-returns c = own_loads c.own_table-numbers.result c.own_table-numbers.ensures
+returns c = own_loads c.own_table.result c.own_table.ensures

@@ -15,6 +15,3 @@ use Rattle.sheet_reader.proofs.fields_at.Given as goal
 
 abbrev pub invariant-loop-j : goal.invariant-loop-j
 invariant-loop-j l = (l.j ≤ l.n) × (all is_number (firsts (drop l.at l.s) l.j) ≡ true) × (l.ws ≡ part_words (drop l.at l.s) l.j)
-
-abbrev pub decreases-loop-j : goal.decreases-loop-j
-decreases-loop-j l = l.n - l.j

@@ -1,8 +1,6 @@
-use borrow.Author.Rules.{rules}
-use Rattle.sheet_table.proofs.Loads.{loaded, not-loaded}
+use Rattle.sheet_format.specs.Cause.{none}
+use Rattle.sheet_table.proofs.Loads.{loaded}
 use Rattle.sheet_table.proofs.load.Goals as goal
 
 pub returns : goal.returns
-returns c = let a = c.args in
-    let r = c.read_lines-r in
-    loaded a.s.now r.new.ns r.result r.ensures
+returns c = loaded c.args.s.now c.read_lines.new.ns none c.in_ok-read_lines.ensures

@@ -4,6 +4,8 @@ use Rattle.query_meaning.specs.Evaluate.{answer_word_count}
 use Rattle.text_judgement.specs.Verdict.{Verdict}
 use Rattle.text_judgement.proofs.Calls.{told}
 use Rattle.text_answer.proofs.Calls.{by_bytes, judged_in}
+use Rattle.std.specs.Prelude.{Ok}
+use Rattle.sheet_table.specs.Loads.{loaded_of}
 use Rattle.text_answer.proofs.verdict.Goals as goal
 
 pub returns : goal.returns
@@ -12,5 +14,5 @@ returns c = λ tb h z.
     let j = c.judge_loaded-j in
     let p = c.put_judgement in
     let m : length j.result.missing ≡ answer_word_count = search rules in
-    by_bytes (λ t. Verdict t a.sheet.now a.out.now p.new.out p.result) tb a.table h z
-    (told a.table.numbers a.sheet.now j.new.out j.result (judged_in tb a.table h z (j.ensures tb h)) m j.auto.out a.out.now p.new.out p.result (omega arith) c.columns.result c.columns.ensures p.ensures)
+    by_bytes (λ t. Verdict t a.sheet.now a.out.now p.new.out p.result) tb (loaded_of (Ok a.table.now)) h z
+    (told a.table.now a.sheet.now j.new.out j.result (judged_in tb (loaded_of (Ok a.table.now)) h z (j.ensures tb h)) m j.auto.out a.out.now p.new.out p.result (omega arith) c.columns.result c.columns.ensures p.ensures)

@@ -1,14 +1,18 @@
+use mathlib.Core.Path.{refl}
+use Rattle.std.specs.Prelude.{Ok, Err}
 use borrow.Author.Rules.{rules}
+use Rattle.sheet_format.specs.Returns.{ending_of}
+use Rattle.sheet_format.proofs.Endings.{named}
+use Rattle.sheet_table.specs.Loads.{loaded_of}
 use Rattle.text_from_sheet.proofs.Calls.{table-refused, table_taken}
 use Rattle.text_from_sheet.proofs.text_of_by_table.Goals as goal
 
-pub returns-then-loaded-eq0 : goal.returns-then-loaded-eq0
-returns-then-loaded-eq0 c = let shown = c.text_by_numbers in
-    let l = c.load-loaded in
+pub returns-in_err-loaded : goal.returns-in_err-loaded
+returns-in_err-loaded c = let r = c.in_err-loaded.field-0.0 in
     let a = c.args in
-    table_taken a.table.now l.result l.ensures a.sheet.now a.out.now c.if-loaded-eq0.true shown.new.out shown.result shown.ensures
+    let h = table-refused a.table.now (loaded_of (Err r)) c.in_err-loaded.ensures a.sheet.now a.out.now (named r.cause) in search rules
 
 pub returns : goal.returns
-returns c = let l = c.load-loaded in
+returns c = let shown = c.text_by_numbers in
     let a = c.args in
-    table-refused a.table.now l.result l.ensures a.sheet.now a.out.now c.if-loaded-eq0.false
+    table_taken a.table.now (loaded_of (Ok c.in_ok-loaded.loaded)) c.in_ok-loaded.ensures a.sheet.now a.out.now refl shown.new.out (ending_of shown.result) shown.ensures

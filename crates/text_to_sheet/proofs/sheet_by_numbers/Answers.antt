@@ -1,4 +1,6 @@
+use mathlib.Core.Path.{ap}
 use borrow.Author.Rules.{rules}
+use Rattle.sheet_format.specs.Returns.{cause_number, ending_of}
 use Rattle.sheet_format.specs.Table.{table_in}
 use Rattle.text_to_sheet.proofs.Calls.{too_long, expected-made, many-made, sheet-made, refused-made}
 use Rattle.text_to_sheet.proofs.sheet_by_numbers.Goals as goal
@@ -14,12 +16,12 @@ pub returns-then-lines-gt-MOST_LINES : goal.returns-then-lines-gt-MOST_LINES
 returns-then-lines-gt-MOST_LINES c = let a = c.args in
     many-made (table_in a.table.now) a.text.now a.out.now c.if-text-gt-MOST_TEXT.false c.run-reached.ensures c.if-c-ne0.false c.if-lines-gt-MOST_LINES.true
 
-pub returns-in-Done : goal.returns-in-Done
-returns-in-Done c = let w = c.write in
+pub returns-in-Ok : goal.returns-in-Ok
+returns-in-Ok c = let w = c.write in
     let a = c.args in
-    sheet-made (table_in a.table.now) a.text.now a.out.now c.if-text-gt-MOST_TEXT.false c.run-reached.ensures c.if-c-ne0.false c.if-lines-gt-MOST_LINES.false w.new.out w.result w.ensures.0 w.ensures.1 c.in-Done.n c.in-Done.is
+    sheet-made (table_in a.table.now) a.text.now a.out.now c.if-text-gt-MOST_TEXT.false c.run-reached.ensures c.if-c-ne0.false c.if-lines-gt-MOST_LINES.false w.new.out (ending_of w.result) w.ensures.0 w.ensures.1 c.in-Ok.n (ap ending_of c.in-Ok.is)
 
-pub returns-in-Refused : goal.returns-in-Refused
-returns-in-Refused c = let w = c.write in
+pub returns-in-Err : goal.returns-in-Err
+returns-in-Err c = let w = c.write in
     let a = c.args in
-    refused-made (table_in a.table.now) a.text.now a.out.now c.if-text-gt-MOST_TEXT.false c.run-reached.ensures c.if-c-ne0.false c.if-lines-gt-MOST_LINES.false w.new.out w.result w.ensures.0 w.ensures.1 c.in-Refused.number c.in-Refused.line c.text_line.result c.in-Refused.is c.text_line.ensures
+    refused-made (table_in a.table.now) a.text.now a.out.now c.if-text-gt-MOST_TEXT.false c.run-reached.ensures c.if-c-ne0.false c.if-lines-gt-MOST_LINES.false w.new.out (ending_of w.result) w.ensures.0 w.ensures.1 (cause_number c.in-Err.cause) c.in-Err.line c.text_line.result (ap ending_of c.in-Err.is) c.text_line.ensures

@@ -1,14 +1,16 @@
+use mathlib.Core.Path.{◌≡◌, refl, sym, ap, ◌∙◌, subst}
+use Rattle.std.specs.Prelude.{Ok, Err}
 use borrow.Author.Rules.{rules}
+use Rattle.sheet_format.proofs.Endings.{named}
+use Rattle.sheet_table.specs.Loads.{Loads, loaded_of}
 use Rattle.text_to_sheet.proofs.Calls.{table-refused, table_taken}
 use Rattle.text_to_sheet.proofs.sheet_of_by_table.Goals as goal
 
-pub returns-then-loaded-eq0 : goal.returns-then-loaded-eq0
-returns-then-loaded-eq0 c = let made = c.sheet_by_numbers in
-    let l = c.load-loaded in
+pub returns-in-Ok : goal.returns-in-Ok
+returns-in-Ok c = let made = c.sheet_by_numbers in
     let a = c.args in
-    table_taken a.table.now l.result l.ensures a.text.now a.out.now c.if-loaded-eq0.true made.new.out made.result made.ensures
+    table_taken a.table.now (loaded_of (Ok c.in-Ok.numbers)) (subst (λ t. Loads a.table.now (loaded_of t)) c.in-Ok.is c.load.ensures) a.text.now a.out.now refl made.new.out made.result made.ensures
 
-pub returns : goal.returns
-returns c = let l = c.load-loaded in
-    let a = c.args in
-    table-refused a.table.now l.result l.ensures a.text.now a.out.now c.if-loaded-eq0.false
+pub returns-in-Err : goal.returns-in-Err
+returns-in-Err c = let a = c.args in
+    let h = table-refused a.table.now (loaded_of (Err (record { cause = c.in-Err.cause; line = c.in-Err.line }))) (subst (λ t. Loads a.table.now (loaded_of t)) c.in-Err.is c.load.ensures) a.text.now a.out.now (named c.in-Err.cause) in search rules
