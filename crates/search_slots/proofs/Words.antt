@@ -34,10 +34,6 @@ module _ (old : List ℕ) (f : ℕ → ℕ) (ws : List ℕ) (n : ℕ) (le : leng
   filled-has : (k : ℕ) → k < 64 * length old → in_set ws k ≡ has_digit (f (k / 64)) (k % 64)
   filled-has k h = at-word ws k (f (k / 64)) (a.each (k / 64) (omega arith) (omega arith))
 
--- a word that a loop has not come to
-pub read-unwritten : (f : ℕ → ℕ) (old ws : List ℕ) (w : ℕ) → w < length old → Filled full_word old ws 0 w f → get_or ws w 0 ≡ set_word old w
-read-unwritten f old ws w h a = let s = a.kept.same in read_word ws w (omega arith) ∙ a.kept.above w (omega arith)
-
 pub filled-empty : (old ws : List ℕ) (n : ℕ) → length old ≤ n → Filled full_word old ws 0 n (λ w. 0) → EmptySet (length old) ws
 filled-empty old ws n le a = record { same = a.kept.same; each = λ k h. filled-has old (λ w. 0) ws n le a k h ∙ has-zero (k % 64) }
 

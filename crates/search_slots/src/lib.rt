@@ -9,10 +9,10 @@ ghost use Rattle.search_slots.specs.Slots.{set_words, set_word, word_less, in_se
 
 use tableau_layout::SLOTS;
 
-// Words with a digit for each slot.
+/// Words with a digit for each slot.
 pub const SET_WORDS: usize = SLOTS / 64 + 1;
 
-// A set with no slot.
+/// A set with no slot.
 pub fn none() -> [u64; SET_WORDS]
     ensures { EmptySet set_words result }
 {
@@ -23,10 +23,7 @@ pub fn none() -> [u64; SET_WORDS]
 fn word(set: &[u64], w: usize) -> u64
     ensures { result ≡ set_word set.now w }
 {
-    if set.len() <= w {
-        return 0xffff_ffff_ffff_ffff;
-    }
-    set[w]
+    set.get(w).copied().unwrap_or(u64::MAX)
 }
 
 // The word whose one digit is digit j.
@@ -44,95 +41,75 @@ fn less(a: u64, b: u64) -> u64
     (a | b) ^ b
 }
 
-// Tells whether a set has slot n.
+/// Tells whether a set has slot n.
 pub fn has(set: &[u64], n: usize) -> bool
     ensures { result ≡ in_set set.now n }
 {
     (word(set, n / 64) >> (n % 64)) & 1 == 1
 }
 
-// Leaves no slot in the set.
+/// Leaves no slot in the set.
 pub fn clear(set: &mut [u64])
     ensures { EmptySet (length set.old) set.new }
 {
-    let end = set.len();
-    let mut w = 0;
-    while w < end {
-        set[w] = 0;
-        w += 1;
-    }
+    set.fill(0);
 }
 
-// Leaves the slots of the others in the set, and no more.
+/// Leaves the slots of the others in the set, and no more.
 pub fn put(set: &mut [u64], others: &[u64])
     ensures { SetPut set.old others.now set.new }
 {
-    let end = set.len();
-    let mut w = 0;
-    while w < end {
-        set[w] = word(others, w);
-        w += 1;
+    for (w, x) in set.iter_mut().enumerate() {
+        *x = word(others, w);
     }
 }
 
-// Puts slot n into the set.
+/// Puts slot n into the set.
 pub fn add(set: &mut [u64], n: usize)
     ensures { SetWith set.old n set.new }
 {
     let w = n / 64;
-    if set.len() <= w {
-        return;
+    if w < set.len() {
+        set[w] |= bit(n % 64);
     }
-    set[w] = set[w] | bit(n % 64);
 }
 
-// Takes slot n out of the set, unless it is past the words.
+/// Takes slot n out of the set, unless it is past the words.
 pub fn drop(set: &mut [u64], n: usize)
     ensures { SetWithout set.old n set.new }
 {
     let w = n / 64;
-    if set.len() <= w {
-        return;
+    if w < set.len() {
+        set[w] = less(set[w], bit(n % 64));
     }
-    set[w] = less(set[w], bit(n % 64));
 }
 
-// Puts the slots of the others into the set.
+/// Puts the slots of the others into the set.
 pub fn join(set: &mut [u64], others: &[u64])
     ensures { SetJoined set.old others.now set.new }
 {
-    let end = set.len();
-    let mut w = 0;
-    while w < end {
-        set[w] = set[w] | word(others, w);
-        w += 1;
+    for (w, x) in set.iter_mut().enumerate() {
+        *x |= word(others, w);
     }
 }
 
-// Takes the slots of the others out of the set, but for those past its words.
+/// Takes the slots of the others out of the set, but for those past its words.
 pub fn subtract(set: &mut [u64], others: &[u64])
     ensures { SetLess set.old others.now set.new }
 {
-    let end = set.len();
-    let mut w = 0;
-    while w < end {
-        set[w] = less(set[w], word(others, w));
-        w += 1;
+    for (w, x) in set.iter_mut().enumerate() {
+        *x = less(*x, word(others, w));
     }
 }
 
-// Whether a slot in the words of a is in both sets.
+/// Whether a slot in the words of a is in both sets.
 pub fn meet(a: &[u64], b: &[u64]) -> bool
     ensures { SetsMeet result a.now b.now }
 {
-    let end = a.len();
-    let mut w = 0;
-    while w < end {
-        let x = a[w];
-        if less(x, word(b, w)) != x {
+    for (w, x) in a.iter().enumerate() {
+        if less(*x, word(b, w)) != *x {
             return true;
         }
-        w += 1;
     }
     false
 }

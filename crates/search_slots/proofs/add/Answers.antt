@@ -1,14 +1,10 @@
-use borrow.Author.Rules.{rules}
-use Prim.Native.Nat.{◌/◌}
 use native.Mathlib.Omega.{arith}
 use lib.Bits.{bit_or}
 use Rattle.search_slots.proofs.Words.{read_word, set_with, past_with}
 use Rattle.search_slots.proofs.add.Goals as goal
 
-pub returns-then-set-w : goal.returns-then-set-w
-returns-then-set-w c = let a = c.args in let t = c.if-set-w.true in past_with a.set.now a.n (omega arith)
+pub returns-then-w-set : goal.returns-then-w-set
+returns-then-w-set c = set_with _ _ _ c.if-w-set.true (λ i. bit_or (read_word _ _ c.if-w-set.true i) (c.bit.ensures i))
 
-pub returns : goal.returns
-returns c = let a = c.args in
-    let h = c.if-set-w.false in
-    set_with a.set.now a.n _ h (λ i. bit_or (read_word a.set.now (a.n / 64) h i) (c.bit.ensures i))
+pub returns-else-w-set : goal.returns-else-w-set
+returns-else-w-set c = past_with _ _ (omega arith)

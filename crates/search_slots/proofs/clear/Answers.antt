@@ -1,13 +1,7 @@
-use borrow.Author.Rules.{rules}
-use mathlib.Core.Path.{◌≡◌, refl}
-use Prim.Native.Nat.{◌≤◌, ◌-◌}
-use native.Mathlib.Omega.{arith}
-use lib.ListN.{length}
-use Rattle.list_laws.specs.Kept.{Filled}
-use Rattle.list_laws.proofs.Ranges.{filled_none, filled_more}
-use Rattle.search_slots.specs.Slots.{full_word}
-use Rattle.search_slots.proofs.Words.{filled-empty}
+use Rattle.std.proofs.Common.{sym, subst}
+use Rattle.search_slots.specs.Slots.{EmptySet}
+use Rattle.search_slots.proofs.Words.{zeros-empty}
 use Rattle.search_slots.proofs.clear.Goals as goal
 
 pub returns : goal.returns
-returns c = let l = c.loop-w in filled-empty _ l.set l.w c.loop-w-test.false l.invariant.2
+returns c = subst (EmptySet _) (sym (c.fill.ensures.after (λ y e. e))) (zeros-empty _)

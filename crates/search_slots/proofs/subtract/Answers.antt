@@ -1,13 +1,5 @@
-use borrow.Author.Rules.{rules}
-use mathlib.Core.Path.{◌≡◌, refl, ◌∙◌}
-use Prim.Native.Nat.{◌≤◌, ◌-◌}
-use native.Mathlib.Omega.{arith}
-use lib.ListN.{length}
-use Rattle.list_laws.specs.Kept.{Filled}
-use Rattle.list_laws.proofs.Ranges.{filled_none, filled_more}
-use Rattle.search_slots.specs.Slots.{full_word, set_word, word_less}
-use Rattle.search_slots.proofs.Words.{read-unwritten, filled-less}
+use Rattle.search_slots.proofs.Words.{filled-less}
 use Rattle.search_slots.proofs.subtract.Goals as goal
 
 pub returns : goal.returns
-returns c = let l = c.loop-w in filled-less _ _ l.set l.w c.loop-w-test.false l.invariant.2
+returns c = filled-less _ _ _ _ c.loop-w-test.false c.loop-w.invariant
