@@ -14,7 +14,7 @@ use tableau_layout::{PLAN_NUMBERS, SLOTS, TABLEAU_ATOMS};
 
 // ---- facts in plain numbers
 
-// Two facts that clash, if there are such.
+/// Two facts that clash, if there are such.
 #[derive(Clone, Copy)]
 pub struct Clash {
     pub some: bool,
@@ -72,7 +72,7 @@ fn clashing(p: &[usize; PLAN_NUMBERS], facts: &[usize], i: usize) -> usize
     m
 }
 
-// Two facts that clash, if there are any.
+/// Two facts that clash, if there are any.
 pub fn first_clash(p: &[usize; PLAN_NUMBERS], facts: &[usize]) -> Clash
     ensures { KeysBy result.some p.now facts.now result.left result.right }
 {
@@ -98,7 +98,7 @@ pub fn first_clash(p: &[usize; PLAN_NUMBERS], facts: &[usize]) -> Clash
 
 // ---- atoms of the tableau
 
-// The rows of two atoms that have to become one.
+/// The rows of two atoms that have to become one.
 #[derive(Clone, Copy)]
 pub struct ClashRows {
     pub left: [usize; 4],
@@ -122,7 +122,7 @@ fn are_one(p: &[usize; PLAN_NUMBERS], ws: &[usize; SLOTS], i: usize, k: usize, n
     true
 }
 
-// Whether atoms i and k of the tableau clash in a key.
+/// Whether atoms i and k of the tableau clash in a key.
 pub fn are_clashing(p: &[usize; PLAN_NUMBERS], ws: &[usize; SLOTS], i: usize, k: usize) -> bool
     ensures { result ≡ true → ClashAt p.now ws.now i k }
 {
@@ -228,7 +228,7 @@ fn mark_row(
     [a, b, c, d]
 }
 
-// The rows of atoms i and k that a key makes one, and the slots by which it does.
+/// The rows of atoms i and k that a key makes one, and the slots by which it does.
 pub fn show(
     p: &[usize; PLAN_NUMBERS],
     ws: &[usize; SLOTS],

@@ -1,16 +1,18 @@
 -- Two rows of roots become one, a column at a time, and their slots are given back.
 use mathlib.Core.Path.{◌≡◌, refl, sym, ap, ◌∙◌, subst}
 use mathlib.Core.Bool.{Bool, true, false}
-use mathlib.Core.List.{List, [], ◌∷◌}
+use mathlib.Core.List.{List, [], ◌∷◌, ◌++◌}
 use mathlib.Core.Logic.{◌⊎◌, inl, inr, ⊎_elim}
 use Prim.Native.Nat.{ℕ, zero, suc, ◌+◌, ◌-◌, ◌<◌, ◌≤◌}
 use native.Mathlib.Omega.{arith}
-use lib.ListN.{length, get_or, set, drop, length-set, drop_of_length-le}
+use lib.ListN.{length, get_or, set, take, drop, length-set, drop_of_length-le}
 use lib.Seq.{get_or-set_same, get_or-set_other, ext_get_or, drop-cons}
+use Rattle.std.proofs.lemmas.List.{take_more}
 use Rattle.query_meaning.specs.Meaning.{In}
 use Rattle.case_verdicts.specs.Search.{Keeps, Met, after, ◌≈◌, equations, Unifier, Clash}
 use Rattle.case_verdicts.specs.Words.{state_of}
 use Rattle.case_verdicts.proofs.Decide.{same?, in?}
+use Rattle.case_verdicts.proofs.Lists.{in_left, in_right, in-cases}
 use Rattle.case_verdicts.proofs.Unify.{unify-none, unify-more, clash-more, clash-rest}
 use Rattle.search_links.specs.Links.{root, Linked, roots}
 use Rattle.search_links.specs.Steps.{RootValue, RootValues, WrittenBy, Merged, MergedBy, Others, MetBy, Freed}
@@ -164,9 +166,6 @@ columns-end top ws out u r (suc c) h p = absurd (omega arith)
 
 -- ---- slots are given back
 
-pub freed_none : (top : ℕ) (ws u : List ℕ) (c : ℕ) → length u ≤ c → Freed top ws ws (drop c u)
-freed_none top ws u c h = rw (drop_of_length-le u h) (record { same = refl; own = λ n m. absurd m; others = λ n off. refl })
-
 module _ (top : ℕ) (ws out us : List ℕ) (v : ℕ) (f : Freed top ws out us) where
   freed_set : top ≤ v → v - top < length out → Freed top ws (set out (v - top) v) (v ∷ us)
   freed_set made here = record {
@@ -191,13 +190,18 @@ module _ (top : ℕ) (ws out us : List ℕ) (v : ℕ) (f : Freed top ws out us) 
   freed_written true next t = rw t.2 (freed_set t.0 t.1)
   freed_written false next t = rw t.1 (freed_kept t.0)
 
-pub freed_more : (top : ℕ) (ws out u : List ℕ) (c : ℕ) (r : Bool) (next : List ℕ) → 0 < c → c ≤ length u → Freed top ws out (drop c u)
-    → WrittenBy r top out next (get_or u (c - 1) 0) (get_or u (c - 1) 0) → Freed top ws next (drop (c - 1) u)
-freed_more top ws out u c r next h g f t = rw (one_more u c h g) (freed_written top ws out (drop c u) (get_or u (c - 1) 0) f r next t)
+-- what stands in the first i + 1 values is the value at i, or stands before it
+pub front_in : (x : ℕ) (u : List ℕ) (i : ℕ) → i < length u → In x (take (i + 1) u) → In x (get_or u i 0 ∷ take i u)
+front_in x u i h m = ⊎_elim (λ k. inr k) (λ k. ⊎_elim (λ e. inl e) (λ k'. elim k' [ ]) k) (in-cases x (take i u) (get_or u i 0 ∷ []) (subst (In x) (take_more u i 0 h) m))
 
-pub freed_all : (top : ℕ) (ws out u : List ℕ) (c : ℕ) → c ≤ 0 → Freed top ws out (drop c u) → Freed top ws out u
-freed_all top ws out u zero h f = f
-freed_all top ws out u (suc c) h f = absurd (omega arith)
+pub front_has : (x : ℕ) (u : List ℕ) (i : ℕ) → i < length u → In x (get_or u i 0 ∷ take i u) → In x (take (i + 1) u)
+front_has x u i h m = subst (In x) (sym (take_more u i 0 h)) (⊎_elim (λ e. in_right x (take i u) _ (inl e)) (λ k. in_left x (take i u) _ k) m)
+
+pub freed_more : (top : ℕ) (ws out u : List ℕ) (i : ℕ) (r : Bool) (next : List ℕ) → i < length u → Freed top ws out (take i u)
+    → WrittenBy r top out next (get_or u i 0) (get_or u i 0) → Freed top ws next (take (i + 1) u)
+freed_more top ws out u i r next h f t =
+    let g = freed_written top ws out (take i u) (get_or u i 0) f r next t in
+    record { same = g.same; own = λ n m. g.own n (front_in (top + n) u i h m); others = λ n off. g.others n (λ m. off (front_has (top + n) u i h m)) }
 
 -- u and r are roots of ws: if `old` differs from ws in their slots alone, giving these back leads to ws
 pub freed_back : (top : ℕ) (ws old mid out u r : List ℕ) → RootValues top ws u → RootValues top ws r → length ws ≡ length old → Others top ws old u r

@@ -12,7 +12,7 @@ ghost use Rattle.search_links.specs.Steps.{RootValues, WrittenBy, MergedBy, Othe
 use query_layout::{COLUMNS, MADE_UP};
 use tableau_layout::SLOTS;
 
-// Writes the words of the first state: each slot its own made-up value. More words than there are slots are left as they are.
+/// Writes the words of the first state: each slot its own made-up value. More words than there are slots are left as they are.
 pub fn free(ws: &mut [usize])
     ensures ws_after { length ws.old ≤ slot_end → state_of top ws.new ≡ search.free top }
     ensures ws_unchanged { slot_end < length ws.old → ws.new ≡ ws.old }
@@ -20,14 +20,12 @@ pub fn free(ws: &mut [usize])
     if SLOTS < ws.len() {
         return;
     }
-    let mut n = 0;
-    while n < ws.len() {
-        ws[n] = MADE_UP + n;
-        n += 1;
+    for (n, w) in ws.iter_mut().enumerate() {
+        *w = MADE_UP + n;
     }
 }
 
-// The value at the end of v's links. A word that is not lower than its slot's own value is no link, so this ends for any words.
+/// The value at the end of v's links. A word that is not lower than its slot's own value is no link, so this ends for any words.
 pub fn root_of(ws: &[usize], v: usize) -> usize
     ensures { result ≡ root top (state_of top ws.now) v }
 {
@@ -46,7 +44,7 @@ pub fn root_of(ws: &[usize], v: usize) -> usize
     x
 }
 
-// The value at a place of the tableau: below SLOTS a slot, from there on a constant.
+/// The value at a place of the tableau: below SLOTS a slot, from there on a constant.
 pub fn place_value(ws: &[usize], w: usize) -> usize
     ensures { result ≡ place_root top ws.now w }
 {
@@ -88,11 +86,9 @@ fn merge(ws: &mut [usize], v: usize, w: usize) -> bool
 
 // Merges u and r column by column, from the last one on, and stops at the first that cannot be.
 fn merge_all(ws: &mut [usize], u: &[usize; 4], r: &[usize; 4]) -> bool
-    ensures { length u.now ≡ 4 → length r.now ≡ 4 → RootValues top ws.old u.now → RootValues top ws.old r.now → MetBy result top ws.old ws.new u.now r.now }
+    ensures { RootValues top ws.old u.now → RootValues top ws.old r.now → MetBy result top ws.old ws.new u.now r.now }
 {
-    let mut c = COLUMNS;
-    while 0 < c {
-        c -= 1;
+    for c in (0..COLUMNS).rev() {
         if !merge(ws, u[c], r[c]) {
             return false;
         }
@@ -102,17 +98,14 @@ fn merge_all(ws: &mut [usize], u: &[usize; 4], r: &[usize; 4]) -> bool
 
 // Unlinks the slots of u's made-up values: each gets its own value.
 fn unlink(ws: &mut [usize], u: &[usize; 4])
-    ensures { length u.now ≡ 4 → Freed top ws.old ws.new u.now }
+    ensures { Freed top ws.old ws.new u.now }
 {
-    let mut c = COLUMNS;
-    while 0 < c {
-        c -= 1;
-        let v = u[c];
-        write(ws, v, v);
+    for v in u {
+        write(ws, *v, *v);
     }
 }
 
-// Takes back what equating u and r wrote: the words are again those of which both were roots, if no slot but theirs has been written since.
+/// Takes back what equating u and r wrote: the words are again those of which both were roots, if no slot but theirs has been written since.
 pub fn release(ws: &mut [usize], u: &[usize; 4], r: &[usize; 4])
     ensures { length u.now ≡ 4 → length r.now ≡ 4 → (old : List ℕ) → RootValues top old u.now → RootValues top old r.now → length old ≡ length ws.old → Others top old ws.old u.now r.now → ws.new ≡ old }
 {
@@ -120,7 +113,7 @@ pub fn release(ws: &mut [usize], u: &[usize; 4], r: &[usize; 4])
     unlink(ws, r);
 }
 
-// Makes two rows of roots one, in each column by a link from the higher value to the lower. False if constants clash, and then the words stay.
+/// Makes two rows of roots one, in each column by a link from the higher value to the lower. False if constants clash, and then the words stay.
 pub fn equate(ws: &mut [usize], u: &[usize; 4], r: &[usize; 4]) -> bool
     ensures { length u.now ≡ 4 → length r.now ≡ 4 → RootValues top ws.old u.now → RootValues top ws.old r.now → EquatedBy result top ws.old ws.new u.now r.now }
 {

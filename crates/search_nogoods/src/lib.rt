@@ -11,7 +11,7 @@ ghost use Rattle.search_nogoods.specs.Parts.{NoValueTo, SetStored, ValueMoved, A
 use query_layout::{COLUMNS, MADE_UP};
 use search_slots::SET_WORDS;
 
-// The table holds at most this many entries: a slot and a value each, then how many there are; and the words of the set that each rests on.
+/// The table holds at most this many entries: a slot and a value each, then how many there are; and the words of the set that each rests on.
 pub const MOST_VALUES: usize = 240;
 
 const MEMORY_COUNT_AT: usize = MOST_VALUES * 2;
@@ -20,7 +20,7 @@ pub const MEMORY_NUMBERS: usize = MEMORY_COUNT_AT + 1;
 
 pub const MEMORY_WORDS: usize = MOST_VALUES * SET_WORDS;
 
-// How many entries there are.
+/// How many entries there are.
 pub fn count(sl: &[usize; MEMORY_NUMBERS]) -> usize
     ensures value { result ≡ memory_count sl.now }
     ensures upper_bound { result ≤ most_values }
@@ -45,7 +45,7 @@ fn put_set(sm: &mut [u64; MEMORY_WORDS], e: usize, set: [u64; SET_WORDS])
     }
 }
 
-// Notes that slot n cannot have the value w, which rests on the set, if there is room.
+/// Notes that slot n cannot have the value w, which rests on the set, if there is room.
 pub fn note(
     sl: &mut [usize; MEMORY_NUMBERS],
     sm: &mut [u64; MEMORY_WORDS],
@@ -175,7 +175,7 @@ fn settle(
     k
 }
 
-// Keeps the entries that rest on no slot of the set. Most often nothing has to go, and then nothing is moved.
+/// Keeps the entries that rest on no slot of the set. Most often nothing has to go, and then nothing is moved.
 pub fn forget(
     sl: &mut [usize; MEMORY_NUMBERS],
     sm: &mut [u64; MEMORY_WORDS],
@@ -230,7 +230,7 @@ fn is_excluded_at(
     join_set(sm, e, set)
 }
 
-// Whether u cannot become the row, as an entry says; if so, what that rests on is put into the set.
+/// Whether u cannot become the row, as an entry says; if so, what that rests on is put into the set.
 pub fn is_excluded(
     u: &[usize; 4],
     row: &[usize; 4],
@@ -268,8 +268,8 @@ fn column_in(u: &[usize; 4], set: &[u64]) -> usize
     COLUMNS
 }
 
-// A failure rests on the words of the slots in `below`, and those of the slots in `changed` are about to be taken back. Where only one of these is in
-// `below`, the slot of a value of u, and its word is a constant, it is this constant that fails there as long as the other words stay: that is noted.
+/// A failure rests on the words of the slots in `below`, and those of the slots in `changed` are about to be taken back. Where only one of these is in
+/// `below`, the slot of a value of u, and its word is a constant, it is this constant that fails there as long as the other words stay: that is noted.
 pub fn learn(
     ws: &[usize],
     below: &[u64; SET_WORDS],

@@ -9,7 +9,7 @@ use query_layout::{COLUMNS, MADE_UP};
 use search_slots::SET_WORDS;
 use tableau_layout::SLOTS;
 
-// Marks the slots by which a place's value is where its links end.
+/// Marks the slots by which a place's value is where its links end.
 pub fn mark_way(ws: &[usize], w: usize, set: &mut [u64])
     ensures { (Place w → WayMarked ws.now w set.old set.new) × (length set.new ≡ length set.old) }
 {
@@ -31,7 +31,7 @@ pub fn mark_way(ws: &[usize], w: usize, set: &mut [u64])
     }
 }
 
-// Whether two places have one value; if so, the slots by which they have are marked.
+/// Whether two places have one value; if so, the slots by which they have are marked.
 pub fn agree(ws: &[usize], w: usize, z: usize, set: &mut [u64]) -> bool
     ensures { (Place w → Place z → AgreesBy result ws.now w z set.old set.new) × (length set.new ≡ length set.old) }
 {
@@ -60,7 +60,7 @@ fn add_slots(u: &[usize; 4], set: &mut [u64; SET_WORDS])
     }
 }
 
-// The slots of the made-up values of two rows.
+/// The slots of the made-up values of two rows.
 pub fn slots_of(u: &[usize; 4], r: &[usize; 4]) -> [u64; SET_WORDS]
     ensures { (length u.now ≡ 4 → length r.now ≡ 4 → SlotsOf u.now r.now result) × (length result ≡ set_words) }
 {

@@ -46,7 +46,7 @@ fn numbers(p: &[usize; PLAN_NUMBERS], st: &[usize], from: usize, count: usize, o
     }
 }
 
-// The facts of the tableau under a state, from atom `from` on, five numbers each, in front of the output; how many facts.
+/// The facts of the tableau under a state, from atom `from` on, five numbers each, in front of the output; how many facts.
 pub fn facts(p: &[usize; PLAN_NUMBERS], st: &[usize], from: usize, out: &mut [usize]) -> usize
     ensures { length p.now ≡ plan_numbers → from ≤ tableau_size p.now → tableau_size p.now ≤ tableau_atoms → slot_end ≤ length st.now → tableau_numbers ≤ length out.old
         → (result ≡ tableau_size p.now - from) × (take (result * 5) out.new ≡ tableau_facts p.now (state_of top st.now) from result) }

@@ -18,7 +18,7 @@ use tableau_layout::{
 // Past every place of the tableau.
 const NOWHERE: usize = SLOTS + MADE_UP;
 
-// Whether a block's atoms become facts, and the row that its head then has.
+/// Whether a block's atoms become facts, and the row that its head then has.
 #[derive(Clone, Copy)]
 pub struct ShownRow {
     pub ok: bool,
@@ -215,8 +215,8 @@ fn reads_row(
     ShownRow { ok, row }
 }
 
-// Whether the atoms `at` of the tableau, all from atom `from` on, give block b a row in this state, and which. The slots that this rests on are
-// marked; where it is not so, slots may be marked for nothing.
+/// Whether the atoms `at` of the tableau, all from atom `from` on, give block b a row in this state, and which. The slots that this rests on are
+/// marked; where it is not so, slots may be marked for nothing.
 pub fn show(
     p: &[usize; PLAN_NUMBERS],
     ws: &[usize],
@@ -258,7 +258,7 @@ fn own_places() -> [usize; NAMES]
     first
 }
 
-// The question's head in this state; the slots that this rests on are marked.
+/// The question's head in this state; the slots that this rests on are marked.
 pub fn asked(p: &[usize; PLAN_NUMBERS], ws: &[usize], set: &mut [u64]) -> ShownRow
     ensures asked_shown { result.ok ≡ true → AskedShown p.now ws.now result.row set.old set.new }
     ensures set_len_unchanged { length set.new ≡ length set.old }
