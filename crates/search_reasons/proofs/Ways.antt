@@ -5,8 +5,7 @@ use mathlib.Core.List.{List, ◌∷◌}
 use mathlib.Core.Logic.{inl, inr, ⊎_elim}
 use Prim.Native.Nat.{ℕ, zero, suc, ◌+◌, ◌-◌, ◌<◌, ◌≤◌}
 use native.Mathlib.Omega.{arith}
-use lib.ListN.{length, get_or, drop, drop_of_length-le}
-use lib.Seq.{drop-cons}
+use lib.ListN.{length, get_or, take}
 use borrow.Author.Tests.{lt-ltb, le-ltb, ne_eqb}
 use Rattle.list_laws.proofs.Lists.{inside}
 use Rattle.tableau_layout.specs.Layout.{slot_end}
@@ -21,6 +20,7 @@ use Rattle.search_slots.proofs.Laws.{with_within, with_has}
 use Rattle.search_links.specs.Links.{link_step, root, place_root, value_under}
 use Rattle.search_links.proofs.Links.{root-fixed, root-step}
 use Rattle.search_links.proofs.Words.{step-word, place-slot, place-constant}
+use Rattle.search_links.proofs.Rows.{front_in, front_has}
 use Rattle.search_links.proofs.Under.{under-constant, under-made, under-own}
 use Rattle.search_reasons.specs.Reasons.{Obeys, Place, WayMarked, AgreementMarked, SlotsAdded, SlotsOf}
 use Rattle.search_reasons.proofs.Laws.{obeys-less, way-still}
@@ -81,12 +81,6 @@ agree_ways e a b = let c = way-still a b.more in
 
 -- ---- the slots of a row
 
-pub added_none : (u : List ℕ) (c : ℕ) (set : List ℕ) → length u ≤ c → SlotsAdded (drop c u) set set
-added_none u c set h = rw (drop_of_length-le u h) (record { has = λ n m. absurd m; rest = λ n off. refl })
-
-one_more : (u : List ℕ) (c : ℕ) → 0 < c → c ≤ length u → drop (c - 1) u ≡ get_or u (c - 1) 0 ∷ drop c u
-one_more u c h g = drop-cons u (c - 1) 0 (omega arith) ∙ ap (λ (k : ℕ). get_or u (c - 1) 0 ∷ drop k u) (let e : suc (c - 1) ≡ c = omega arith in e)
-
 module _ {old set us : List ℕ} (v : ℕ) (a : SlotsAdded us old set) where
   added_constant : v < top → SlotsAdded (v ∷ us) old set
   added_constant h = record {
@@ -100,16 +94,15 @@ module _ {old set us : List ℕ} (v : ℕ) (a : SlotsAdded us old set) where
     rest = λ n off. w.each n ∙ ap (λ (b : Bool). b || in_set set n) (ne_eqb n (v - top) (λ e. off (inl (omega arith)))) ∙ a.rest n (λ m. off (inr m));
   }
 
-module _ (u : List ℕ) {old set : List ℕ} (c : ℕ) (some : 0 < c) (here : c ≤ length u) (a : SlotsAdded (drop c u) old set) where
-  pub added_less : get_or u (c - 1) 0 < top → SlotsAdded (drop (c - 1) u) old set
-  added_less h = rw (one_more u c some here) (added_constant (get_or u (c - 1) 0) a h)
+module _ (u : List ℕ) {old set : List ℕ} (i : ℕ) (here : i < length u) (a : SlotsAdded (take i u) old set) where
+  fronted : {next : List ℕ} → SlotsAdded (get_or u i 0 ∷ take i u) old next → SlotsAdded (take (i + 1) u) old next
+  fronted b = record { has = λ n m. b.has n (front_in (top + n) u i here m); rest = λ n off. b.rest n (λ m. off (front_has (top + n) u i here m)) }
 
-  pub added_more : {next : List ℕ} → top ≤ get_or u (c - 1) 0 → SetWith set (get_or u (c - 1) 0 - top) next → SlotsAdded (drop (c - 1) u) old next
-  added_more h w = rw (one_more u c some here) (added_slot (get_or u (c - 1) 0) a h w)
+  pub added_less : get_or u i 0 < top → SlotsAdded (take (i + 1) u) old set
+  added_less h = fronted (added_constant (get_or u i 0) a h)
 
-pub added_all : {u old set : List ℕ} (c : ℕ) → c ≤ 0 → SlotsAdded (drop c u) old set → SlotsAdded u old set
-added_all zero h a = a
-added_all (suc c) h a = absurd (omega arith)
+  pub added_more : {next : List ℕ} → top ≤ get_or u i 0 → SetWith set (get_or u i 0 - top) next → SlotsAdded (take (i + 1) u) old next
+  added_more h w = fronted (added_slot (get_or u i 0) a h w)
 
 pub slots-both : {u r none mid set : List ℕ} → EmptySet set_words none → SlotsAdded u none mid → SlotsAdded r mid set → SlotsOf u r set
 slots-both {u} {r} {none} {mid} {set} z a b = record {

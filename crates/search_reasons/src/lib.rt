@@ -5,7 +5,7 @@ ghost use Rattle.std.specs.Prelude.{◌≡◌, length};
 ghost use Rattle.search_slots.specs.Slots.{set_words};
 ghost use Rattle.search_reasons.specs.Reasons.{Place, WayMarked, AgreesBy, SlotsAdded, SlotsOf};
 
-use query_layout::{COLUMNS, MADE_UP};
+use query_layout::MADE_UP;
 use search_slots::SET_WORDS;
 use tableau_layout::SLOTS;
 
@@ -48,14 +48,11 @@ pub fn agree(ws: &[usize], w: usize, z: usize, set: &mut [u64]) -> bool
 
 // Adds the slots of a row's made-up values.
 fn add_slots(u: &[usize; 4], set: &mut [u64; SET_WORDS])
-    ensures { (length u.now ≡ 4 → SlotsAdded u.now set.old set.new) × (length set.new ≡ length set.old) }
+    ensures { SlotsAdded u.now set.old set.new }
 {
-    let mut c = COLUMNS;
-    while 0 < c {
-        c -= 1;
-        let v = u[c];
-        if MADE_UP <= v {
-            search_slots::add(set, v - MADE_UP);
+    for v in u {
+        if MADE_UP <= *v {
+            search_slots::add(set, *v - MADE_UP);
         }
     }
 }

@@ -39,10 +39,8 @@ fn numbers(p: &[usize; PLAN_NUMBERS], st: &[usize], from: usize, count: usize, o
     requires { (from + count ≤ tableau_numbers) × (slot_end ≤ length st.now) × (count ≤ length out.old) }
     ensures { (x : ℕ) → x < count → get_or out.new x 0 ≡ number_under p.now (state_of top st.now) (from + x) }
 {
-    let mut x = 0;
-    while x < count {
+    for x in 0..count {
         out[x] = number_at(p, st, from + x);
-        x += 1;
     }
 }
 
@@ -52,16 +50,7 @@ pub fn facts(p: &[usize; PLAN_NUMBERS], st: &[usize], from: usize, out: &mut [us
         → (result ≡ tableau_size p.now - from) × (take (result * 5) out.new ≡ tableau_facts p.now (state_of top st.now) from result) }
 {
     let size = p[TABLEAU_SIZE_AT];
-    if size < from {
-        return 0;
-    }
-    if TABLEAU_ATOMS < size {
-        return 0;
-    }
-    if st.len() < SLOTS {
-        return 0;
-    }
-    if out.len() < TABLEAU_NUMBERS {
+    if size < from || TABLEAU_ATOMS < size || st.len() < SLOTS || out.len() < TABLEAU_NUMBERS {
         return 0;
     }
     let n = size - from;
