@@ -1,12 +1,12 @@
 // A table of values that slots of the search cannot have, each with the set of slots that this rests on.
 #![tactic(auto)]
 
-ghost use Rattle.std.specs.Prelude.{◌≡◌, false, ◌+◌, ◌*◌, ◌<◌, ◌≤◌, length, get_or};
+ghost use Rattle.std.specs.Prelude.{◌≡◌, true, ◌+◌, ◌<◌, ◌≤◌, length, IfSome, Contains};
 ghost use Rattle.case_verdicts.specs.Sheets.{top};
 ghost use Rattle.search_nogoods.specs.Sizes.{most_values, memory_numbers, memory_words};
-ghost use Rattle.search_nogoods.specs.Memory.{memory_slot, memory_value, memory_set, memory_count};
-ghost use Rattle.search_nogoods.specs.Memory.{MemoryMore, NotedValue, SetsApart, MemoryLess, ExcludedBy, LearnedValue};
-ghost use Rattle.search_nogoods.specs.Parts.{NoValueTo, SetStored, ValueMoved, ApartBefore, KeptApart, SetJoinedBy};
+ghost use Rattle.search_slots.specs.Slots.{in_set};
+ghost use Rattle.search_nogoods.specs.Memory.{memory_set, memory_count, MemoryMore, NotedValue, MemoryLess, ExcludedBy, LearnedValue};
+ghost use Rattle.search_nogoods.specs.Parts.{FoundValue, SetStored, ValueMoved};
 
 use query_layout::{COLUMNS, MADE_UP};
 use search_slots::SET_WORDS;
@@ -25,24 +25,25 @@ pub fn count(sl: &[usize; MEMORY_NUMBERS]) -> usize
     ensures value { result ≡ memory_count sl.now }
     ensures upper_bound { result ≤ most_values }
 {
-    let n = sl[MEMORY_COUNT_AT];
-    if MOST_VALUES < n {
-        return MOST_VALUES;
-    }
-    n
+    sl[MEMORY_COUNT_AT].min(MOST_VALUES)
 }
 
-// Lets entry e rest on a set. The set comes by value, so that all of it is copied at once.
-fn put_set(sm: &mut [u64; MEMORY_WORDS], e: usize, set: [u64; SET_WORDS])
+// The set that entry e rests on.
+fn set_of(sm: &[u64; MEMORY_WORDS], e: usize) -> &[u64]
     requires { e < most_values }
-    ensures set_stored { length sm.old ≡ memory_words → SetStored sm.old e set sm.new }
-    ensures sm_len_unchanged { length sm.new ≡ length sm.old }
+    ensures { result.now ≡ memory_set sm.now e }
 {
-    let mut k = 0;
-    while k < SET_WORDS {
-        sm[e * SET_WORDS + k] = set[k];
-        k += 1;
-    }
+    let at = e * SET_WORDS;
+    &sm[at..at + SET_WORDS]
+}
+
+// Lets entry e rest on a set.
+fn put_set(sm: &mut [u64; MEMORY_WORDS], e: usize, set: &[u64; SET_WORDS])
+    requires { e < most_values }
+    ensures { SetStored sm.old e set.now sm.new }
+{
+    let at = e * SET_WORDS;
+    sm[at..at + SET_WORDS].copy_from_slice(set);
 }
 
 /// Notes that slot n cannot have the value w, which rests on the set, if there is room.
@@ -64,115 +65,38 @@ pub fn note(
     sl[e * 2] = n;
     sl[e * 2 + 1] = w;
     sl[MEMORY_COUNT_AT] = e + 1;
-    put_set(sm, e, *set);
+    put_set(sm, e, set);
 }
 
-// The first entry for slot n and value w; the count if there is none.
-fn find(sl: &[usize; MEMORY_NUMBERS], n: usize, w: usize) -> usize
-    ensures result_value { result < memory_count sl.now → (memory_slot sl.now result ≡ n) × (memory_value sl.now result ≡ w) }
-    ensures upper_bound { result ≤ most_values }
-    ensures no_value_to { NoValueTo sl.now n w result }
+// The first entry for slot n and value w, if there is one.
+fn find(sl: &[usize; MEMORY_NUMBERS], n: usize, w: usize) -> Option<usize>
+    ensures { FoundValue sl.now n w result }
 {
-    let m = count(sl);
-    let mut e = 0;
-    while e < m {
-        let i = e;
-        e += 1;
-        if sl[i * 2] != n {
-            continue;
-        }
-        if sl[i * 2 + 1] == w {
-            return i;
+    for e in 0..count(sl) {
+        if sl[e * 2] == n && sl[e * 2 + 1] == w {
+            return Some(e);
         }
     }
-    m
+    None
 }
 
-// Whether entry e rests on a slot of the set, or is not there.
-fn rests_on(sm: &[u64], e: usize, set: &[u64]) -> bool
-    requires { e < most_values }
-    ensures { result ≡ false → SetsApart (memory_set sm.now e) set.now }
-{
-    let at = e * SET_WORDS;
-    if sm.len() < at + SET_WORDS {
-        return true;
-    }
-    search_slots::meet(&sm[at..at + SET_WORDS], set)
-}
-
-// The first of n entries that rests on a slot of the set; n if there is none.
-fn first_on(sm: &[u64; MEMORY_WORDS], n: usize, set: &[u64; SET_WORDS]) -> usize
-    requires { n ≤ most_values }
-    ensures upper_bound { result ≤ n }
-    ensures apart_before { ApartBefore sm.now set.now result }
-{
-    let mut e = 0;
-    while e < n {
-        if rests_on(sm, e, set) {
-            return e;
-        }
-        e += 1;
-    }
-    n
-}
-
-// Lets an entry rest on the set of a later one.
-fn move_set(sm: &mut [u64; MEMORY_WORDS], from: usize, to: usize)
-    requires { (to < from) × (from < most_values) }
-    ensures set_stored { length sm.old ≡ memory_words → SetStored sm.old to (memory_set sm.old from) sm.new }
-    ensures sm_len_unchanged { length sm.new ≡ length sm.old }
-{
-    let mut k = 0;
-    while k < SET_WORDS {
-        sm[to * SET_WORDS + k] = sm[from * SET_WORDS + k];
-        k += 1;
-    }
-}
-
-// Puts an entry in the place of an earlier one.
+// Puts an entry in the place of an earlier one, or leaves it in its own.
 fn move_entry(
     sl: &mut [usize; MEMORY_NUMBERS],
     sm: &mut [u64; MEMORY_WORDS],
     from: usize,
     to: usize,
 )
-    requires { (to < from) × (from < most_values) }
-    ensures value_moved { length sl.old ≡ memory_numbers → length sm.old ≡ memory_words → ValueMoved sl.old sm.old from to sl.new sm.new }
-    ensures sl_len_unchanged { length sl.new ≡ length sl.old }
-    ensures sm_len_unchanged { length sm.new ≡ length sm.old }
+    requires { (to ≤ from) × (from < most_values) }
+    ensures { ValueMoved sl.old sm.old from to sl.new sm.new }
 {
+    if to == from {
+        return;
+    }
     sl[to * 2] = sl[from * 2];
     sl[to * 2 + 1] = sl[from * 2 + 1];
-    move_set(sm, from, to);
-}
-
-// Moves those of the first n entries that rest on no slot of the set down; the one at `first` does rest on one, and none before it. How many there
-// are then.
-fn settle(
-    sl: &mut [usize; MEMORY_NUMBERS],
-    sm: &mut [u64; MEMORY_WORDS],
-    n: usize,
-    set: &[u64; SET_WORDS],
-    first: usize,
-) -> usize
-    requires { (n ≤ most_values) × (first < n) }
-    ensures upper_bound { result ≤ n }
-    ensures kept_apart { length sl.old ≡ memory_numbers → length sm.old ≡ memory_words → ApartBefore sm.old set.now first → KeptApart sl.old sm.old set.now n result sl.new sm.new }
-    ensures sl_len_unchanged { length sl.new ≡ length sl.old }
-    ensures sm_len_unchanged { length sm.new ≡ length sm.old }
-{
-    let mut k = first;
-    let mut e = first + 1;
-    while e < n {
-        let from = e;
-        e += 1;
-        if rests_on(sm, from, set) {
-            continue;
-        }
-        move_entry(sl, sm, from, k);
-        k += 1;
-    }
-    k
+    let at = from * SET_WORDS;
+    sm.copy_within(at..at + SET_WORDS, to * SET_WORDS);
 }
 
 /// Keeps the entries that rest on no slot of the set. Most often nothing has to go, and then nothing is moved.
@@ -186,25 +110,15 @@ pub fn forget(
     ensures sm_len_unchanged { length sm.new ≡ length sm.old }
 {
     let n = count(sl);
-    let first = first_on(sm, n, set);
-    if n <= first {
-        return;
+    let mut kept = 0;
+    for e in 0..n {
+        if search_slots::meet(set_of(sm, e), set) {
+            continue;
+        }
+        move_entry(sl, sm, e, kept);
+        kept += 1;
     }
-    let k = settle(sl, sm, n, set, first);
-    sl[MEMORY_COUNT_AT] = k;
-}
-
-// Joins the set that entry e rests on, if it is there.
-fn join_set(sm: &[u64], e: usize, set: &mut [u64]) -> bool
-    requires { e ≤ most_values }
-    ensures { SetJoinedBy result set.old (memory_set sm.now e) set.new }
-{
-    let at = e * SET_WORDS;
-    if sm.len() < at + SET_WORDS {
-        return false;
-    }
-    search_slots::join(set, &sm[at..at + SET_WORDS]);
-    true
+    sl[MEMORY_COUNT_AT] = kept;
 }
 
 // Whether the row's value in column c is one that the slot of u's there cannot have; if so, what that rests on is put into the set.
@@ -223,11 +137,11 @@ fn is_excluded_at(
     if v < MADE_UP {
         return false;
     }
-    let e = find(sl, v - MADE_UP, row[c]);
-    if count(sl) <= e {
+    let Some(e) = find(sl, v - MADE_UP, row[c]) else {
         return false;
-    }
-    join_set(sm, e, set)
+    };
+    search_slots::join(set, set_of(sm, e));
+    true
 }
 
 /// Whether u cannot become the row, as an entry says; if so, what that rests on is put into the set.
@@ -241,31 +155,21 @@ pub fn is_excluded(
     ensures excluded_by { ExcludedBy result u.now row.now sl.now sm.now set.old set.new }
     ensures set_len_unchanged { length set.new ≡ length set.old }
 {
-    let mut c = 0;
-    while c < COLUMNS {
+    for c in 0..COLUMNS {
         if is_excluded_at(u, row, c, sl, sm, set) {
             return true;
         }
-        c += 1;
     }
     false
 }
 
-// The column of the first made-up value of u whose slot is in the set; 4 if there is none.
-fn column_in(u: &[usize; 4], set: &[u64]) -> usize
-    ensures { result < 4 → top ≤ get_or u.now result 0 }
+// The slot of the first made-up value of u that is in the set, if there is one.
+fn first_in(u: &[usize; 4], set: &[u64]) -> Option<usize>
+    ensures { IfSome result (λ n. Contains u.now (top + n) × (in_set set.now n ≡ true)) }
 {
-    let mut c = 0;
-    while c < COLUMNS {
-        let v = u[c];
-        if MADE_UP <= v {
-            if search_slots::has(set, v - MADE_UP) {
-                return c;
-            }
-        }
-        c += 1;
-    }
-    COLUMNS
+    u.iter()
+        .filter_map(|v| v.checked_sub(MADE_UP))
+        .find(|n| search_slots::has(set, *n))
 }
 
 /// A failure rests on the words of the slots in `below`, and those of the slots in `changed` are about to be taken back. Where only one of these is in
@@ -282,11 +186,9 @@ pub fn learn(
     ensures sl_len_unchanged { length sl.new ≡ length sl.old }
     ensures sm_len_unchanged { length sm.new ≡ length sm.old }
 {
-    let c = column_in(u, below);
-    if COLUMNS <= c {
+    let Some(n) = first_in(u, below) else {
         return;
-    }
-    let n = u[c] - MADE_UP;
+    };
     if ws.len() <= n {
         return;
     }

@@ -1,22 +1,23 @@
-use borrow.Author.Rules.{rules}
-use mathlib.Core.Path.{refl, ◌∙◌}
-use native.Mathlib.Omega.{arith}
-use lib.ListN.{length-set}
-use Rattle.search_nogoods.specs.Sizes.{memory_count_at}
-use Rattle.search_nogoods.proofs.Laws.{less_none, less-some}
+use Rattle.std.proofs.Common.{◌≡◌, arith, ap, subst, length, ◌∙◌}
+use Rattle.search_nogoods.specs.Memory.{SetsApart}
+use Rattle.search_nogoods.proofs.Laws.{rests-length, apart_of, keeping_move, less-some}
 use Rattle.search_nogoods.proofs.forget.Goals as goal
 
-pub returns-then-n-first-clause-memory_less : goal.returns-then-n-first-clause-memory_less
-returns-then-n-first-clause-memory_less c = let a = c.args in
-    let f = c.first_on-first in
-    let n = c.count-n in
-    let e = n.ensures.value in
-    λ ll lm. less_none a.sl.now a.sm.now a.set.now f.result (omega arith) f.ensures.apart_before
+pub loop-e-preserved : goal.loop-e-preserved
+loop-e-preserved c = let a = c.args in
+    let l = c.loop-e in
+    let m = c.move_entry in
+    let s = c.set_of in
+    let long : length s.result.now ≡ 9 = ap length s.ensures ∙ rests-length l.sm l.e (omega arith) (omega arith) in
+    record {
+      few = omega arith;
+      long = omega arith;
+      wide = omega arith;
+      keeping = keeping_move a.sl.now a.sm.now a.set.now c.count-n.result l.kept l.e l.sl l.sm l.invariant.keeping m.new.sl m.new.sm (omega arith) (omega arith) (omega arith)
+          (subst (λ x. SetsApart x a.set.now) s.ensures (apart_of _ _ _ long c.meet.ensures c.if-meet.false)) m.ensures;
+    }
 
 pub returns-clause-memory_less : goal.returns-clause-memory_less
 returns-clause-memory_less c = let a = c.args in
-    let f = c.first_on-first in
-    let n = c.count-n in
-    let s = c.settle-k in
-    let l = s.ensures.sl_len_unchanged in λ ll lm. less-some a.sl.now a.sm.now a.set.now n.result s.result s.new.sl s.new.sm n.ensures.value s.ensures.upper_bound
-    (l ∙ ll) (s.ensures.kept_apart ll lm f.ensures.apart_before)
+    let l = c.loop-e in
+    λ ll lm. less-some a.sl.now a.sm.now a.set.now c.count-n.result l.kept l.sl l.sm c.count-n.ensures.value (omega arith) (omega arith) l.invariant.keeping.kept
