@@ -1,23 +1,25 @@
 -- Keys among facts in numbers are keys of their log. Assumes nothing.
 use mathlib.Core.Path.{◌≡◌, refl, sym, ap, ◌∙◌, subst}
-use mathlib.Core.Bool.{Bool, true, false, not, true≢false}
+use mathlib.Core.Bool.{Bool, true, false, true≢false}
 use mathlib.Core.List.{List, []}
 use mathlib.Core.Logic.{◌⊎◌, inl, inr, ⊎_elim}
 use Prim.Native.Nat.{ℕ, ◌+◌, ◌*◌, ◌/◌, ◌<◌, ◌≤◌, min}
 use native.Mathlib.Omega.{arith}
 use lib.IntN.{pos}
-use lib.ListN.{length, get_or, take, drop, length-take, get_or-eq_default}
+use lib.ListN.{length, get_or, take, drop, length-take}
 use lib.Seq.{ext_get_or, get_or-take}
 use Rattle.sheet_format.specs.Table.{columns_of}
 use Rattle.tableau_layout.specs.Layout.{table_at}
 use Rattle.tableau_plan.specs.Plan.{plan_table, key_in}
 use Rattle.sheet_terms.proofs.Laws.{key-most}
+use Rattle.std.specs.Bool.{Decides}
+use Rattle.list_laws.proofs.Lists.{part_get, part_length}
 use Rattle.list_laws.proofs.Order.{less?}
 use Rattle.query_meaning.specs.Meaning.{Fact, Log, In, fact}
 use Rattle.query_encoding.specs.Encoding.{FactNumbers, ShapedLog, fact_at}
 use Rattle.query_encoding.proofs.Lists.{at_in, in-at}
 use Rattle.case_verdicts.specs.Table.{Table, relation, SameKey}
-use Rattle.search_keys.specs.Keys.{AlikeIn, AlikeBy, SameKeyAt, KeySettled, KeyClash, ClashBy, KeysHold, KeysBy, SettledTo}
+use Rattle.search_keys.specs.Keys.{AlikeIn, AlikeBy, SameKeyAt, KeySettled, KeyClash, KeysHold, KeysBy, SettledTo}
 
 -- ---- columns one after the other
 
@@ -37,26 +39,16 @@ settled_back p ns i k s h =
       first = λ c lt. sym (h.first c (subst (λ r. c < key_in p r) (sym h.relation) lt));
     })
 
--- by the results of tests
-pub alike-yes : (ns : List ℕ) (i k n : ℕ) (b : Bool) → b ≡ true → AlikeBy b ns i k n → AlikeIn ns i k n
-alike-yes ns i k n true e a = a
-alike-yes ns i k n false e a = absurd (true≢false (sym e))
-
-pub alike-no : (ns : List ℕ) (i k n : ℕ) (b : Bool) → b ≡ false → AlikeBy b ns i k n → AlikeIn ns i k n → ⊥
-alike-no ns i k n true e a = absurd (true≢false e)
-alike-no ns i k n false e a = a
-
-pub clash-by : (p : List ℕ) (ns : List ℕ) (i k : ℕ) (b : Bool) → i < length ns / 5 → k < length ns / 5 → SameKeyAt p ns i k → AlikeBy b ns i k 4 → ClashBy (not b) p ns i k
-clash-by p ns i k true li lk h a = λ z. a
-clash-by p ns i k false li lk h a = record { left = li; right = lk; key = h; differ = a }
-
-pub clash-yes : (p : List ℕ) (ns : List ℕ) (i k : ℕ) (b : Bool) → b ≡ true → ClashBy b p ns i k → KeyClash p ns i k
-clash-yes p ns i k true e c = c
-clash-yes p ns i k false e c = absurd (true≢false (sym e))
-
-pub clash-no : (p : List ℕ) (ns : List ℕ) (i k : ℕ) (b : Bool) → b ≡ false → ClashBy b p ns i k → KeySettled p ns i k
-clash-no p ns i k true e c = absurd (true≢false e)
-clash-no p ns i k false e c = c
+-- by whether their columns are one list
+pub alike-parts : (ns : List ℕ) (i k n u v : ℕ) (b : Bool) → u ≡ n → v ≡ n → i * 5 + 1 + n ≤ length ns → k * 5 + 1 + n ≤ length ns
+    → Decides b (take u (drop (i * 5 + 1) ns) ≡ take v (drop (k * 5 + 1) ns)) → AlikeBy b ns i k n
+alike-parts ns i k n u v true eu ev hi hk d = λ c lt.
+    sym (part_get ns (i * 5 + 1) u c 0 (omega arith)) ∙ ap (λ (l : List ℕ). get_or l c 0) (d.0 refl) ∙ part_get ns (k * 5 + 1) v c 0 (omega arith)
+alike-parts ns i k n u v false eu ev hi hk d = λ a.
+    let lu = part_length ns (i * 5 + 1) u (omega arith) in
+    let lv = part_length ns (k * 5 + 1) v (omega arith) in
+    true≢false (sym (d.1 (ext_get_or 0 (take u (drop (i * 5 + 1) ns)) (take v (drop (k * 5 + 1) ns)) (omega arith) (λ c lt.
+    part_get ns (i * 5 + 1) u c 0 (omega arith) ∙ a c (omega arith) ∙ sym (part_get ns (k * 5 + 1) v c 0 (omega arith))))))
 
 pub settled-more : (p : List ℕ) (ns : List ℕ) (i k : ℕ) → SettledTo p ns i k → KeySettled p ns i k → SettledTo p ns i (k + 1)
 settled-more p ns i k all one j lt h = ⊎_elim (λ l. all j lt l) (λ l. let e : k ≡ j = omega arith in subst (KeySettled p ns i) e one) (less? j k)

@@ -1,22 +1,18 @@
 -- Marking by which words two atoms are alike in a key, and the rows that it makes one. Assumes nothing.
-use mathlib.Core.Path.{◌≡◌, refl, sym, ap, ◌∙◌, subst}
-use mathlib.Core.Bool.{Bool, true, false, true≢false}
+use mathlib.Core.Path.{◌≡◌, refl, sym, ap, subst}
 use mathlib.Core.List.{List, [], ◌∷◌}
-use mathlib.Core.Logic.{⊎_elim}
-use Prim.Native.Nat.{ℕ, zero, suc, ◌+◌, ◌*◌, ◌<◌, ◌≤◌}
+use Prim.Native.Nat.{ℕ, zero, suc, ◌*◌, ◌<◌, ◌≤◌}
 use native.Mathlib.Nat.{add-zero}
 use native.Mathlib.Omega.{arith}
-use lib.ListN.{length, get_or}
-use Rattle.list_laws.proofs.Order.{less?}
+use lib.ListN.{get_or}
 use Rattle.case_verdicts.specs.Sheets.{top}
 use Rattle.case_verdicts.specs.Tableau.{State}
 use Rattle.tableau_plan.specs.Plan.{key_in, slot_value, tableau_at}
 use Rattle.search_slots.specs.Slots.{SetWithin}
 use Rattle.search_links.specs.Links.{value_under}
-use Rattle.search_reasons.specs.Reasons.{Obeys, WayMarked}
+use Rattle.search_reasons.specs.Reasons.{Obeys}
 use Rattle.search_reasons.proofs.Laws.{obeys-less}
-use Rattle.search_reasons.proofs.Ways.{agree_ways}
-use Rattle.search_keys.specs.Clashes.{column_place, end_at, OneIn, OneBy, KeyReads, ColumnMarked, KeyMarked, ValueMarked, RowMarked, ClashShown}
+use Rattle.search_keys.specs.Clashes.{column_place, end_at, KeyMarked, ValueMarked, RowMarked, ClashShown}
 
 within : (a b c : List ℕ) → SetWithin a b → SetWithin b c → SetWithin a c
 within a b c f g n e = g n (f n e)
@@ -25,52 +21,7 @@ within a b c f g n e = g n (f n e)
 pub relation-at : (p : List ℕ) (i : ℕ) → get_or p (i * 5) 0 ≡ tableau_at p i 0
 relation-at p i = ap (λ n. get_or p n 0) (sym (add-zero (i * 5)))
 
--- ---- by the results of tests
-
-pub one-yes : (p ws : List ℕ) (i k n : ℕ) (b : Bool) → b ≡ true → OneBy b p ws i k n → OneIn p ws i k n
-one-yes p ws i k n true e a = a
-one-yes p ws i k n false e a = absurd (true≢false (sym e))
-
-pub one-no : (p ws : List ℕ) (i k n : ℕ) (b : Bool) → b ≡ false → OneBy b p ws i k n → OneIn p ws i k n → ⊥
-one-no p ws i k n true e a = absurd (true≢false e)
-one-no p ws i k n false e a = a
-
--- ---- the key
-
--- one term
-pub column-same : (p ws : List ℕ) (i k c : ℕ) (set : List ℕ) → column_place p i c ≡ column_place p k c → ColumnMarked p ws i k c set set
-column-same p ws i k c set e = record { more = λ n h. h; reads = λ same t o. ap (slot_value t) e }
-
-pub column_ways : (p ws : List ℕ) (i k c : ℕ) {old mid set : List ℕ} → WayMarked ws (column_place p i c) old mid → WayMarked ws (column_place p k c) mid set → ColumnMarked p ws i k c old set
-column_ways p ws i k c {old} {mid} {set} a b = record {
-  more = within old mid set a.more b.more;
-  reads = λ same. (agree_ways same a b).same;
-}
-
-pub key-start : (p ws : List ℕ) (i k : ℕ) (set : List ℕ) → KeyMarked p ws i k 0 set set
-key-start p ws i k set = record { more = λ n h. h; reads = λ c lt. absurd (omega arith) }
-
-pub key_more : (p ws : List ℕ) (i k n : ℕ) {old set next : List ℕ} → KeyMarked p ws i k n old set → ColumnMarked p ws i k n set next → KeyMarked p ws i k (n + 1) old next
-key_more p ws i k n {old} {set} {next} m one = record {
-  more = within old set next m.more one.more;
-  reads = λ c lt. ⊎_elim
-      (λ l same t o. m.reads c l same t (obeys-less t ws set next one.more o))
-      (λ l. let e : n ≡ c = omega arith in subst (λ z. KeyReads p ws i k z next) e one.reads)
-      (less? c n);
-}
-
 -- ---- the rows
-
-pub value-key : (p ws : List ℕ) (i key c : ℕ) (set : List ℕ) → c < key → ValueMarked p ws i key c set set 0
-value-key p ws i key c set lt = record { more = λ n h. h; zero = λ h. refl; rest = λ h. absurd (omega arith); reads = λ h. absurd (omega arith) }
-
-pub value-rest : (p ws : List ℕ) (i key c : ℕ) {old set : List ℕ} (v : ℕ) → key ≤ c → v ≡ end_at p ws i c → WayMarked ws (column_place p i c) old set → ValueMarked p ws i key c old set v
-value-rest p ws i key c v le e w = record {
-  more = w.more;
-  zero = λ h. absurd (omega arith);
-  rest = λ h. e;
-  reads = λ h t o. w.way t o ∙ ap (value_under top t) (sym e);
-}
 
 pub row-marked : (p ws : List ℕ) (i key : ℕ) {s0 s1 s2 s3 s4 : List ℕ} {a b c d : ℕ} → ValueMarked p ws i key 0 s0 s1 a → ValueMarked p ws i key 1 s1 s2 b → ValueMarked p ws i key 2 s2 s3 c → ValueMarked p ws i key 3 s3 s4 d
     → RowMarked p ws i key s0 s4 (a ∷ b ∷ c ∷ d ∷ [])

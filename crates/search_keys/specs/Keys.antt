@@ -1,5 +1,5 @@
 -- Keys among facts in plain numbers, by the table of a plan p. No promise to a caller rests on these.
-use Rattle.std.specs.Prelude.{◌≡◌, Bool, true, false, List, ℕ, ◌+◌, ◌*◌, ◌/◌, ◌<◌, ◌≤◌, length, get_or}
+use Rattle.std.specs.Prelude.{◌≡◌, Bool, true, false, List, ℕ, ◌+◌, ◌*◌, ◌/◌, ◌<◌, length, get_or, Option, Some, None}
 use Rattle.tableau_plan.specs.Plan.{key_in}
 
 -- facts i and k are alike in the first n columns
@@ -43,7 +43,7 @@ KeysBy false p ns i k = KeysHold p ns
 abbrev pub SettledTo : List ℕ → List ℕ → ℕ → ℕ → Type 0
 SettledTo p ns i m = (k : ℕ) → i < k → k < m → KeySettled p ns i k
 
--- the first fact after fact i that clashes with it; as many as there are, if none does
-pub record ClashingFact (p ns : List ℕ) (i k : ℕ) : Type 0 where
-  pub clash : k < length ns / 5 → KeyClash p ns i k
-  pub none : length ns / 5 ≤ k → SettledTo p ns i (length ns / 5)
+-- a fact after fact i that clashes with it; none where none does
+abbrev pub ClashingFact : List ℕ → List ℕ → ℕ → Option ℕ → Type 0
+ClashingFact p ns i (Some k) = KeyClash p ns i k
+ClashingFact p ns i None = SettledTo p ns i (length ns / 5)

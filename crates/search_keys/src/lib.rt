@@ -27,14 +27,9 @@ fn are_alike(facts: &[usize], i: usize, k: usize, n: usize) -> bool
     requires { (i < length facts.now / 5) × (k < length facts.now / 5) × (n ≤ 4) }
     ensures { AlikeBy result facts.now i k n }
 {
-    let mut c = 0;
-    while c < n {
-        if facts[i * FACT_NUMBERS + 1 + c] != facts[k * FACT_NUMBERS + 1 + c] {
-            return false;
-        }
-        c += 1;
-    }
-    true
+    let left = i * FACT_NUMBERS + 1;
+    let right = k * FACT_NUMBERS + 1;
+    facts[left..left + n] == facts[right..right + n]
 }
 
 // Whether facts i and k are alike in their relation's key and not in all columns.
@@ -47,47 +42,37 @@ fn is_clash(p: &[usize; PLAN_NUMBERS], facts: &[usize], i: usize, k: usize) -> b
         return false;
     }
     let key = tableau_parts::key_of(p, relation);
-    if key == 0 {
-        return false;
-    }
-    if !are_alike(facts, i, k, key) {
+    if key == 0 || !are_alike(facts, i, k, key) {
         return false;
     }
     !are_alike(facts, i, k, COLUMNS)
 }
 
-// The first fact after fact i that clashes with it; how many facts there are if none does.
-fn clashing(p: &[usize; PLAN_NUMBERS], facts: &[usize], i: usize) -> usize
+// The first fact after fact i that clashes with it, if one does.
+fn clashing(p: &[usize; PLAN_NUMBERS], facts: &[usize], i: usize) -> Option<usize>
     requires { i < length facts.now / 5 }
     ensures { ClashingFact p.now facts.now i result }
 {
-    let m = facts.len() / FACT_NUMBERS;
-    let mut k = i + 1;
-    while k < m {
+    for k in i + 1..facts.len() / FACT_NUMBERS {
         if is_clash(p, facts, i, k) {
-            return k;
+            return Some(k);
         }
-        k += 1;
     }
-    m
+    None
 }
 
 /// Two facts that clash, if there are any.
 pub fn first_clash(p: &[usize; PLAN_NUMBERS], facts: &[usize]) -> Clash
     ensures { KeysBy result.some p.now facts.now result.left result.right }
 {
-    let m = facts.len() / FACT_NUMBERS;
-    let mut i = 0;
-    while i < m {
-        let k = clashing(p, facts, i);
-        if k < m {
+    for left in 0..facts.len() / FACT_NUMBERS {
+        if let Some(right) = clashing(p, facts, left) {
             return Clash {
                 some: true,
-                left: i,
-                right: k,
+                left,
+                right,
             };
         }
-        i += 1;
     }
     Clash {
         some: false,
@@ -110,14 +95,12 @@ fn are_one(p: &[usize; PLAN_NUMBERS], ws: &[usize; SLOTS], i: usize, k: usize, n
     requires { (i < tableau_atoms) × (k < tableau_atoms) × (n ≤ 4) }
     ensures { OneBy result p.now ws.now i k n }
 {
-    let mut c = 0;
-    while c < n {
+    for c in 0..n {
         let a = search_links::place_value(ws, p[i * FACT_NUMBERS + (1 + c)]);
         let b = search_links::place_value(ws, p[k * FACT_NUMBERS + (1 + c)]);
         if a != b {
             return false;
         }
-        c += 1;
     }
     true
 }
@@ -126,10 +109,7 @@ fn are_one(p: &[usize; PLAN_NUMBERS], ws: &[usize; SLOTS], i: usize, k: usize, n
 pub fn are_clashing(p: &[usize; PLAN_NUMBERS], ws: &[usize; SLOTS], i: usize, k: usize) -> bool
     ensures { result ≡ true → ClashAt p.now ws.now i k }
 {
-    if TABLEAU_ATOMS <= i {
-        return false;
-    }
-    if TABLEAU_ATOMS <= k {
+    if TABLEAU_ATOMS <= i || TABLEAU_ATOMS <= k {
         return false;
     }
     let relation = p[i * FACT_NUMBERS];
@@ -137,10 +117,7 @@ pub fn are_clashing(p: &[usize; PLAN_NUMBERS], ws: &[usize; SLOTS], i: usize, k:
         return false;
     }
     let key = tableau_parts::key_of(p, relation);
-    if key == 0 {
-        return false;
-    }
-    if !are_one(p, ws, i, k, key) {
+    if key == 0 || !are_one(p, ws, i, k, key) {
         return false;
     }
     !are_one(p, ws, i, k, COLUMNS)
@@ -156,8 +133,7 @@ fn mark_column(
     set: &mut [u64; SET_WORDS],
 )
     requires { (i < tableau_atoms) × (k < tableau_atoms) × (c < 4) }
-    ensures column_marked { Place (column_place p.now i c) → Place (column_place p.now k c) → ColumnMarked p.now ws.now i k c set.old set.new }
-    ensures set_len_unchanged { length set.new ≡ length set.old }
+    ensures { Place (column_place p.now i c) → Place (column_place p.now k c) → ColumnMarked p.now ws.now i k c set.old set.new }
 {
     let a = p[i * FACT_NUMBERS + (1 + c)];
     let b = p[k * FACT_NUMBERS + (1 + c)];
@@ -178,13 +154,10 @@ fn mark_key(
     set: &mut [u64; SET_WORDS],
 )
     requires { (i < tableau_atoms) × (k < tableau_atoms) × (n ≤ 4) }
-    ensures key_marked { Places p.now i → Places p.now k → KeyMarked p.now ws.now i k n set.old set.new }
-    ensures set_len_unchanged { length set.new ≡ length set.old }
+    ensures { Places p.now i → Places p.now k → KeyMarked p.now ws.now i k n set.old set.new }
 {
-    let mut c = 0;
-    while c < n {
+    for c in 0..n {
         mark_column(p, ws, i, k, c, set);
-        c += 1;
     }
 }
 
@@ -198,8 +171,7 @@ fn mark_value(
     set: &mut [u64; SET_WORDS],
 ) -> usize
     requires { (i < tableau_atoms) × (c < 4) }
-    ensures value_marked { Place (column_place p.now i c) → ValueMarked p.now ws.now i key c set.old set.new result }
-    ensures set_len_unchanged { length set.new ≡ length set.old }
+    ensures { Place (column_place p.now i c) → ValueMarked p.now ws.now i key c set.old set.new result }
 {
     if c < key {
         return 0;
@@ -218,8 +190,7 @@ fn mark_row(
     set: &mut [u64; SET_WORDS],
 ) -> [usize; 4]
     requires { i < tableau_atoms }
-    ensures row_marked { Places p.now i → RowMarked p.now ws.now i key set.old set.new result }
-    ensures set_len_unchanged { length set.new ≡ length set.old }
+    ensures { Places p.now i → RowMarked p.now ws.now i key set.old set.new result }
 {
     let a = mark_value(p, ws, i, key, 0, set);
     let b = mark_value(p, ws, i, key, 1, set);
@@ -239,13 +210,7 @@ pub fn show(
     ensures clash_shown { i < tableau_atoms → k < tableau_atoms → Places p.now i → Places p.now k → ClashShown p.now ws.now i k set.new result.left result.right }
     ensures set_len_unchanged { length set.new ≡ length set.old }
 {
-    if TABLEAU_ATOMS <= i {
-        return ClashRows {
-            left: [0; 4],
-            right: [0; 4],
-        };
-    }
-    if TABLEAU_ATOMS <= k {
+    if TABLEAU_ATOMS <= i || TABLEAU_ATOMS <= k {
         return ClashRows {
             left: [0; 4],
             right: [0; 4],

@@ -15,7 +15,7 @@ use Rattle.case_verdicts.specs.Tableau.{State}
 use Rattle.case_verdicts.specs.Search.{free}
 use Rattle.case_verdicts.specs.Words.{state_of}
 use Rattle.tableau_plan.specs.Plan.{slot_value}
-use Rattle.search_links.specs.Links.{link_step, root, linked_state, place_root, Linked, roots}
+use Rattle.search_links.specs.Links.{link_step, linked_state, place_root, Linked, roots}
 use Rattle.search_links.specs.Steps.{RootValue}
 use Rattle.search_links.proofs.Links.{step-constant, step_link, step-own, own-word, root-fixed, root-stays, root-low, root-constant, root-word}
 
@@ -44,17 +44,9 @@ pub root-own : (top : ℕ) (ws : List ℕ) (n : ℕ) → RootValue top ws (top +
 root-own top ws n (inl h) = absurd (omega arith)
 root-own top ws n (inr f) = (let l = f.1 in omega arith, ap (λ (k : ℕ). get_or ws k 0) (let e : n ≡ top + n - top = omega arith in e) ∙ f.2)
 
--- what a word can be: a constant, or a made-up value, the slot's own or a lower one
-pub word_cases : (top : ℕ) (ws : List ℕ) → Linked top ws → (n : ℕ) → n < length ws → (get_or ws n 0 < top) ⊎ ((m : ℕ) × (m ≤ n) × (get_or ws n 0 ≡ top + m))
-word_cases top ws linked n h = let l = linked n h in ⊎_elim (λ lt. inl lt) (λ le. inr (get_or ws n 0 - top, omega arith, omega arith)) (less? (get_or ws n 0) top)
-
 -- also the slots past the words have nothing above their own values
 pub word_low : (top : ℕ) (ws : List ℕ) → Linked top ws → (n : ℕ) → state_of top ws n ≤ top + n
 word_low top ws linked n = ⊎_elim (λ h. let l = linked n h in let e = inside ws n (top + n) 0 h in omega arith) (λ h. let e = get_or-eq_default ws (top + n) h in omega arith) (less? n (length ws))
-
--- the root of a slot's word is the slot's value
-pub root-slot : (top : ℕ) (ws : List ℕ) (n : ℕ) → Linked top ws → n < length ws → root top (state_of top ws) (get_or ws n 0) ≡ linked_state top ws n
-root-slot top ws n linked lt = ap (root top (state_of top ws)) (inside ws n 0 (top + n) lt) ∙ root-word top (state_of top ws) n (word_low top ws linked n)
 
 -- and this value is a root
 pub slot-root : (top : ℕ) (ws : List ℕ) → Linked top ws → (n : ℕ) → n < length ws → RootValue top ws (linked_state top ws n)

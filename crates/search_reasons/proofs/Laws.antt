@@ -19,7 +19,7 @@ use Rattle.search_links.specs.Links.{Linked, value_under}
 use Rattle.search_links.specs.Steps.{RootValue, RootValues, Others, Equated}
 use Rattle.search_links.proofs.Words.{root-own}
 use Rattle.search_links.proofs.Under.{under-constant, under-own}
-use Rattle.search_reasons.specs.Reasons.{Obeys, RestsOn, AlternativeFails, ValueFails, WayMarked, AgreementMarked, SlotOf}
+use Rattle.search_reasons.specs.Reasons.{Obeys, RestsOn, AlternativeFails, ValueFails, WayMarked, SlotOf}
 
 -- ---- more slots
 
@@ -39,9 +39,6 @@ module _ {G : State → Type 0} {ws a b : List ℕ} (w : SetWithin a b) where
 module _ {ws old set more : List ℕ} {w : ℕ} where
   pub way-still : WayMarked ws w old set → SetWithin set more → WayMarked ws w old more
   way-still m s = record { more = λ k e. s k (m.more k e); way = λ t o. m.way t (obeys-less t ws set more s o) }
-
-  pub agreement_still : {z : ℕ} → AgreementMarked ws w z old set → SetWithin set more → AgreementMarked ws w z old more
-  agreement_still m s = record { more = λ k e. s k (m.more k e); same = λ t o. m.same t (obeys-less t ws set more s o) }
 
 -- ---- a step
 

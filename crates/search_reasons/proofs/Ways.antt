@@ -1,28 +1,23 @@
 -- Marking the slots of a way, and those of a row.
 use mathlib.Core.Path.{◌≡◌, refl, sym, ap, ◌∙◌}
-use mathlib.Core.Bool.{Bool, true, ◌||◌}
-use mathlib.Core.List.{List, ◌∷◌}
-use mathlib.Core.Logic.{inl, inr, ⊎_elim}
-use Prim.Native.Nat.{ℕ, zero, suc, ◌+◌, ◌-◌, ◌<◌, ◌≤◌}
+use mathlib.Core.List.{List}
+use Prim.Native.Nat.{ℕ, ◌+◌, ◌-◌, ◌<◌, ◌≤◌}
 use native.Mathlib.Omega.{arith}
-use lib.ListN.{length, get_or, take}
-use borrow.Author.Tests.{lt-ltb, le-ltb, ne_eqb}
+use lib.ListN.{length, get_or}
+use borrow.Author.Tests.{lt-ltb, le-ltb}
 use Rattle.list_laws.proofs.Lists.{inside}
 use Rattle.tableau_layout.specs.Layout.{slot_end}
-use Rattle.query_meaning.specs.Meaning.{In}
 use Rattle.case_verdicts.specs.Sheets.{top}
 use Rattle.case_verdicts.specs.Tableau.{State}
 use Rattle.case_verdicts.specs.Words.{state_of}
-use Rattle.case_verdicts.proofs.Decide.{same?, in?}
 use Rattle.tableau_plan.specs.Plan.{slot_value}
-use Rattle.search_slots.specs.Slots.{set_words, in_set, SetWithin, EmptySet, SetWith}
+use Rattle.search_slots.specs.Slots.{SetWithin, SetWith}
 use Rattle.search_slots.proofs.Laws.{with_within, with_has}
 use Rattle.search_links.specs.Links.{link_step, root, place_root, value_under}
 use Rattle.search_links.proofs.Links.{root-fixed, root-step}
 use Rattle.search_links.proofs.Words.{step-word, place-slot, place-constant}
-use Rattle.search_links.proofs.Rows.{front_in, front_has}
 use Rattle.search_links.proofs.Under.{under-constant, under-made, under-own}
-use Rattle.search_reasons.specs.Reasons.{Obeys, Place, WayMarked, AgreementMarked, SlotsAdded, SlotsOf}
+use Rattle.search_reasons.specs.Reasons.{Obeys, Place, WayMarked, AgreementMarked}
 use Rattle.search_reasons.proofs.Laws.{obeys-less, way-still}
 
 -- ---- the value of a place
@@ -72,44 +67,6 @@ module _ {ws : List ℕ} {w x : ℕ} {old set : List ℕ} (p : WayTo ws w x old 
 
 -- ---- two places
 
-pub agree_same : (ws : List ℕ) (w z : ℕ) (set : List ℕ) → w ≡ z → AgreementMarked ws w z set set
-agree_same ws w z set e = record { more = λ k m. m; same = λ t o. ap (slot_value t) e }
-
 pub agree_ways : {ws : List ℕ} {w z : ℕ} {old mid set : List ℕ} → place_root top ws w ≡ place_root top ws z → WayMarked ws w old mid → WayMarked ws z mid set → AgreementMarked ws w z old set
 agree_ways e a b = let c = way-still a b.more in
     record { more = c.more; same = λ t o. c.way t o ∙ ap (value_under top t) e ∙ sym (b.way t o) }
-
--- ---- the slots of a row
-
-module _ {old set us : List ℕ} (v : ℕ) (a : SlotsAdded us old set) where
-  added_constant : v < top → SlotsAdded (v ∷ us) old set
-  added_constant h = record {
-    has = λ n m. ⊎_elim (λ e. absurd (omega arith)) (λ k. a.has n k) m;
-    rest = λ n off. a.rest n (λ m. off (inr m));
-  }
-
-  added_slot : {next : List ℕ} → top ≤ v → SetWith set (v - top) next → SlotsAdded (v ∷ us) old next
-  added_slot {next} h w = record {
-    has = λ n m. ⊎_elim (λ e. ap (in_set next) (let z : n ≡ v - top = omega arith in z) ∙ with_has w) (λ k. with_within w n (a.has n k)) m;
-    rest = λ n off. w.each n ∙ ap (λ (b : Bool). b || in_set set n) (ne_eqb n (v - top) (λ e. off (inl (omega arith)))) ∙ a.rest n (λ m. off (inr m));
-  }
-
-module _ (u : List ℕ) {old set : List ℕ} (i : ℕ) (here : i < length u) (a : SlotsAdded (take i u) old set) where
-  fronted : {next : List ℕ} → SlotsAdded (get_or u i 0 ∷ take i u) old next → SlotsAdded (take (i + 1) u) old next
-  fronted b = record { has = λ n m. b.has n (front_in (top + n) u i here m); rest = λ n off. b.rest n (λ m. off (front_has (top + n) u i here m)) }
-
-  pub added_less : get_or u i 0 < top → SlotsAdded (take (i + 1) u) old set
-  added_less h = fronted (added_constant (get_or u i 0) a h)
-
-  pub added_more : {next : List ℕ} → top ≤ get_or u i 0 → SetWith set (get_or u i 0 - top) next → SlotsAdded (take (i + 1) u) old next
-  added_more h w = fronted (added_slot (get_or u i 0) a h w)
-
-pub slots-both : {u r none mid set : List ℕ} → EmptySet set_words none → SlotsAdded u none mid → SlotsAdded r mid set → SlotsOf u r set
-slots-both {u} {r} {none} {mid} {set} z a b = record {
-  has = λ n. ⊎_elim (λ m. kept n m (in? same? (top + n) r)) (λ m. b.has n m);
-  none = λ n h off. b.rest n (λ m. off (inr m)) ∙ a.rest n (λ m. off (inl m)) ∙ z.each n h;
-}
-  where
-    kept : (n : ℕ) → In (top + n) u → Dec (In (top + n) r) → in_set set n ≡ true
-    kept n m (yes k) = b.has n k
-    kept n m (no k) = b.rest n k ∙ a.has n m

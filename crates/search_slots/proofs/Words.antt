@@ -34,9 +34,6 @@ module _ (old : List ℕ) (f : ℕ → ℕ) (ws : List ℕ) (n : ℕ) (le : leng
   filled-has : (k : ℕ) → k < 64 * length old → in_set ws k ≡ has_digit (f (k / 64)) (k % 64)
   filled-has k h = at-word ws k (f (k / 64)) (a.each (k / 64) (omega arith) (omega arith))
 
-pub filled-empty : (old ws : List ℕ) (n : ℕ) → length old ≤ n → Filled full_word old ws 0 n (λ w. 0) → EmptySet (length old) ws
-filled-empty old ws n le a = record { same = a.kept.same; each = λ k h. filled-has old (λ w. 0) ws n le a k h ∙ has-zero (k % 64) }
-
 pub filled_put : (old others ws : List ℕ) (n : ℕ) → length old ≤ n → Filled full_word old ws 0 n (λ w. set_word others w) → SetPut old others ws
 filled_put old others ws n le a =
     record { same = a.kept.same; each = λ k h. filled-has old (λ w. set_word others w) ws n le a k h ∙ sym (at-word others k _ refl) }
@@ -118,9 +115,6 @@ past_with ws n ge = record { same = refl; each = λ k. go k (ℕ_discrete k n) }
     go : (k : ℕ) → Dec (k ≡ n) → in_set ws k ≡ (eqb k n || in_set ws k)
     go k (yes q) = past ws k (omega arith) ∙ ap (λ (b : Bool). b || in_set ws k) (sym (eq-eqb k n q))
     go k (no q) = ap (λ (b : Bool). b || in_set ws k) (sym (ne_eqb k n q))
-
-pub past-without : (ws : List ℕ) (n : ℕ) → 64 * length ws ≤ n → SetWithout ws n ws
-past-without ws n ge = record { same = refl; gone = λ h. absurd (omega arith); rest = λ k ne. refl }
 
 -- ---- slots of two sets
 

@@ -1,5 +1,4 @@
 use native.Mathlib.Omega.{arith}
-use borrow.Author.Rules.{rules}
 use Rattle.case_verdicts.specs.Sheets.{top}
 use Rattle.search_links.proofs.Merges.{merge_same, merge_left, merge_right}
 use Rattle.search_links.proofs.merge.Goals as goal

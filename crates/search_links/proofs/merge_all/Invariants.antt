@@ -1,4 +1,4 @@
-use Rattle.std.proofs.Common.{◌≡◌, ◌≤◌, drop, length}
+use Rattle.std.proofs.Common.{drop}
 use Rattle.case_verdicts.specs.Sheets.{top}
 use Rattle.search_links.specs.Steps.{RootValues}
 use Rattle.search_links.proofs.Rows.{ColumnsMet, Either}

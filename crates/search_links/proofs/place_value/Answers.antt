@@ -1,5 +1,4 @@
 use mathlib.Core.Path.{sym, ◌∙◌}
-use borrow.Author.Rules.{rules}
 use Rattle.case_verdicts.specs.Sheets.{top}
 use Rattle.search_links.proofs.Words.{place-slot, place-constant}
 use Rattle.search_links.proofs.place_value.Goals as goal

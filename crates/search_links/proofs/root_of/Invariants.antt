@@ -1,10 +1,7 @@
-use mathlib.Core.Path.{◌≡◌, refl, sym, ap, ◌∙◌}
-use borrow.Author.Rules.{rules}
+use mathlib.Core.Path.{◌≡◌}
 use Rattle.case_verdicts.specs.Sheets.{top}
 use Rattle.case_verdicts.specs.Words.{state_of}
 use Rattle.search_links.specs.Links.{root}
-use Rattle.search_links.proofs.Links.{step-constant, root-fixed, root-step}
-use Rattle.search_links.proofs.Words.{step-outside, step-root, step-word}
 use Rattle.search_links.proofs.root_of.Given as goal
 
 abbrev pub invariant-loop-x : goal.invariant-loop-x

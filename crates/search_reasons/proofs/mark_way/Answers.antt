@@ -1,11 +1,9 @@
-use mathlib.Core.Path.{◌≡◌, refl, ◌∙◌}
-use borrow.Author.Rules.{rules}
-use lib.ListN.{length}
+use mathlib.Core.Path.{refl, ◌∙◌}
 use Rattle.case_verdicts.specs.Sheets.{top}
 use Rattle.case_verdicts.specs.Words.{state_of}
 use Rattle.search_links.proofs.Links.{step-constant}
 use Rattle.search_links.proofs.Words.{step-outside, step-root}
-use Rattle.search_reasons.proofs.Ways.{WayTo, way-constant, way-start, way_end, way-more}
+use Rattle.search_reasons.proofs.Ways.{way-constant, way_end, way-more}
 use Rattle.search_reasons.proofs.mark_way.Goals as goal
 
 pub returns-then-w-ge-SLOTS : goal.returns-then-w-ge-SLOTS

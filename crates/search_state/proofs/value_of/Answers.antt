@@ -1,4 +1,3 @@
-use borrow.Author.Rules.{rules}
 use Rattle.search_state.proofs.Tableau.{slot-value, constant-value}
 use Rattle.search_state.proofs.value_of.Goals as goal
 
