@@ -92,9 +92,6 @@ module _ (p ws first : List ℕ) (b j i : ℕ) where
 -- ---- one atom more
 
 module _ (p ws first : List ℕ) (from b : ℕ) (at : List ℕ) where
-  pub atoms-start : (set : List ℕ) → AtomsRead p ws first from b at 0 set set
-  atoms-start set = record { more = λ k e. e; inside = λ j h. absurd (omega arith); relation = λ j h. absurd (omega arith); columns = λ j h. absurd (omega arith) }
-
   pub atoms-more : (n : ℕ) {old set next : List ℕ} → AtomsRead p ws first from b at n old set → from ≤ get_or at n 0 → get_or at n 0 < tableau_size p
       → AtomRead p ws first b n (get_or at n 0) set next → AtomsRead p ws first from b at (n + 1) old next
   atoms-more n {old} {set} {next} a low few r = record {

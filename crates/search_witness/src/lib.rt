@@ -2,7 +2,7 @@
 // and a constant, have one value, and those of the head.
 #![tactic(auto)]
 
-ghost use Rattle.std.specs.Prelude.{◌≡◌, true, ℕ, ◌+◌, ◌<◌, ◌≤◌, length, get_or};
+ghost use Rattle.std.specs.Prelude.{◌≡◌, true, ℕ, ◌+◌, ◌<◌, ◌≤◌, length, get_or, IfSome};
 ghost use Rattle.query_layout.specs.Layout.{names};
 ghost use Rattle.sheet_format.specs.Limits.{most_atoms};
 ghost use Rattle.tableau_layout.specs.Layout.{most_blocks, tableau_atoms};
@@ -11,6 +11,7 @@ ghost use Rattle.search_witness.specs.Witness.{witness_place, ColumnRead, AtomRe
 
 use query_layout::{BLOCK_NUMBERS, COLUMNS, FACT_NUMBERS, HEAD_AT, MADE_UP, NAMES};
 use sheet_format::MOST_ATOMS;
+use std::array;
 use tableau_layout::{
     BLOCKS_AT, MOST_BLOCKS, PLAN_NUMBERS, QUESTION_BLOCK, SLOTS, TABLEAU_ATOMS, TABLEAU_SIZE_AT,
 };
@@ -25,12 +26,10 @@ pub struct ShownRow {
     pub row: [usize; 4],
 }
 
-// A value of the head, if there is one.
-#[derive(Clone, Copy)]
-struct HeadValue {
-    ok: bool,
-    value: usize,
-}
+const NO_ROW: ShownRow = ShownRow {
+    ok: false,
+    row: [0; 4],
+};
 
 // A place for each variable of a block: the first at which it stands. Whatever they are, what follows checks them.
 fn first_places(
@@ -42,16 +41,15 @@ fn first_places(
     requires { (b < most_blocks) × (n ≤ most_atoms) }
 {
     let mut first = [NOWHERE; NAMES];
-    let mut k = n * FACT_NUMBERS;
-    while 0 < k {
-        k -= 1;
-        let t = p[BLOCKS_AT + b * BLOCK_NUMBERS + k];
-        let i = at[k / FACT_NUMBERS];
-        if k % FACT_NUMBERS != 0 {
+    for j in (0..n).rev() {
+        let i = at[j];
+        if TABLEAU_ATOMS <= i {
+            continue;
+        }
+        for c in (0..COLUMNS).rev() {
+            let t = p[BLOCKS_AT + b * BLOCK_NUMBERS + j * FACT_NUMBERS + 1 + c];
             if t < NAMES {
-                if i < TABLEAU_ATOMS {
-                    first[t] = p[i * FACT_NUMBERS + k % FACT_NUMBERS];
-                }
+                first[t] = p[i * FACT_NUMBERS + 1 + c];
             }
         }
     }
@@ -81,8 +79,7 @@ fn reads_column(
     set: &mut [u64],
 ) -> bool
     requires { (b < most_blocks) × (j < most_atoms) × (i < tableau_atoms) × (c < 4) }
-    ensures column_read { result ≡ true → ColumnRead p.now ws.now first.now b j i c set.old set.new }
-    ensures set_len_unchanged { length set.new ≡ length set.old }
+    ensures { result ≡ true → ColumnRead p.now ws.now first.now b j i c set.old set.new }
 {
     let t = p[BLOCKS_AT + b * BLOCK_NUMBERS + j * FACT_NUMBERS + 1 + c];
     let w = p[i * FACT_NUMBERS + 1 + c];
@@ -90,10 +87,7 @@ fn reads_column(
         return false;
     }
     let z = place_of(first, t);
-    if NOWHERE <= w {
-        return false;
-    }
-    if NOWHERE <= z {
+    if NOWHERE <= w || NOWHERE <= z {
         return false;
     }
     search_reasons::agree(ws, w, z, set)
@@ -110,18 +104,15 @@ fn reads_atom(
     set: &mut [u64],
 ) -> bool
     requires { (b < most_blocks) × (j < most_atoms) × (i < tableau_atoms) }
-    ensures atom_read { result ≡ true → AtomRead p.now ws.now first.now b j i set.old set.new }
-    ensures set_len_unchanged { length set.new ≡ length set.old }
+    ensures { result ≡ true → AtomRead p.now ws.now first.now b j i set.old set.new }
 {
     if p[i * FACT_NUMBERS] != p[BLOCKS_AT + b * BLOCK_NUMBERS + j * FACT_NUMBERS] {
         return false;
     }
-    let mut c = 0;
-    while c < COLUMNS {
+    for c in 0..COLUMNS {
         if !reads_column(p, ws, first, b, j, i, c, set) {
             return false;
         }
-        c += 1;
     }
     true
 }
@@ -138,31 +129,22 @@ fn reads_atoms(
     set: &mut [u64],
 ) -> bool
     requires { (b < most_blocks) × (n ≤ most_atoms) }
-    ensures atoms_read { result ≡ true → AtomsRead p.now ws.now first.now from b at.now n set.old set.new }
-    ensures set_len_unchanged { length set.new ≡ length set.old }
+    ensures { result ≡ true → AtomsRead p.now ws.now first.now from b at.now n set.old set.new }
 {
     let size = p[TABLEAU_SIZE_AT];
-    let mut j = 0;
-    while j < n {
+    for j in 0..n {
         let i = at[j];
-        if i < from {
-            return false;
-        }
-        if size <= i {
-            return false;
-        }
-        if TABLEAU_ATOMS <= i {
+        if i < from || size <= i || TABLEAU_ATOMS <= i {
             return false;
         }
         if !reads_atom(p, ws, first, b, j, i, set) {
             return false;
         }
-        j += 1;
     }
     true
 }
 
-// Column c of the head of block b: the value where its links end, and the slots on the way marked; not ok where it stands at no place.
+// Column c of the head of block b: the value where its links end, and the slots on the way marked; none where it stands at no place.
 fn reads_head(
     p: &[usize; PLAN_NUMBERS],
     ws: &[usize],
@@ -170,49 +152,38 @@ fn reads_head(
     b: usize,
     c: usize,
     set: &mut [u64],
-) -> HeadValue
+) -> Option<usize>
     requires { (b < most_blocks) × (c < 4) }
-    ensures head_read { result.ok ≡ true → HeadRead p.now ws.now first.now b c set.old set.new result.value }
-    ensures set_len_unchanged { length set.new ≡ length set.old }
+    ensures { IfSome result (λ v. HeadRead p.now ws.now first.now b c set.old set.new v) }
 {
     let t = p[BLOCKS_AT + b * BLOCK_NUMBERS + HEAD_AT + c];
     if NAMES + MADE_UP <= t {
-        return HeadValue {
-            ok: false,
-            value: 0,
-        };
+        return None;
     }
     let z = place_of(first, t);
     if NOWHERE <= z {
-        return HeadValue {
-            ok: false,
-            value: 0,
-        };
+        return None;
     }
     search_reasons::mark_way(ws, z, set);
-    let value = search_links::place_value(ws, z);
-    HeadValue { ok: true, value }
+    Some(search_links::place_value(ws, z))
 }
 
-// The head of block b: the values where its links end, and the slots on the ways marked.
+// The head of block b: the values where its links end, and the slots on the ways marked; none where a column stands at no place.
 fn reads_row(
     p: &[usize; PLAN_NUMBERS],
     ws: &[usize],
     first: &[usize; NAMES],
     b: usize,
     set: &mut [u64],
-) -> ShownRow
+) -> Option<[usize; 4]>
     requires { b < most_blocks }
-    ensures row_read { result.ok ≡ true → RowRead p.now ws.now first.now b result.row set.old set.new }
-    ensures set_len_unchanged { length set.new ≡ length set.old }
+    ensures { IfSome result (λ row. RowRead p.now ws.now first.now b row set.old set.new) }
 {
-    let a = reads_head(p, ws, first, b, 0, set);
-    let e = reads_head(p, ws, first, b, 1, set);
-    let f = reads_head(p, ws, first, b, 2, set);
-    let g = reads_head(p, ws, first, b, 3, set);
-    let row = [a.value, e.value, f.value, g.value];
-    let ok = a.ok & e.ok & f.ok & g.ok;
-    ShownRow { ok, row }
+    let v = reads_head(p, ws, first, b, 0, set)?;
+    let w = reads_head(p, ws, first, b, 1, set)?;
+    let x = reads_head(p, ws, first, b, 2, set)?;
+    let y = reads_head(p, ws, first, b, 3, set)?;
+    Some([v, w, x, y])
 }
 
 /// Whether the atoms `at` of the tableau, all from atom `from` on, give block b a row in this state, and which. The slots that this rests on are
@@ -229,33 +200,24 @@ pub fn show(
     ensures set_len_unchanged { length set.new ≡ length set.old }
 {
     if MOST_BLOCKS <= b {
-        return ShownRow {
-            ok: false,
-            row: [0; 4],
-        };
+        return NO_ROW;
     }
     let n = tableau_parts::size_at(p, b);
     let first = first_places(p, b, n, at);
     if !reads_atoms(p, ws, &first, from, b, at, n, set) {
-        return ShownRow {
-            ok: false,
-            row: [0; 4],
-        };
+        return NO_ROW;
     }
-    reads_row(p, ws, &first, b, set)
+    match reads_row(p, ws, &first, b, set) {
+        Some(row) => ShownRow { ok: true, row },
+        None => NO_ROW,
+    }
 }
 
 // The places of the first copy: of each variable its slot there.
 fn own_places() -> [usize; NAMES]
     ensures { (x : ℕ) → x < names → get_or result x 0 ≡ x }
 {
-    let mut first = [0; NAMES];
-    let mut x = 0;
-    while x < NAMES {
-        first[x] = x;
-        x += 1;
-    }
-    first
+    array::from_fn(|x| x)
 }
 
 /// The question's head in this state; the slots that this rests on are marked.
@@ -264,5 +226,8 @@ pub fn asked(p: &[usize; PLAN_NUMBERS], ws: &[usize], set: &mut [u64]) -> ShownR
     ensures set_len_unchanged { length set.new ≡ length set.old }
 {
     let first = own_places();
-    reads_row(p, ws, &first, QUESTION_BLOCK, set)
+    match reads_row(p, ws, &first, QUESTION_BLOCK, set) {
+        Some(row) => ShownRow { ok: true, row },
+        None => NO_ROW,
+    }
 }

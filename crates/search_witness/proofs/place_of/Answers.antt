@@ -1,5 +1,4 @@
 use mathlib.Core.Path.{sym}
-use borrow.Author.Rules.{rules}
 use Rattle.search_witness.proofs.Laws.{place-variable, place-constant}
 use Rattle.search_witness.proofs.place_of.Goals as goal
 
