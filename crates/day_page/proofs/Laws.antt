@@ -11,6 +11,9 @@ use lib.Dec.{eqb}
 use lib.IntN.{ℤ, pos}
 use lib.ListN.{length, get_or, take, length-append}
 use lib.Seq.{take-suc, length-take-le}
+use Rattle.std.specs.List.{count_by, sum_by}
+use Rattle.std.proofs.lemmas.List.Recursion.{is_sum_by}
+use Rattle.std.proofs.lemmas.List.Sums.{count_by-le-length}
 use Rattle.sheet_format.specs.Limits.{field_end}
 use Rattle.sheet_format.specs.Field.{field_bytes}
 use Rattle.sheet_format.specs.Line.{Line, gather, line_bytes, bytes_of, byte_lines}
@@ -22,7 +25,7 @@ use Rattle.text_buffer.proofs.Laws.{said, followed}
 use Rattle.judge_result.specs.declared.Judgement.{Judgement}
 use Rattle.judge_result.specs.Judged.{least_room}
 use Rattle.judge_ends.specs.Sets.{most_sheets}
-use Rattle.day_page.specs.Page.{page_room, sheet_line, sheet_lines, tally, sum_of_facts, closing_line, page_lines, page_of, Printable, AllShown}
+use Rattle.day_page.specs.Page.{page_room, sheet_line, sheet_lines, tally, facts_of, sum_of_facts, closing_line, page_lines, page_of, Printable, AllShown}
 use Rattle.day_page.specs.Totals.{having, counted, totals_of}
 
 -- what stands at a place past the end
@@ -35,22 +38,6 @@ module _ (js : List Judgement) (i : ℕ) (within : i < length js) where
   one_more : take (i + 1) js ≡ take i js ++ (get_or js i blank ∷ [])
   one_more = rw add-one (take-suc js i blank within)
 
-  pub tally-more : (v : ℕ) → tally v (take (i + 1) js) ≡ tally v (take i js) + cond (eqb (get_or js i blank).verdict v) 1 0
-  unfolding tally
-  tally-more v = ap (tally v) one_more ∙ go (take i js) (get_or js i blank)
-    where
-      go : (xs : List Judgement) (j : Judgement) → tally v (xs ++ (j ∷ [])) ≡ tally v xs + cond (eqb j.verdict v) 1 0
-      go [] j = omega arith
-      go (x ∷ xs) j = rw (go xs j) (omega arith)
-
-  pub sum_more : sum_of_facts (take (i + 1) js) ≡ sum_of_facts (take i js) + (get_or js i blank).count
-  unfolding sum_of_facts
-  sum_more = ap sum_of_facts one_more ∙ go (take i js) (get_or js i blank)
-    where
-      go : (xs : List Judgement) (j : Judgement) → sum_of_facts (xs ++ (j ∷ [])) ≡ sum_of_facts xs + j.count
-      go [] j = omega arith
-      go (x ∷ xs) j = rw (go xs j) (omega arith)
-
   lines_more : sheet_lines 1 (take (i + 1) js) ≡ sheet_lines 1 (take i js) ++ (sheet_line (1 + i) (get_or js i blank) ∷ [])
   unfolding sheet_lines
   lines_more = ap (sheet_lines 1) one_more ∙ go 1 (take i js) (get_or js i blank) ∙ ap (λ n. sheet_lines 1 (take i js) ++ (sheet_line (1 + n) (get_or js i blank) ∷ [])) (length-take-le i js (omega arith))
@@ -61,34 +48,24 @@ module _ (js : List Judgement) (i : ℕ) (within : i < length js) where
           let e : suc p + length xs ≡ p + suc (length xs) = omega arith in
           ap (λ ls. sheet_line p x ∷ ls) (go (suc p) xs j ∙ ap (λ n. sheet_lines (suc p) xs ++ (sheet_line n j ∷ [])) e)
 
--- none yet
-pub tally-none : (v : ℕ) (js : List Judgement) → 0 ≡ tally v (take 0 js)
+-- as the list's own count and sum
+pub tally_counted : (v : ℕ) (js : List Judgement) → tally v js ≡ count_by (λ j. eqb j.verdict v) js
 unfolding tally
-tally-none v [] = refl
-tally-none v (j ∷ js) = refl
+tally_counted v js = is_sum_by (tally v) (λ j. cond (eqb j.verdict v) 1 0) refl (λ j js. refl) js
 
-pub sum_none : (js : List Judgement) → 0 ≡ sum_of_facts (take 0 js)
+pub facts_summed : (js : List Judgement) → sum_of_facts js ≡ sum_by facts_of js
 unfolding sum_of_facts
-sum_none [] = refl
-sum_none (j ∷ js) = refl
-
--- 0 or 1
-at_most_one : (b : Bool) → cond b 1 0 ≤ 1
-at_most_one true = omega arith
-at_most_one false = omega arith
+facts_summed js = is_sum_by sum_of_facts facts_of refl (λ j js. refl) js
 
 -- ---- judgements that fit
 
-pub shown-at : (js : List Judgement) (n i : ℕ) → AllShown (take n js) → i < n → i < length js → Printable (get_or js i blank)
-shown-at [] n i s lt within = absurd (omega arith)
-shown-at (j ∷ js) zero i s lt within = absurd (omega arith)
-shown-at (j ∷ js) (suc n) zero s lt within = s.0
-shown-at (j ∷ js) (suc n) (suc i) s lt within = shown-at js n i s.1 (omega arith) (omega arith)
+pub shown-each : (js : List Judgement) (i : ℕ) (d : Judgement) → AllShown js → i < length js → Printable (get_or js i d)
+shown-each [] i d s within = absurd (omega arith)
+shown-each (j ∷ js) zero d s within = s.0
+shown-each (j ∷ js) (suc i) d s within = shown-each js i d s.1 (omega arith)
 
-tally-few : (v : ℕ) (js : List Judgement) → tally v js ≤ length js
-unfolding tally
-tally-few v [] = omega arith
-tally-few v (j ∷ js) = let a = at_most_one (eqb j.verdict v) in let b = tally-few v js in omega arith
+pub tally-few : (v : ℕ) (js : List Judgement) → tally v js ≤ length js
+tally-few v js = let e = tally_counted v js in let l = count_by-le-length (λ (j : Judgement). eqb j.verdict v) js in omega arith
 
 pub sum_few : (js : List Judgement) → AllShown js → sum_of_facts js * 5 ≤ length js * least_room
 unfolding sum_of_facts

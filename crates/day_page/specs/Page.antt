@@ -24,6 +24,9 @@ unfoldable pub tally : ℕ → List Judgement → ℕ
 tally verdict [] = 0
 tally verdict (j ∷ js) = cond (eqb j.verdict verdict) 1 0 + tally verdict js
 
+abbrev pub facts_of : Judgement → ℕ
+facts_of j = j.count
+
 -- the facts of all
 unfoldable pub sum_of_facts : List Judgement → ℕ
 sum_of_facts [] = 0

@@ -1,13 +1,13 @@
 // The page for a set that was judged: a line for each sheet, and a closing line of totals, in the fields of sheets.
 #![tactic(auto)]
 
-ghost use Rattle.std.specs.Prelude.{◌≡◌, cond, ◌≤◌, ◌<◌, eqb, pos, take};
+ghost use Rattle.std.specs.Prelude.{◌≡◌, ◌==◌, ◌^◌, ◌≤◌, ◌<◌, pos, length, take, count_by, sum_by};
 ghost use Rattle.sheet_format.specs.Limits.{field_end};
 ghost use Rattle.sheet_format.specs.Field.{field_bytes};
 ghost use Rattle.sheet_format.specs.Line.{line_bytes, bytes_of};
 ghost use Rattle.text_buffer.specs.Puts.{Put};
 ghost use Rattle.judge_ends.specs.Sets.{most_sheets};
-ghost use Rattle.day_page.specs.Page.{sheet_line, sheet_lines, tally, sum_of_facts, closing_line, page_of, Printable, AllShown};
+ghost use Rattle.day_page.specs.Page.{sheet_line, sheet_lines, facts_of, closing_line, page_of, Printable, AllShown};
 ghost use Rattle.day_page.specs.Refusal.{refusal_of_day};
 
 use judge_ends::{MOST_SHEETS, SetJudgement};
@@ -37,50 +37,25 @@ fn put_number(out: &mut [u8], at: usize, n: usize) -> usize
     put(out, at, &field)
 }
 
-// 1 where the verdict that was found is the one asked for, else 0.
-fn has(found: usize, verdict: usize) -> usize
-    ensures { (result ≡ cond (eqb found verdict) 1 0) × (result ≤ 1) }
+// How many sheets have a verdict.
+fn tally(sheets: &[Judgement], verdict: usize) -> usize
+    ensures { result ≡ count_by (λ j. j.verdict == verdict) sheets.now }
 {
-    if found == verdict {
-        return 1;
-    }
-    0
+    sheets.iter().filter(|j| j.verdict == verdict).count()
 }
 
-// How many of the first sheets have a verdict.
-fn tally(sheets: [Judgement; MOST_SHEETS], count: usize, verdict: usize) -> usize
-    requires { count ≤ most_sheets }
-    ensures { (result ≡ tally verdict (take count sheets)) × (result ≤ count) }
+// The facts of all sheets.
+fn fact_sum(sheets: &[Judgement]) -> usize
+    requires { sum_by facts_of sheets.now < 2 ^ 64 }
+    ensures { result ≡ sum_by facts_of sheets.now }
 {
-    let mut n = 0;
-    let mut i = 0;
-    while i < count {
-        let j = sheets[i];
-        n += has(j.verdict, verdict);
-        i += 1;
-    }
-    n
-}
-
-// The facts of the first sheets.
-fn fact_sum(sheets: [Judgement; MOST_SHEETS], count: usize) -> usize
-    requires { (count ≤ most_sheets) × AllShown (take count sheets) }
-    ensures { (result ≡ sum_of_facts (take count sheets)) × (result < field_end) }
-{
-    let mut n = 0;
-    let mut i = 0;
-    while i < count {
-        let j = sheets[i];
-        n = n + j.count;
-        i += 1;
-    }
-    n
+    sheets.iter().map(|j| j.count).sum()
 }
 
 // A sheet's line.
-fn put_sheet(out: &mut [u8], at: usize, place: usize, j: Judgement) -> usize
-    requires { (place < field_end) × Printable j }
-    ensures { Put out.old out.new at (line_bytes (sheet_line place j)) result }
+fn put_sheet(out: &mut [u8], at: usize, place: usize, j: &Judgement) -> usize
+    requires { (place < field_end) × Printable j.now }
+    ensures { Put out.old out.new at (line_bytes (sheet_line place j.now)) result }
 {
     let a = put_number(out, at, place);
     let b = put_number(out, a, j.verdict);
@@ -89,41 +64,38 @@ fn put_sheet(out: &mut [u8], at: usize, place: usize, j: Judgement) -> usize
     put_byte(out, d, b'\n')
 }
 
-// The lines of the first sheets.
-fn put_sheets(out: &mut [u8], sheets: [Judgement; MOST_SHEETS], count: usize) -> usize
-    requires { (count ≤ most_sheets) × AllShown (take count sheets) }
-    ensures { Put out.old out.new 0 (bytes_of (sheet_lines 1 (take count sheets))) result }
+// The lines of all sheets.
+fn put_sheets(out: &mut [u8], sheets: &[Judgement]) -> usize
+    requires { (length sheets.now ≤ most_sheets) × AllShown sheets.now }
+    ensures { Put out.old out.new 0 (bytes_of (sheet_lines 1 sheets.now)) result }
 {
     let mut n = 0;
-    let mut i = 0;
-    while i < count {
-        let j = sheets[i];
+    for (i, j) in sheets.iter().enumerate() {
         n = put_sheet(out, n, FIRST_PLACE + i, j);
-        i += 1;
     }
     n
 }
 
 // The closing line.
-fn put_closing(out: &mut [u8], at: usize, sheets: [Judgement; MOST_SHEETS], count: usize) -> usize
-    requires { (count ≤ most_sheets) × AllShown (take count sheets) }
-    ensures { Put out.old out.new at (line_bytes (closing_line (take count sheets))) result }
+fn put_closing(out: &mut [u8], at: usize, sheets: &[Judgement]) -> usize
+    requires { (length sheets.now ≤ most_sheets) × AllShown sheets.now }
+    ensures { Put out.old out.new at (line_bytes (closing_line sheets.now)) result }
 {
-    let a = put_number(out, at, tally(sheets, count, COVERED));
-    let b = put_number(out, a, tally(sheets, count, NOT_COVERED));
-    let c = put_number(out, b, tally(sheets, count, NO_LOG));
-    let d = put_number(out, c, tally(sheets, count, REFUSED));
-    let e = put_number(out, d, fact_sum(sheets, count));
+    let a = put_number(out, at, tally(sheets, COVERED));
+    let b = put_number(out, a, tally(sheets, NOT_COVERED));
+    let c = put_number(out, b, tally(sheets, NO_LOG));
+    let d = put_number(out, c, tally(sheets, REFUSED));
+    let e = put_number(out, d, fact_sum(sheets));
     put_byte(out, e, b'\n')
 }
 
-// The page for the first sheets, from the first byte on.
-pub fn put_page(out: &mut [u8], sheets: [Judgement; MOST_SHEETS], count: usize) -> usize
-    requires { (count ≤ most_sheets) × AllShown (take count sheets) }
-    ensures { Put out.old out.new 0 (page_of (take count sheets)) result }
+/// The page for all sheets, from the first byte on.
+pub fn put_page(out: &mut [u8], sheets: &[Judgement]) -> usize
+    requires { (length sheets.now ≤ most_sheets) × AllShown sheets.now }
+    ensures { Put out.old out.new 0 (page_of sheets.now) result }
 {
-    let n = put_sheets(out, sheets, count);
-    put_closing(out, n, sheets, count)
+    let n = put_sheets(out, sheets);
+    put_closing(out, n, sheets)
 }
 
 // The number that a call for a set and its page is sent back by, 0 where it is not.
@@ -154,5 +126,5 @@ pub fn print_unless(
     if sent != 0 {
         return 0;
     }
-    put_page(page, sheets, count)
+    put_page(page, &sheets[..count])
 }

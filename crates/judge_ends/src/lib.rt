@@ -25,14 +25,11 @@ fn falls_back(ends: &[usize]) -> bool
     ensures { result ≡ ends_fall_back 0 ends.now }
 {
     let mut before = 0;
-    let mut k = 0;
-    while k < ends.len() {
-        let end = ends[k];
-        if end < before {
+    for end in ends {
+        if *end < before {
             return true;
         }
-        before = end;
-        k += 1;
+        before = *end;
     }
     false
 }

@@ -9,7 +9,7 @@ use Rattle.day_page.proofs.put_sheet.Goals as goal
 
 pub returns : goal.returns
 returns c = let a = c.args in
-    let j = a.j in
+    let j = a.j.now in
     let one = first_field (pos a.place) c.put_number-a.ensures in
     let two = next_field (pos a.place ∷ []) (pos j.verdict) one c.put_number-b.ensures in
     let three = next_field (pos a.place ∷ pos j.verdict ∷ []) (pos j.number) two c.put_number-c.ensures in
