@@ -108,11 +108,8 @@ fn passed_all(js: [Judgement; MOST_SHEETS]) -> [Outcome; MOST_SHEETS]
 {
     let first = js[0];
     let mut all = [passed(first); MOST_SHEETS];
-    let mut k = 1;
-    while k < MOST_SHEETS {
-        let j = js[k];
-        all[k] = passed(j);
-        k += 1;
+    for k in 1..MOST_SHEETS {
+        all[k] = passed(js[k]);
     }
     all
 }

@@ -29,4 +29,4 @@ passed-whole all js same each =
 
 pub returns : goal.returns
 returns c = let js = c.args.js in
-    passed-whole c.loop-k.all js (c.loop-k.invariant.2 ∙ sym c.loop-k.invariant.1) (λ i lt. c.loop-k.invariant.3 i (omega arith))
+    passed-whole c.loop-k.all js (c.loop-k.invariant.1 ∙ sym c.loop-k.invariant.0) (λ i lt. c.loop-k.invariant.2 i (omega arith))

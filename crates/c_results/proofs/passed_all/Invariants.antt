@@ -1,12 +1,5 @@
 -- Each place that was passed holds the judgement's numbers.
-use mathlib.Core.Path.{◌≡◌, refl, sym, ap, ◌∙◌}
-use mathlib.Core.List.{List, [], map}
-use Prim.Native.Nat.{ℕ, ◌≤◌, ◌<◌, ◌-◌, ◌+◌}
-use native.Mathlib.Omega.{arith}
-use borrow.Author.Count.{below_none, below_more}
-use borrow.Author.Rules.{rules}
-use lib.ListN.{length, get_or, set, replicate, length-set, length-map, get_or-map}
-use lib.Seq.{ext_get_or, get_or-set_same, get_or-set_other}
+use Rattle.std.proofs.Common.{◌≡◌, ℕ, ◌<◌, List, [], length, get_or}
 use Rattle.judge_result.specs.declared.Judgement.{Judgement}
 use Rattle.judge_ends.specs.Sets.{most_sheets}
 use Rattle.c_results.specs.Passed.{judgement_of}
@@ -20,7 +13,4 @@ abbrev pub PassedAt : List Outcome → List Judgement → ℕ → Type 0
 PassedAt all js i = judgement_of (get_or all i blank) ≡ get_or js i (judgement_of blank)
 
 abbrev pub invariant-loop-k : goal.invariant-loop-k
-invariant-loop-k l = (l.k ≤ most_sheets) × (length l.js ≡ most_sheets) × (length l.all ≡ most_sheets) × ((i : ℕ) → i < l.k → PassedAt l.all l.js i)
-
-abbrev pub decreases-loop-k : goal.decreases-loop-k
-decreases-loop-k l = most_sheets - l.k
+invariant-loop-k l = (length l.js ≡ most_sheets) × (length l.all ≡ most_sheets) × ((i : ℕ) → i < l.k → PassedAt l.all l.js i)
