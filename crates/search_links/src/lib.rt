@@ -30,6 +30,7 @@ pub fn root_of(ws: &[usize], v: usize) -> usize
     ensures { result ≡ root top (state_of top ws.now) v }
 {
     let mut x = v;
+    // Kept: no plainer; the loop follows links to their end, and counts no index.
     while MADE_UP <= x {
         let n = x - MADE_UP;
         if ws.len() <= n {

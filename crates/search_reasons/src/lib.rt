@@ -17,6 +17,7 @@ pub fn mark_way(ws: &[usize], w: usize, set: &mut [u64])
         return;
     }
     let mut x = MADE_UP + w;
+    // Kept: no plainer; the loop follows links to their end, and counts no index.
     while MADE_UP <= x {
         let n = x - MADE_UP;
         if ws.len() <= n {
