@@ -1,15 +1,15 @@
 -- A frozen question thawed: values back to what a valuation says of the variables they stand for. Over lists and functions.
-use mathlib.Core.Path.{◌≡◌, refl, sym, ap, ◌∙◌, subst}
+use mathlib.Core.Path.{◌≡◌, sym, ap, ◌∙◌, subst}
 use mathlib.Core.Bool.{cond}
 use mathlib.Core.List.{List, [], ◌∷◌}
-use mathlib.Core.Logic.{◌⊎◌, ⊎_elim}
+use mathlib.Core.Logic.{⊎_elim}
 use Prim.Native.Nat.{ℕ, zero, suc, ◌+◌, ◌-◌, ◌*◌, ◌/◌, ◌<◌, ◌≤◌}
 use native.Mathlib.Omega.{arith}
 use native.Mathlib.Decide.{dec_lt}
 use borrow.Author.Count.{below_more}
 use borrow.Author.Tests.{lt-ltb, le-ltb}
 use lib.Dec.{ltb}
-use lib.ListN.{length, get_or, set, take, length-set, get_or-eq_default}
+use lib.ListN.{length, get_or, set, take}
 use lib.Seq.{get_or-set_same, get_or-set_other, get_or-take, length-take-le}
 use Rattle.query_layout.specs.Layout.{block_head, names}
 use Rattle.list_laws.specs.Order.{SameBefore}
@@ -29,13 +29,6 @@ term-small c lt = omega arith
 
 pub value-small : (v : ℕ) → v < value_end → v < frozen_at
 value-small v lt = omega arith
-
-pub small_all : (s : List ℕ) (i : ℕ) → length s ≤ i → ((j : ℕ) → j < i → get_or s j 0 < frozen_at) → BelowFrozen s
-small_all s i le f = record { all = λ j. side j (dec_lt j i) }
-  where
-    side : (j : ℕ) → Dec (j < i) → get_or s j 0 < frozen_at
-    side j (yes lt) = f j lt
-    side j (no ge) = let e = get_or-eq_default s 0 {n = j} (omega arith) in omega arith
 
 -- ---- thawing
 
@@ -173,28 +166,6 @@ covers q l facts row n ln k m vals F plain le own laid f = record { gives = λ w
 
 -- ---- putting facts
 
-pub front-none : (old new : List ℕ) → Fronted 0 old new
-front-none old new = record { same = λ x lt. absurd (omega arith) }
-
-pub front-more : (old new : List ℕ) (n : ℕ) → n < length new → Fronted n old new → Fronted (n + 1) old (set new n (get_or old n 0))
-front-more old new n lt f = record {
-  same = below_more (λ x. get_or (set new n (get_or old n 0)) x 0 ≡ get_or old x 0) n
-      (λ x x_lt. get_or-set_other new n x (get_or old n 0) 0 (λ e. absurd (omega arith)) ∙ f.same x x_lt)
-      (get_or-set_same new n (get_or old n 0) 0 lt);
-}
-
-pub put-none : (f : List ℕ) (x : ℕ) (old : List ℕ) → FactPut f 0 x old old
-put-none f x old = record { long = refl; front = record { same = λ y lt. refl }; here = λ d lt. absurd (omega arith) }
-
-pub put-more : (f : List ℕ) (c x : ℕ) (old new : List ℕ) → x + c < length old → FactPut f c x old new → FactPut f (c + 1) x old (set new (x + c) (get_or f c 0))
-put-more f c x old new lt p = record {
-  long = length-set new (x + c) (get_or f c 0) ∙ p.long;
-  front = record { same = λ y y-lt. get_or-set_other new (x + c) y (get_or f c 0) 0 (λ e. absurd (omega arith)) ∙ p.front.same y y-lt };
-  here = below_more (λ d. get_or (set new (x + c) (get_or f c 0)) (x + d) 0 ≡ get_or f d 0) c
-      (λ d d-lt. get_or-set_other new (x + c) (x + d) (get_or f c 0) 0 (λ e. absurd (omega arith)) ∙ p.here d d-lt)
-      (get_or-set_same new (x + c) (get_or f c 0) 0 (let e = p.long in omega arith));
-}
-
 -- a fact put is what the atom becomes
 pub put-becomes : (q vals : List ℕ) (j i : ℕ) (f old new : List ℕ) → f ≡ atom_under q vals j → FactPut f 5 (i * 5) old new → Becomes q new (under vals) j i
 put-becomes q vals j i f old new e p = record { relation = at 0 (i * 5) (omega arith) (omega arith); columns = column-at }
@@ -211,9 +182,6 @@ put-becomes q vals j i f old new e p = record { relation = at 0 (i * 5) (omega a
     column-at (suc (suc zero)) lt = at 3 (i * 5 + 1 + 2) (omega arith) (omega arith) ∙ term (j * 5 + 3) (j * 5 + 1 + 2) (omega arith)
     column-at (suc (suc (suc zero))) lt = at 4 (i * 5 + 1 + 3) (omega arith) (omega arith) ∙ term (j * 5 + 4) (j * 5 + 1 + 3) (omega arith)
     column-at (suc (suc (suc (suc c)))) lt = absurd (omega arith)
-
-pub atoms-none : (q vals : List ℕ) (m : ℕ) (old : List ℕ) → AtomsPut q vals 0 m old old
-atoms-none q vals m old = record { long = refl; front = record { same = λ y lt. refl }; here = λ j lt. absurd (omega arith) }
 
 becomes-front : (q vals : List ℕ) (n j i : ℕ) (old new : List ℕ) → i < n → Fronted (n * 5) old new → Becomes q old (under vals) j i → Becomes q new (under vals) j i
 becomes-front q vals n j i old new lt f b = record {

@@ -5,7 +5,7 @@
 // it all such rows: the valuation that gives the question a row takes each frozen value to one of its own.
 #![tactic(auto)]
 
-ghost use Rattle.std.specs.Prelude.{◌≡◌, true, ◌+◌, ◌*◌, ◌≤◌, ◌<◌, min, length};
+ghost use Rattle.std.specs.Prelude.{◌≡◌, true, ◌+◌, ◌*◌, ◌≤◌, ◌<◌, min, length, IfSome};
 ghost use Rattle.tableau_layout.specs.Layout.{tableau_numbers};
 ghost use Rattle.query_layout.specs.Layout.{names};
 ghost use Rattle.sheet_format.specs.Limits.{most_atoms};
@@ -26,14 +26,7 @@ const FROZEN_AT: usize = VALUE_END as usize + NAMES;
 fn is_small(s: &[usize]) -> bool
     ensures { result ≡ true → BelowFrozen s.now }
 {
-    let mut i = 0;
-    while i < s.len() {
-        if FROZEN_AT <= s[i] {
-            return false;
-        }
-        i += 1;
-    }
-    true
+    s.iter().all(|number| *number < FROZEN_AT)
 }
 
 // Whether no value stands for a variable.
@@ -45,16 +38,7 @@ fn is_plain(
 ) -> bool
     ensures { result ≡ true → NoneFrozen q.now l.now facts.now row }
 {
-    if !is_small(q) {
-        return false;
-    }
-    if !is_small(l) {
-        return false;
-    }
-    if !is_small(facts) {
-        return false;
-    }
-    is_small(&row)
+    is_small(q) && is_small(l) && is_small(facts) && is_small(&row)
 }
 
 // What variable x becomes.
@@ -62,12 +46,10 @@ fn own_value(q: &[usize; BLOCK_NUMBERS], row: [usize; 4], k: usize, x: usize) ->
     requires { (k ≤ 4) × (x < names) }
     ensures { OwnValue q.now row k x result }
 {
-    let mut p = 0;
-    while p < k {
+    for p in 0..k {
         if q[HEAD_AT + p] == x {
             return row[p];
         }
-        p += 1;
     }
     FROZEN_AT + x
 }
@@ -77,23 +59,19 @@ fn own_values(q: &[usize; BLOCK_NUMBERS], row: [usize; 4], k: usize) -> [usize; 
     requires { k ≤ 4 }
     ensures { OwnValues q.now row k result }
 {
-    let mut vals = [0usize; NAMES];
-    let mut x = 0;
-    while x < NAMES {
+    let mut vals = [0; NAMES];
+    for x in 0..NAMES {
         vals[x] = own_value(q, row, k, x);
-        x += 1;
     }
     vals
 }
 
 // A term's value.
+#[tactic(auto, unfolding(query_join::specs::Joins::value_of))]
 fn value(t: usize, vals: &[usize; NAMES]) -> usize
     ensures { result ≡ value_of (under vals.now) t }
 {
-    if t < NAMES {
-        return vals[t];
-    }
-    t - NAMES
+    if t < NAMES { vals[t] } else { t - NAMES }
 }
 
 // Atom j as a fact.
@@ -102,22 +80,25 @@ fn atom(q: &[usize; BLOCK_NUMBERS], j: usize, vals: &[usize; NAMES]) -> [usize; 
     ensures { result ≡ atom_under q.now vals.now j }
 {
     let at = j * FACT_NUMBERS;
-    let a = value(q[at + 1], vals);
-    let b = value(q[at + 2], vals);
-    let c = value(q[at + 3], vals);
-    let d = value(q[at + 4], vals);
-    [q[at], a, b, c, d]
+    [
+        q[at],
+        value(q[at + 1], vals),
+        value(q[at + 2], vals),
+        value(q[at + 3], vals),
+        value(q[at + 4], vals),
+    ]
 }
 
 // The head's values.
 fn head(q: &[usize; BLOCK_NUMBERS], vals: &[usize; NAMES]) -> [usize; 4]
     ensures { result ≡ head_row (under vals.now) q.now }
 {
-    let a = value(q[HEAD_AT], vals);
-    let b = value(q[(HEAD_AT + 1)], vals);
-    let c = value(q[(HEAD_AT + 2)], vals);
-    let d = value(q[(HEAD_AT + 3)], vals);
-    [a, b, c, d]
+    [
+        value(q[HEAD_AT], vals),
+        value(q[HEAD_AT + 1], vals),
+        value(q[HEAD_AT + 2], vals),
+        value(q[HEAD_AT + 3], vals),
+    ]
 }
 
 // Copies the first n numbers.
@@ -125,11 +106,7 @@ fn copy(facts: &[usize], n: usize, out: &mut [usize])
     requires { (n ≤ length facts.now) × (n ≤ length out.old) }
     ensures { Fronted n facts.now out.new }
 {
-    let mut x = 0;
-    while x < n {
-        out[x] = facts[x];
-        x += 1;
-    }
+    out[..n].copy_from_slice(&facts[..n]);
 }
 
 // Puts a fact at place i.
@@ -137,11 +114,8 @@ fn put(out: &mut [usize], i: usize, f: [usize; 5])
     requires { i * 5 + 5 ≤ length out.old }
     ensures { FactPut f 5 (i * 5) out.old out.new }
 {
-    let mut d = 0;
-    while d < FACT_NUMBERS {
-        out[i * FACT_NUMBERS + d] = f[d];
-        d += 1;
-    }
+    let at = i * FACT_NUMBERS;
+    out[at..at + FACT_NUMBERS].copy_from_slice(&f);
 }
 
 // Puts the first n atoms as facts, from place m on.
@@ -155,11 +129,8 @@ fn put_atoms(
     requires { (n ≤ most_atoms) × ((m + n) * 5 ≤ length out.old) }
     ensures { AtomsPut q.now vals.now n m out.old out.new }
 {
-    let mut j = 0;
-    while j < n {
-        let f = atom(q, j, vals);
-        put(out, m + j, f);
-        j += 1;
+    for j in 0..n {
+        put(out, m + j, atom(q, j, vals));
     }
 }
 
@@ -187,7 +158,9 @@ fn is_covered(
     query_answers::gives(l, ln, &room[..(m + n) * FACT_NUMBERS], row)
 }
 
-// A column before which a row's values say that a list is given what the question is given, the first that was found; 4 if there is none.
+/// A column before which a row's values say that a list is given what the question is given, the first that was found.
+///
+/// `qn` and `ln` are the atoms of the question and of the list; `facts` has five numbers a fact. None says only that no such column was found.
 pub fn covered_from(
     q: &[usize; BLOCK_NUMBERS],
     qn: usize,
@@ -195,22 +168,18 @@ pub fn covered_from(
     ln: usize,
     facts: &[usize],
     row: [usize; 4],
-) -> usize
-    ensures upper_bound { result ≤ 4 }
-    ensures contained { result < 4 → Contained q.now (min qn most_atoms) l.now (min ln most_atoms) facts.now row result }
+) -> Option<usize>
+    ensures { IfSome result (λ k. (k < 4) × Contained q.now (min qn most_atoms) l.now (min ln most_atoms) facts.now row k) }
 {
-    if TABLEAU_NUMBERS < facts.len() {
-        return COLUMNS;
+    if TABLEAU_NUMBERS < facts.len() || !is_plain(q, l, facts, row) {
+        return None;
     }
-    if !is_plain(q, l, facts, row) {
-        return COLUMNS;
-    }
-    let mut k = COLUMNS;
-    while 0 < k {
-        if !is_covered(q, qn, l, ln, facts, row, k - 1) {
-            return k;
+    let mut first = None;
+    for k in (0..COLUMNS).rev() {
+        if !is_covered(q, qn, l, ln, facts, row, k) {
+            return first;
         }
-        k -= 1;
+        first = Some(k);
     }
-    k
+    first
 }

@@ -1,7 +1,7 @@
 -- The copies of the tableau, stored one by one. Assumes nothing.
 use mathlib.Core.Path.{◌≡◌, refl, sym, ap, ◌∙◌, subst}
 use mathlib.Core.List.{List, [], ◌∷◌, ◌++◌, append_assoc}
-use Prim.Native.Nat.{ℕ, zero, suc, ◌+◌, ◌-◌, ◌*◌, ◌<◌, ◌≤◌}
+use Prim.Native.Nat.{ℕ, zero, suc, ◌+◌, ◌*◌, ◌<◌, ◌≤◌}
 use native.Mathlib.Omega.{arith}
 use native.Mathlib.Numerals.{add-one}
 use lib.ListN.{length, get_or, drop, set, length-drop, drop_of_length-le}
@@ -16,9 +16,8 @@ use Rattle.sheet_format.proofs.Lists.{map_append}
 use Rattle.query_encoding.proofs.Lists.{at_in}
 use Rattle.list_laws.proofs.Ranges.{kept_set, kept-wide}
 use Rattle.list_laws.proofs.Lists.{part_get}
-use Rattle.query_meaning.specs.Meaning.{Atom, Block, value}
+use Rattle.query_meaning.specs.Meaning.{Atom, Block}
 use Rattle.query_encoding.specs.Encoding.{term_number, term_at, atom_at, BlockNumbers}
-use Rattle.case_verdicts.specs.Tableau.{copy}
 use Rattle.tableau_plan.specs.Plan.{block_numbers, block_size, slot_value}
 use Rattle.tableau_plan.specs.Parts.{KeptOutside, slot_of, source_of, empty_block, PlacedAtom, unplaced, placed_atom, placed_in, owed_atoms, with_owed, own_atoms, atoms_from, Sources, PlacedNumbers, AtomAt, AtomsStored, TableauDone}
 use Rattle.tableau_plan.proofs.Blocks.{numbers-same}

@@ -19,7 +19,7 @@ use Rattle.sheet_format.proofs.ScanLaws.{accepted-scan}
 use Rattle.query_meaning.specs.Meaning.{con, In}
 use Rattle.query_meaning.specs.Blocks.{View, is_row, rows, view_of, blocks, nth}
 use Rattle.query_blocks.proofs.Accepted.{scan-first}
-use Rattle.case_verdicts.specs.Tableau.{Job, listed, jobs}
+use Rattle.case_verdicts.specs.Tableau.{Job, listed}
 use Rattle.case_verdicts.specs.Sheets.{is_saved, is_view_kind}
 use Rattle.case_verdicts.proofs.Lists.{in_left, in_right, in-cases}
 use Rattle.tableau_plan.specs.Parts.{ViewRow, unlisted, rows_from}

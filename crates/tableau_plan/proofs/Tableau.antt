@@ -11,7 +11,7 @@ use Rattle.sheet_format.specs.Limits.{constant_end, most_rows}
 use Rattle.tableau_layout.specs.Layout.{slot_end}
 use Rattle.sheet_format.specs.Line.{gather}
 use Rattle.sheet_format.proofs.Lists.{map_append}
-use Rattle.query_meaning.specs.Meaning.{Term, con, var, Fact, value, row, fact, fact_of, Atom, Block}
+use Rattle.query_meaning.specs.Meaning.{Term, con, var, Fact, value, row, fact_of, Atom, Block}
 use Rattle.query_encoding.specs.Encoding.{term_number, term_at, FactNumbers}
 use Rattle.case_verdicts.specs.Accepted.{width, FineTerm, Fine}
 use Rattle.case_verdicts.specs.Sheets.{top}

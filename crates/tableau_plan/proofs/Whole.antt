@@ -13,10 +13,10 @@ use Rattle.sheet_format.specs.Line.{Line, gather}
 use Rattle.sheet_format.specs.Table.{Table, relation}
 use Rattle.sheet_format.specs.Cause.{refusal_of}
 use Rattle.query_meaning.specs.Meaning.{Term, con, Atom, Block, In}
-use Rattle.query_meaning.specs.Blocks.{View, blocks, nth, block_at}
+use Rattle.query_meaning.specs.Blocks.{View, blocks, nth}
 use Rattle.query_encoding.specs.Encoding.{BlockNumbers, FactNumbers, padded}
 use Rattle.case_verdicts.specs.Verdict.{Sheet}
-use Rattle.case_verdicts.specs.Handed.{row_atoms, size}
+use Rattle.case_verdicts.specs.Handed.{row_atoms}
 use Rattle.case_verdicts.specs.Accepted.{Fine}
 use Rattle.case_verdicts.specs.Sheets.{top, is_view_kind, sheet_of}
 use Rattle.case_verdicts.specs.Tableau.{Job, State, listed, jobs, tableau_log, bare}

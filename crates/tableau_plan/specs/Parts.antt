@@ -6,7 +6,7 @@ use Rattle.sheet_format.specs.Limits.{constant_end, most_lists}
 use Rattle.sheet_format.specs.Table.{Table, relation}
 use Rattle.list_laws.specs.Kept as ranges
 use Rattle.sheet_format.specs.Line.{Line, gather, natural}
-use Rattle.sheet_format.specs.Cause.{kind, rest, refusal_of}
+use Rattle.sheet_format.specs.Cause.{kind, rest}
 use Rattle.query_meaning.specs.Meaning.{Term, value, Atom, Block, In}
 use Rattle.query_meaning.specs.Blocks.{is_row, all_blocks, nowhere, nth}
 use Rattle.query_encoding.specs.Encoding.{term_number, term_at, BlockNumbers, padded}

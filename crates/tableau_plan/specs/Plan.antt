@@ -1,15 +1,15 @@
 -- A sheet in plain numbers, as the search for a case works on it: the tableau's atoms over slots, the listed rows, the blocks. No promise to
 -- a caller rests on these.
-use Rattle.std.specs.Prelude.{◌≡◌, Bool, true, false, cond, List, [], ◌∷◌, map, ℕ, zero, suc, ◌+◌, ◌-◌, ◌*◌, ◌<◌, ◌≤◌, ltb, length, get_or, take, drop}
+use Rattle.std.specs.Prelude.{◌≡◌, cond, List, [], ◌∷◌, map, ℕ, zero, suc, ◌+◌, ◌-◌, ◌*◌, ◌<◌, ◌≤◌, ltb, length, get_or, take, drop}
 use Rattle.query_layout.specs.Layout.{block_width}
 use Rattle.tableau_layout.specs.Layout.{asked_size_at, blocks_at, list_count_at, plan_numbers, row_count_at, rows_at, sizes_at, slot_end, table_at, tableau_atoms, tableau_size_at, view_count_at, question_block, list_block, view_block}
 use Rattle.sheet_format.specs.Limits.{most_lists, most_rows, most_views}
 use Rattle.sheet_format.specs.Table.{Table, relation, table_in}
-use Rattle.query_meaning.specs.Meaning.{Term, con, Block, In}
-use Rattle.query_meaning.specs.Blocks.{View, nowhere, nth}
+use Rattle.query_meaning.specs.Meaning.{con, Block, In}
+use Rattle.query_meaning.specs.Blocks.{nowhere, nth}
 use Rattle.query_encoding.specs.Encoding.{BlockNumbers, FactNumbers, padded}
 use Rattle.case_verdicts.specs.Verdict.{Sheet}
-use Rattle.case_verdicts.specs.Tableau.{Job, State, jobs, tableau_log, bare}
+use Rattle.case_verdicts.specs.Tableau.{State, jobs, tableau_log, bare}
 
 -- ---- the layout of the numbers
 

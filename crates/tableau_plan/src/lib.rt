@@ -23,8 +23,9 @@ use sheet_format::{
     VIEW_KIND,
 };
 use tableau_layout::{
-    BLOCKS_AT, MOST_BLOCKS, PLAN_NUMBERS, ROW_NUMBERS, ROWS_AT, SIZES_AT, SLOTS, TABLE_AT,
-    TABLEAU_ATOMS, TABLEAU_SIZE_AT, VIEW_BLOCKS,
+    ASKED_SIZE_AT, BLOCKS_AT, LIST_COUNT_AT, MOST_BLOCKS, PLAN_NUMBERS, QUESTION_BLOCK,
+    ROW_COUNT_AT, ROW_NUMBERS, ROWS_AT, SIZES_AT, SLOTS, TABLE_AT, TABLEAU_ATOMS, TABLEAU_SIZE_AT,
+    VIEW_BLOCKS, VIEW_COUNT_AT,
 };
 
 // Terms of a block are below this.
@@ -41,22 +42,15 @@ struct Tally {
 fn number_at(ws: &[i32], i: usize) -> usize
     ensures { result ≡ natural (get_or ws.now i (pos 0)) }
 {
-    if i < ws.len() {
-        return sheet_terms::number(ws[i]);
-    }
-    0
+    ws.get(i).map_or(0, |word| sheet_terms::number(*word))
 }
 
-// A block's numbers at a place.
-fn put_numbers(p: &mut [usize], at: usize, numbers: &[usize; BLOCK_NUMBERS])
-    requires { at + block_width ≤ length p.old }
-    ensures { KeptOutside p.old p.new at (at + block_width) × ((x : ℕ) → x < block_width → get_or p.new (at + x) 0 ≡ get_or numbers.now x 0) }
+// The numbers of a block, or of the table of relations, at a place.
+fn put_numbers<const N: usize>(p: &mut [usize], at: usize, numbers: &[usize; N])
+    requires { at + N ≤ length p.old }
+    ensures { KeptOutside p.old p.new at (at + N) × ((x : ℕ) → x < N → get_or p.new (at + x) 0 ≡ get_or numbers.now x 0) }
 {
-    let mut x = 0;
-    while x < BLOCK_NUMBERS {
-        p[at + x] = numbers[x];
-        x += 1;
-    }
+    p[at..at + N].copy_from_slice(numbers);
 }
 
 // Block b with its size.
@@ -64,8 +58,7 @@ fn put_block(p: &mut [usize], b: usize, found: Numbers)
     requires { (length p.old ≡ plan_numbers) × (b < most_blocks) }
     ensures { BlockStored p.old p.new b found.atoms found.numbers }
 {
-    let numbers = found.numbers;
-    put_numbers(p, BLOCKS_AT + b * BLOCK_NUMBERS, &numbers);
+    put_numbers(p, BLOCKS_AT + b * BLOCK_NUMBERS, &found.numbers);
     p[SIZES_AT + b] = found.atoms;
 }
 
@@ -75,30 +68,25 @@ fn count_lists(ws: &[i32]) -> usize
 {
     let n = ws.len() / LINE_WORDS;
     let mut lists = 0;
-    let mut i = 0;
-    while i < n {
-        let kind = number_at(ws, LINE_WORDS * i + 1);
-        i += 1;
-        if kind != SAVED_KIND {
-            continue;
+    for i in 0..n {
+        if number_at(ws, LINE_WORDS * i + 1) == SAVED_KIND {
+            lists += 1;
         }
-        lists += 1;
     }
     lists
 }
 
 // The place of block b, counted from 0, where there are so many lists.
+#[tactic(auto, unfolding(crate::specs::Parts::place_of))]
 fn place(lists: usize, b: usize) -> usize
     requires { b < most_blocks }
     ensures { result ≡ place_of lists b }
 {
     if b <= lists {
-        return b;
+        b
+    } else {
+        b + MOST_LISTS.saturating_sub(lists)
     }
-    if MOST_LISTS <= lists {
-        return b;
-    }
-    b + (MOST_LISTS - lists)
 }
 
 // All blocks, and how many there are, where there are so many lists.
@@ -106,8 +94,7 @@ fn put_blocks(ws: &[i32], lists: usize, p: &mut [usize]) -> usize
     requires { length p.old ≡ plan_numbers }
     ensures { (length p.new ≡ plan_numbers) × (AcceptedLines (word_lines ws.now) → lists ≡ length (lists_in (word_lines ws.now)) → Blocks p.new (word_lines ws.now) result) }
 {
-    let mut b = 0;
-    while b < MOST_BLOCKS {
+    for b in 0..MOST_BLOCKS {
         let found = query_blocks::block(ws, b + 1);
         if !found.some {
             return b;
@@ -117,9 +104,8 @@ fn put_blocks(ws: &[i32], lists: usize, p: &mut [usize]) -> usize
             return b;
         }
         put_block(p, at, found);
-        b += 1;
     }
-    b
+    MOST_BLOCKS
 }
 
 // The values of the row on line i, at a place.
@@ -127,21 +113,9 @@ fn put_values(ws: &[i32], i: usize, p: &mut [usize], at: usize)
     requires { (i < length ws.now / 7) × (at + 4 ≤ length p.old) }
     ensures { KeptOutside p.old p.new at (at + 4) × ((c : ℕ) → c < 4 → get_or p.new (at + c) 0 ≡ natural (get_or ws.now (7 * i + 2 + c) (pos 0))) }
 {
-    let mut c = 0;
-    while c < COLUMNS {
+    for c in 0..COLUMNS {
         p[at + c] = number_at(ws, LINE_WORDS * i + 2 + c);
-        c += 1;
     }
-}
-
-// The view of a row, from 0.
-fn view_of(views: usize) -> usize
-    ensures { result ≡ views - 1 }
-{
-    if views == 0 {
-        return 0;
-    }
-    views - 1
 }
 
 // One line more.
@@ -155,7 +129,7 @@ fn take_line(ws: &[i32], i: usize, p: &mut [usize], walk: Tally) -> Tally
     if kind == VIEW_KIND {
         return Tally {
             views: views + 1,
-            rows: r,
+            ..walk
         };
     }
     if kind != ROW_KIND {
@@ -165,8 +139,11 @@ fn take_line(ws: &[i32], i: usize, p: &mut [usize], walk: Tally) -> Tally
         return walk;
     }
     put_values(ws, i, p, ROWS_AT + r * ROW_NUMBERS + 1);
-    p[ROWS_AT + r * ROW_NUMBERS] = view_of(views);
-    Tally { views, rows: r + 1 }
+    p[ROWS_AT + r * ROW_NUMBERS] = views.saturating_sub(1);
+    Tally {
+        rows: r + 1,
+        ..walk
+    }
 }
 
 // All listed rows with their views, and how many there are.
@@ -176,26 +153,25 @@ fn put_rows(ws: &[i32], p: &mut [usize]) -> usize
 {
     let n = ws.len() / LINE_WORDS;
     let mut walk = Tally { views: 0, rows: 0 };
-    let mut i = 0;
-    while i < n {
+    for i in 0..n {
         walk = take_line(ws, i, p, walk);
-        i += 1;
     }
     walk.rows
 }
 
 // A block's term in the tableau: a slot of the copy, or a constant.
+#[tactic(auto, unfolding(crate::specs::Parts::slot_of))]
 fn slot(copy: usize, term: usize) -> usize
     requires { copy ≤ most_rows }
     ensures { result ≡ slot_of copy term }
 {
     if term < NAMES {
-        return copy * NAMES + term;
+        copy * NAMES + term
+    } else if term < TERMS {
+        term + (SLOTS - NAMES)
+    } else {
+        0
     }
-    if term < TERMS {
-        return term + (SLOTS - NAMES);
-    }
-    0
 }
 
 // The terms of an atom of a copy, at a place.
@@ -203,10 +179,8 @@ fn place_terms(p: &mut [usize], copy: usize, from: usize, at: usize)
     requires { (length p.old ≡ plan_numbers) × (copy ≤ most_rows) × (rows_at ≤ from) × (from + 4 ≤ plan_numbers) × (at + 4 ≤ rows_at) }
     ensures { KeptOutside p.old p.new at (at + 4) × ((c : ℕ) → c < 4 → get_or p.new (at + c) 0 ≡ slot_of copy (get_or p.old (from + c) 0)) }
 {
-    let mut c = 0;
-    while c < COLUMNS {
+    for c in 0..COLUMNS {
         p[at + c] = slot(copy, p[from + c]);
-        c += 1;
     }
 }
 
@@ -256,10 +230,8 @@ fn put_atoms(
     ensures { (result ≤ tableau_atoms) × KeptOutside p.old p.new 0 rows_at × ((l left : List PlacedAtom) (own : List Atom) → length l ≤ tableau_atoms → n ≡ length own → ((j : ℕ) → j < n → AtomAt p.old (from + j * 5) (atom_at own j)) → AtomsStored p.old at l (own_atoms (table_in table.now) copy own ++ left) → AtomsStored p.new result l left) }
 {
     let mut next = at;
-    let mut j = 0;
-    while j < n {
+    for j in 0..n {
         next = put_atom(table, p, copy, from + j * FACT_NUMBERS, next);
-        j += 1;
     }
     next
 }
@@ -270,13 +242,13 @@ fn source(p: &[usize], copy: usize) -> usize
     ensures { (source_of p.now copy < most_blocks → result ≡ source_of p.now copy) × (result < most_blocks) }
 {
     if copy == 0 {
-        return 0;
+        return QUESTION_BLOCK;
     }
     let view = p[ROWS_AT + (copy - 1) * ROW_NUMBERS];
     if view < MOST_VIEWS {
         return VIEW_BLOCKS + view;
     }
-    0
+    QUESTION_BLOCK
 }
 
 // One copy more, its atoms from atom `at` on; the next place.
@@ -298,10 +270,8 @@ fn put_tableau(table: &[usize; TABLE_NUMBERS], p: &mut [usize], n: usize, asked:
     ensures { (result ≤ tableau_atoms) × KeptOutside p.old p.new 0 rows_at × ((bs : List Block) → Sources (table_in table.now) p.old n bs → TableauDone (table_in table.now) p.old 1 asked bs → TableauDone (table_in table.now) p.new (n + 1) result bs) }
 {
     let mut at = asked;
-    let mut copy = 1;
-    while copy <= n {
+    for copy in 1..=n {
         at = put_copy(table, p, copy, at);
-        copy += 1;
     }
     at
 }
@@ -310,10 +280,7 @@ fn put_tableau(table: &[usize; TABLE_NUMBERS], p: &mut [usize], n: usize, asked:
 fn views_of(blocks: usize, lists: usize) -> usize
     ensures { result ≡ blocks - (1 + lists) }
 {
-    if blocks <= lists {
-        return 0;
-    }
-    blocks - lists - 1
+    blocks.saturating_sub(lists).saturating_sub(1)
 }
 
 // The five counts.
@@ -329,25 +296,13 @@ fn put_counts(
     ensures { Closed p.old p.new atoms asked listed lists views }
 {
     p[TABLEAU_SIZE_AT] = atoms;
-    p[TABLEAU_SIZE_AT + 1] = asked;
-    p[TABLEAU_SIZE_AT + 2] = listed;
-    p[TABLEAU_SIZE_AT + 3] = views;
-    p[TABLEAU_SIZE_AT + 4] = lists;
+    p[ASKED_SIZE_AT] = asked;
+    p[ROW_COUNT_AT] = listed;
+    p[VIEW_COUNT_AT] = views;
+    p[LIST_COUNT_AT] = lists;
 }
 
-// The table of relations at its place.
-fn put_table(table: &[usize], p: &mut [usize])
-    requires { (length table.now ≡ table_number_count) × (length p.old ≡ plan_numbers) }
-    ensures { KeptOutside p.old p.new table_at (table_at + table_number_count) × ((x : ℕ) → x < table_number_count → get_or p.new (table_at + x) 0 ≡ get_or table.now x 0) × (length table.now ≡ table_number_count) }
-{
-    let mut x = 0;
-    while x < TABLE_NUMBERS {
-        p[TABLE_AT + x] = table[x];
-        x += 1;
-    }
-}
-
-// The plan of a number form that a table of relations accepts, where there are as many words as a plan has; more or fewer words are left as they are.
+/// The plan of a number form that a table of relations accepts, where there are as many words as a plan has; more or fewer words are left as they are.
 pub fn plan(table: &[usize; TABLE_NUMBERS], ws: &[i32], p: &mut [usize])
     ensures plan { length p.old ≡ plan_numbers → (refusal_of (table_in table.now) (word_lines ws.now)).number ≡ 0 → Plan p.new (sheet_of (table_in table.now) (word_lines ws.now)) }
     ensures p_unchanged { (length p.old ≡ plan_numbers → ⊥) → p.new ≡ p.old }
@@ -361,5 +316,5 @@ pub fn plan(table: &[usize; TABLE_NUMBERS], ws: &[i32], p: &mut [usize])
     let asked = put_copy(table, p, 0, 0);
     let atoms = put_tableau(table, p, listed, asked);
     put_counts(p, atoms, asked, listed, lists, views_of(blocks, lists));
-    put_table(table, p);
+    put_numbers(p, TABLE_AT, table);
 }

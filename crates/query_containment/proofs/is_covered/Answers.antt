@@ -1,4 +1,3 @@
-use lib.Seq.{length-take-le}
 use Rattle.sheet_format.specs.Limits.{most_atoms}
 use Rattle.query_containment.proofs.Laws.{covers, laid}
 use Rattle.query_containment.specs.Containment.{Contained}
@@ -6,7 +5,7 @@ use Rattle.query_join.specs.Joins.{Given}
 use Rattle.query_answers.specs.Answers.{GivesBy}
 use Prim.Native.Nat.{◌/◌, min, ◌+◌, ◌*◌}
 use lib.ListN.{take, length}
-use mathlib.Core.Path.{refl, sym, subst}
+use mathlib.Core.Path.{refl, subst}
 use borrow.Author.Rules.{rules}
 use Rattle.query_containment.proofs.is_covered.Goals as goal
 

@@ -1,8 +1,5 @@
 use native.Mathlib.Omega.{arith}
-use borrow.Author.Rules.{rules}
-use Rattle.tableau_layout.specs.Layout.{rows_at}
-use Rattle.list_laws.proofs.Ranges.{kept-none}
-use Rattle.tableau_plan.proofs.Copies.{stored-room, atom-kept, atom-stored}
+use Rattle.tableau_plan.proofs.Copies.{atom-kept, atom-stored}
 use Rattle.tableau_plan.proofs.place_atom.Goals as goal
 
 pub returns : goal.returns

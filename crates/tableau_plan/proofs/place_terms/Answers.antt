@@ -1,10 +1,8 @@
 use mathlib.Core.Path.{ap, ◌∙◌}
-use Prim.Native.Nat.{◌≤◌, ◌-◌, ◌+◌}
+use Prim.Native.Nat.{◌+◌}
 use native.Mathlib.Omega.{arith}
-use borrow.Author.Rules.{rules}
 use lib.ListN.{get_or}
-use Rattle.list_laws.proofs.Ranges.{shifted, placed-none, placed-more, placed-all}
-use Rattle.list_laws.specs.Kept.{Filled}
+use Rattle.list_laws.proofs.Ranges.{placed-more, placed-all}
 use Rattle.tableau_plan.specs.Parts.{slot_of}
 use Rattle.tableau_plan.proofs.place_terms.Goals as goal
 

@@ -1,15 +1,9 @@
-use mathlib.Core.Path.{ap, ◌∙◌}
-use Prim.Native.Nat.{◌≤◌, ◌-◌, ◌+◌}
-use native.Mathlib.Omega.{arith}
-use borrow.Author.Rules.{rules}
+use Prim.Native.Nat.{◌≤◌, ◌+◌}
 use lib.ListN.{get_or}
-use Rattle.list_laws.proofs.Ranges.{shifted, placed-none, placed-more, placed-all}
+use Rattle.list_laws.proofs.Ranges.{shifted}
 use Rattle.list_laws.specs.Kept.{Filled}
 use Rattle.tableau_plan.specs.Parts.{slot_of}
 use Rattle.tableau_plan.proofs.place_terms.Given as goal
 
 abbrev pub invariant-loop-c : goal.invariant-loop-c
 invariant-loop-c l = (l.c ≤ 4) × Filled 0 l.initial.p l.p l.at (l.at + l.c) (shifted l.at (λ y. slot_of l.copy (get_or l.initial.p (l.from + y) 0)))
-
-abbrev pub decreases-loop-c : goal.decreases-loop-c
-decreases-loop-c l = 4 - l.c

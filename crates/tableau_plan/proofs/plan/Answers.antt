@@ -1,5 +1,4 @@
-use mathlib.Core.Path.{◌≡◌, refl, ◌∙◌, subst}
-use Rattle.sheet_format.specs.Limits.{table_number_count}
+use mathlib.Core.Path.{◌∙◌, subst}
 use native.Mathlib.Omega.{arith}
 use lib.ListN.{length}
 use Prim.Native.Nat.{◌/◌}
@@ -24,7 +23,7 @@ returns c = record {
       let q = c.put_copy-asked in
       let t = c.put_tableau-atoms in
       let n = c.put_counts in
-      let e = c.put_table in
+      let e = c.put_numbers in
       let p = e.new.p in
       let l = lines-length w in
       let accepted : AcceptedLines (word_lines w) = (table_in table, ok) in
@@ -33,6 +32,6 @@ returns c = record {
       let closed = closed-kept t.new.p n.new.p p t.result q.result r.result k.result _ counts e.ensures.0 in
       let size = closed.same ∙ t.ensures.1.same ∙ q.ensures.1.same ∙ r.ensures.1.same ∙ b.ensures.0 in
       plan_of (table_in table) (word_lines w) ok b.new.p r.new.p q.new.p t.new.p p b.result k.result (length w / 7) v r.result q.result t.result b.ensures.0 (k.ensures accepted) (b.ensures.1 accepted (k.ensures accepted)) r.ensures.1 r.ensures.0 (omega arith) d
-      q.ensures.1 q.ensures.2 t.ensures.1 t.ensures.0 t.ensures.2 closed (table-stands p table size e.ensures.2 e.ensures.1);
+      q.ensures.1 q.ensures.2 t.ensures.1 t.ensures.0 t.ensures.2 closed (table-stands p table size (search rules) e.ensures.1);
   p_unchanged = λ other. absurd (other c.if-p-ne-PLAN_NUMBERS.false);
 }

@@ -1,15 +1,13 @@
-use mathlib.Core.Path.{◌≡◌, ◌∙◌, subst}
-use mathlib.Core.List.{List, ◌++◌}
-use Prim.Native.Nat.{ℕ, ◌≤◌, ◌<◌, ◌-◌, ◌+◌, ◌*◌}
+use mathlib.Core.Path.{subst}
+use mathlib.Core.List.{◌++◌}
+use Prim.Native.Nat.{◌<◌, ◌+◌, ◌*◌}
 use native.Mathlib.Omega.{arith}
-use borrow.Author.Rules.{rules}
 use lib.ListN.{length, drop}
 use Rattle.sheet_format.specs.Table.{table_in}
-use Rattle.tableau_layout.specs.Layout.{rows_at, tableau_atoms}
-use Rattle.list_laws.proofs.Ranges.{kept-none, kept_more}
-use Rattle.query_meaning.specs.Meaning.{Atom}
+use Rattle.tableau_layout.specs.Layout.{rows_at}
+use Rattle.list_laws.proofs.Ranges.{kept_more}
 use Rattle.query_encoding.specs.Encoding.{atom_at}
-use Rattle.tableau_plan.specs.Parts.{KeptOutside, PlacedAtom, own_atoms, AtomAt, AtomsStored}
+use Rattle.tableau_plan.specs.Parts.{own_atoms, AtomsStored}
 use Rattle.tableau_plan.proofs.Copies.{atom-same, own_first, own-none}
 use Rattle.tableau_plan.proofs.put_atoms.Goals as goal
 

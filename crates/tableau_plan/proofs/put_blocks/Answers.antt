@@ -1,13 +1,10 @@
-use mathlib.Core.Path.{◌≡◌, sym, ◌∙◌, subst}
-use Prim.Native.Nat.{◌≤◌, ◌-◌, ◌<◌}
+use mathlib.Core.Path.{◌≡◌, subst}
+use Prim.Native.Nat.{◌≤◌, ◌<◌}
 use native.Mathlib.Omega.{arith}
-use borrow.Author.Rules.{rules}
-use lib.ListN.{length}
-use Rattle.tableau_layout.specs.Layout.{most_blocks, plan_numbers}
+use Rattle.tableau_layout.specs.Layout.{most_blocks}
 use Rattle.sheet_format.specs.Line.{word_lines}
-use Rattle.query_blocks.specs.Parts.{AcceptedLines}
-use Rattle.tableau_plan.specs.Parts.{BlockStored, place_of}
-use Rattle.tableau_plan.proofs.Blocks.{BlocksSoFar, begun-none, begun_more, begun-end, begun_all, begun-out}
+use Rattle.tableau_plan.specs.Parts.{BlockStored, Blocks}
+use Rattle.tableau_plan.proofs.Blocks.{begun_more, begun-end, begun_all, begun-out}
 use borrow.Author.Tests.{not-true, not-false}
 use Rattle.tableau_plan.proofs.put_blocks.Goals as goal
 
@@ -39,4 +36,5 @@ loop-b-preserved c = let w = c.put_block in
 pub returns : goal.returns
 returns c = let l = c.loop-b in
     let a = c.args in
-    (l.invariant.1, λ ok so. begun_all l.p (word_lines a.ws.now) a.lists l.b ok so (l.invariant.2 ok) (omega arith))
+    let all : l.b ≡ most_blocks = omega arith in
+    (l.invariant.1, λ ok so. subst (Blocks l.p (word_lines a.ws.now)) all (begun_all l.p (word_lines a.ws.now) a.lists l.b ok so (l.invariant.2 ok) (omega arith)))

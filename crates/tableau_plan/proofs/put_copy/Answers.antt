@@ -1,14 +1,10 @@
-use mathlib.Core.Path.{ap, sym, subst}
+use mathlib.Core.Path.{sym, subst}
 use Prim.Native.Nat.{suc}
-use native.Mathlib.Omega.{arith}
 use native.Mathlib.Numerals.{add-one}
 use lib.ListN.{drop}
-use borrow.Author.Rules.{rules}
 use Rattle.sheet_format.specs.Table.{table_in}
-use Rattle.tableau_layout.specs.Layout.{rows_at}
-use Rattle.list_laws.proofs.Ranges.{kept-none}
-use Rattle.tableau_plan.specs.Parts.{atoms_from, AtomsStored, TableauDone}
-use Rattle.tableau_plan.proofs.Copies.{copy_block, copy-few, copy-size, copy-atoms, copy-ahead}
+use Rattle.tableau_plan.specs.Parts.{atoms_from, AtomsStored}
+use Rattle.tableau_plan.proofs.Copies.{copy_block, copy-size, copy-atoms, copy-ahead}
 use Rattle.tableau_plan.proofs.put_copy.Goals as goal
 
 pub returns : goal.returns

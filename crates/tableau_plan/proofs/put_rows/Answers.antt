@@ -1,15 +1,9 @@
-use mathlib.Core.Path.{◌≡◌, ◌∙◌, subst}
-use Prim.Native.Nat.{◌≤◌, ◌-◌, ◌/◌}
+use mathlib.Core.Path.{◌≡◌, subst}
+use Prim.Native.Nat.{◌/◌}
 use native.Mathlib.Omega.{arith}
-use borrow.Author.Rules.{rules}
 use lib.ListN.{length}
-use Rattle.tableau_layout.specs.Layout.{blocks_at, rows_at}
-use Rattle.sheet_format.specs.Limits.{most_rows}
-use Rattle.list_laws.proofs.Ranges.{kept-none, kept_more}
 use Rattle.sheet_format.specs.Line.{word_lines}
-use Rattle.tableau_plan.specs.Parts.{KeptOutside, RowsDone}
-use Rattle.query_blocks.specs.Parts.{AcceptedLines}
-use Rattle.tableau_plan.proofs.Taken.{done-start}
+use Rattle.tableau_plan.specs.Parts.{RowsDone}
 use Rattle.tableau_plan.proofs.put_rows.Goals as goal
 
 pub returns : goal.returns

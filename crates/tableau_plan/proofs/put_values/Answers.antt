@@ -1,10 +1,8 @@
-use Prim.Native.Nat.{◌≤◌, ◌-◌, ◌+◌, ◌*◌}
+use Prim.Native.Nat.{◌+◌, ◌*◌}
 use native.Mathlib.Omega.{arith}
-use borrow.Author.Rules.{rules}
 use lib.ListN.{get_or}
 use lib.IntN.{pos}
-use Rattle.list_laws.proofs.Ranges.{shifted, placed-none, placed-more, placed-all}
-use Rattle.list_laws.specs.Kept.{Filled}
+use Rattle.list_laws.proofs.Ranges.{placed-more, placed-all}
 use Rattle.sheet_format.specs.Line.{natural}
 use Rattle.tableau_plan.proofs.put_values.Goals as goal
 

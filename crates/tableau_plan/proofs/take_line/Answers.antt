@@ -1,6 +1,5 @@
 use mathlib.Core.Path.{sym, ◌∙◌}
 use native.Mathlib.Omega.{arith}
-use borrow.Author.Rules.{rules}
 use Rattle.tableau_layout.specs.Layout.{blocks_at, rows_at}
 use Rattle.list_laws.proofs.Ranges.{kept-none}
 use Rattle.sheet_format.proofs.WordLines.{lines-length}
@@ -45,6 +44,6 @@ returns c = let a = c.args in
     let is = c.if-kind-ne-ROW_KIND.false in (
       omega arith,
       omega arith,
-      row_kept a.p.now v.new.p a.walk.rows c.view_of.result few v.ensures.0,
-      λ ok h. row-taken w a.i (omega arith) ok a.p.now v.new.p a.walk.views a.walk.rows c.view_of.result few c.requires.1 v.ensures.0 v.ensures.1 c.view_of.ensures (sym k ∙ is) h,
+      row_kept a.p.now v.new.p a.walk.rows c.saturating_sub.result few v.ensures.0,
+      λ ok h. row-taken w a.i (omega arith) ok a.p.now v.new.p a.walk.views a.walk.rows c.saturating_sub.result few c.requires.1 v.ensures.0 v.ensures.1 c.saturating_sub.ensures (sym k ∙ is) h,
     )
