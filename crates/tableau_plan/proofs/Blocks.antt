@@ -111,15 +111,6 @@ place-high : (lists b : ℕ) → lists < b → place_of lists b ≡ b + (most_li
 unfolding place_of
 place-high lists b lt = rw (lt-leb b lists lt)
 
-pub place-first : (lists b : ℕ) → b ≤ lists → b ≡ place_of lists b
-place-first lists b le = sym (place-low lists b le)
-
-pub place-full : (lists b : ℕ) → lists < b → most_lists ≤ lists → b ≡ place_of lists b
-place-full lists b lt le = let e = place-high lists b lt in omega arith
-
-pub place-later : (lists b : ℕ) → lists < b → b + (most_lists - lists) ≡ place_of lists b
-place-later lists b lt = sym (place-high lists b lt)
-
 at_most : (m n : ℕ) → (m ≤ n) ⊎ (n < m)
 at_most m n = go (leb m n) refl
   where

@@ -1,18 +1,24 @@
-use mathlib.Core.Logic.{inl, inr}
-use Rattle.list_laws.proofs.Order.{agree-more, agree-none, agree-sym, agree-all, order, not-below}
-use Rattle.list_laws.specs.Order.{SameBefore}
-use mathlib.Core.Path.{◌≡◌}
-use Prim.Native.Nat.{◌≤◌, ◌-◌}
+use mathlib.Core.Logic.{◌⊎◌, inl, inr}
+use borrow.Author.Tests.{lt-ltb, le-ltb}
+use lib.Dec.{ltb}
+use Rattle.tableau_parts.specs.Walks.{BelowBy}
+use Rattle.list_laws.proofs.Order.{less?, agree-sym, agree-all, order, not-below}
+use Prim.Native.Nat.{◌≤◌, ◌<◌}
 use native.Mathlib.Omega.{arith}
-use borrow.Author.Rules.{rules}
-use lib.ListN.{length}
+use lib.ListN.{get_or}
 use Rattle.tableau_parts.proofs.below.Goals as goal
 
 pub returns-then-t-k : goal.returns-then-t-k
-returns-then-t-k c = order c.loop-k.k c.args.t c.args.u (omega arith) (omega arith) c.loop-k.invariant.1 c.if-t-k.true
-
-pub returns-then-u-k : goal.returns-then-u-k
-returns-then-u-k c = not-below c.args.t c.args.u (inr (order c.loop-k.k c.args.u c.args.t (omega arith) (omega arith) (agree-sym c.loop-k.invariant.1) c.if-u-k.true))
+returns-then-t-k c = let l = c.loop-k in
+    let a = c.args in
+    side (less? (get_or a.t l.k 0) (get_or a.u l.k 0))
+  where
+    side : (get_or c.args.t c.loop-k.k 0 < get_or c.args.u c.loop-k.k 0) ⊎ (get_or c.args.u c.loop-k.k 0 ≤ get_or c.args.t c.loop-k.k 0)
+        → BelowBy (ltb (get_or c.args.t c.loop-k.k 0) (get_or c.args.u c.loop-k.k 0)) c.args.t c.args.u
+    side (inl lt) = rw (lt-ltb _ _ lt) (order c.loop-k.k c.args.t c.args.u (omega arith) (omega arith) c.loop-k.invariant.1 lt)
+    side (inr le) =
+        rw (le-ltb _ _ le)
+        (not-below c.args.t c.args.u (inr (order c.loop-k.k c.args.u c.args.t (omega arith) (omega arith) (agree-sym c.loop-k.invariant.1) (let ne = c.if-t-k.true in omega arith))))
 
 pub returns : goal.returns
 returns c = not-below c.args.t c.args.u (inl (agree-all c.loop-k.k c.args.t c.args.u (omega arith) (omega arith) c.loop-k.invariant.1))
