@@ -1,11 +1,11 @@
 // The least row that the question of a plan is given and no list is.
 #![tactic(auto)]
 
-ghost use Rattle.std.specs.Prelude.{◌≡◌, true, false, ◌≤◌, ◌<◌, min};
+ghost use Rattle.std.specs.Prelude.{◌≡◌, true, false, ◌≤◌, ◌<◌, min, IfSome};
 ghost use Rattle.tableau_layout.specs.Layout.{list_block};
 ghost use Rattle.sheet_format.specs.Limits.{most_atoms, most_lists};
 ghost use Rattle.query_join.specs.Joins.{SafeBlock, NextBy};
-ghost use Rattle.list_laws.specs.Order.{SameBefore};
+ghost use Rattle.list_laws.specs.Order.{◌⊏◌, SameBefore};
 ghost use Rattle.tableau_plan.specs.Plan.{list_count};
 ghost use Rattle.tableau_parts.specs.Views.{GivenAt, GivenToList, MissingBy};
 ghost use Rattle.tableau_parts.specs.Walks.{FormedPlan, room, CoveredAt, Onward};
@@ -61,11 +61,16 @@ fn follow(
     r
 }
 
-// A column before which a row's values say that list i is given what the question is given; 4 if none is found.
-fn covered_from(p: &[usize; PLAN_NUMBERS], i: usize, facts: &[usize], row: [usize; 4]) -> usize
+// A column before which a row's values say that list i is given what the question is given.
+fn covered_from(
+    p: &[usize; PLAN_NUMBERS],
+    i: usize,
+    facts: &[usize],
+    row: [usize; 4],
+) -> Option<usize>
     requires { i < most_lists }
-    ensures upper_bound { result ≤ 4 }
-    ensures covered_at { FormedPlan p.now → result < 4 → CoveredAt p.now i facts.now row result }
+    ensures in_row { IfSome result (λ k. k < 4) }
+    ensures covered_at { FormedPlan p.now → IfSome result (CoveredAt p.now i facts.now row) }
 {
     let question = tableau_parts::block_at(p, 0);
     let list = tableau_parts::block_at(p, LIST_BLOCKS + i);
@@ -76,108 +81,102 @@ fn covered_from(p: &[usize; PLAN_NUMBERS], i: usize, facts: &[usize], row: [usiz
 
 // The last row that can begin as a row does in the columns before k.
 fn last_from(row: [usize; 4], k: usize) -> [usize; 4]
+    requires { k ≤ 4 }
     ensures { SameBefore k row result }
 {
     let mut far = row;
-    let mut c = k;
-    while c < 4 {
-        far[c] = usize::MAX;
-        c += 1;
-    }
+    far[k..].fill(usize::MAX);
     far
 }
 
-// The last row that begins as a row does where list i is given all that do; the row itself if none is known.
-fn covered_to(p: &[usize; PLAN_NUMBERS], i: usize, facts: &[usize], row: [usize; 4]) -> [usize; 4]
+// The last row that begins as a row does where list i is given all that do, if it follows the row.
+fn covered_to(
+    p: &[usize; PLAN_NUMBERS],
+    i: usize,
+    facts: &[usize],
+    row: [usize; 4],
+) -> Option<[usize; 4]>
     requires { i < most_lists }
-    ensures { FormedPlan p.now → i < list_count p.now → GivenAt p.now (list_block i) facts.now row → Onward p.now facts.now row result }
+    ensures follows { IfSome result (λ far. row ⊏ far) }
+    ensures onward { FormedPlan p.now → i < list_count p.now → GivenAt p.now (list_block i) facts.now row → IfSome result (Onward p.now facts.now row) }
 {
-    let k = covered_from(p, i, facts, row);
-    let far = last_from(row, k);
+    let far = last_from(row, covered_from(p, i, facts, row)?);
     if tableau_parts::below(row, far) {
-        return far;
+        Some(far)
+    } else {
+        None
     }
-    row
 }
 
-// The first column in which two rows differ; 4 if there is none.
-fn first_difference(t: [usize; 4], u: [usize; 4]) -> usize {
-    let mut k = 0;
-    while k < COLUMNS {
-        if t[k] != u[k] {
-            return k;
-        }
-        k += 1;
-    }
-    k
-}
-
-// The last row that begins as a row does before column k and has a value there that is known to be dominated; the row itself if none is known.
-fn dominated_to(p: &[usize; PLAN_NUMBERS], facts: &[usize], row: [usize; 4], k: usize) -> [usize; 4]
-    ensures { FormedPlan p.now → GivenToList p.now facts.now row → GivenBelow p.now facts.now row → Onward p.now facts.now row result }
+// The first column in which two rows differ.
+fn first_difference(t: [usize; 4], u: [usize; 4]) -> Option<usize>
+    ensures { IfSome result (λ k. k < 4) }
 {
-    if COLUMNS <= k {
-        return row;
-    }
-    let end = tableau_dominance::given_up_to(p, facts, row, k);
+    t.iter().zip(&u).position(|(x, y)| x != y)
+}
+
+// The last row that begins as a row does before column k and has a value there that is known to be dominated, if it follows the row.
+fn dominated_to(
+    p: &[usize; PLAN_NUMBERS],
+    facts: &[usize],
+    row: [usize; 4],
+    k: usize,
+) -> Option<[usize; 4]>
+    requires { k < 4 }
+    ensures follows { IfSome result (λ far. row ⊏ far) }
+    ensures onward { FormedPlan p.now → GivenToList p.now facts.now row → GivenBelow p.now facts.now row → IfSome result (Onward p.now facts.now row) }
+{
+    let end = tableau_dominance::given_up_to(p, facts, row, k)?;
     if end <= row[k] {
-        return row;
+        return None;
     }
     let mut far = last_from(row, k);
     far[k] = end - 1;
-    far
+    if tableau_parts::below(row, far) {
+        Some(far)
+    } else {
+        None
+    }
 }
 
 // The count after one row more.
 fn counted(passed: usize) -> usize {
     if passed < ROUND {
-        return passed + 1;
+        passed + 1
+    } else {
+        ONE_BY_ONE
     }
-    ONE_BY_ONE
 }
 
-// Where a walk that came from a row goes on from the next, which a list is given: from that one, or from the last up to which the values of the
-// column that changed are dominated.
+// Where a walk that came from a row, that of the pace, goes on from the next, which a list is given: from that one, or from the last up to which
+// the values of the column that changed are dominated.
 fn onward_dominated(
     p: &[usize; PLAN_NUMBERS],
     facts: &[usize],
     row: [usize; 4],
-    from: [usize; 4],
-    passed: usize,
-    vain: [bool; 4],
+    pace: Pace,
 ) -> Pace
     ensures onward { FormedPlan p.now → GivenToList p.now facts.now row → GivenBelow p.now facts.now row → Onward p.now facts.now row result.values }
     ensures values_bound { room true result.values ≤ room true row }
 {
-    let k = first_difference(from, row);
-    if COLUMNS <= k {
-        return Pace {
-            passed,
-            vain,
-            values: row,
-        };
-    }
-    if vain[k] {
-        return Pace {
-            passed,
-            vain,
-            values: row,
-        };
-    }
-    let far = dominated_to(p, facts, row, k);
-    if tableau_parts::below(row, far) {
-        return Pace {
-            passed,
-            vain,
-            values: far,
-        };
-    }
-    let mut now_vain = vain;
-    now_vain[k] = true;
-    Pace {
-        passed,
-        vain: now_vain,
+    let here = Pace {
         values: row,
+        ..pace
+    };
+    let Some(k) = first_difference(pace.values, row) else {
+        return here;
+    };
+    if pace.vain[k] {
+        return here;
+    }
+    let Some(far) = dominated_to(p, facts, row, k) else {
+        let mut vain = pace.vain;
+        vain[k] = true;
+        return Pace { vain, ..here };
+    };
+    Pace {
+        values: far,
+        ..pace
     }
 }
 
@@ -188,31 +187,29 @@ fn onward(p: &[usize; PLAN_NUMBERS], i: usize, facts: &[usize], row: [usize; 4],
     ensures onward { FormedPlan p.now → i < list_count p.now → GivenAt p.now (list_block i) facts.now row → GivenBelow p.now facts.now row → Onward p.now facts.now row result.values }
     ensures values_bound { room true result.values ≤ room true row }
 {
-    let passed = pace.passed;
-    let vain = pace.vain;
-    let from = pace.values;
-    if passed < ONE_BY_ONE {
+    if pace.passed < ONE_BY_ONE {
         return Pace {
-            passed: passed + 1,
-            vain: [false; 4],
+            passed: pace.passed + 1,
+            vain: [false; COLUMNS],
             values: row,
         };
     }
-    if ONE_BY_ONE < passed {
-        return onward_dominated(p, facts, row, from, counted(passed), vain);
+    let passed = counted(pace.passed);
+    if ONE_BY_ONE < pace.passed {
+        return onward_dominated(p, facts, row, Pace { passed, ..pace });
     }
-    let far = covered_to(p, i, facts, row);
-    if tableau_parts::below(row, far) {
+    let vain = [false; COLUMNS];
+    if let Some(values) = covered_to(p, i, facts, row) {
         return Pace {
-            passed,
-            vain: [false; 4],
-            values: far,
+            passed: pace.passed,
+            vain,
+            values,
         };
     }
-    onward_dominated(p, facts, row, from, counted(passed), [false; 4])
+    onward_dominated(p, facts, row, Pace { passed, vain, ..pace })
 }
 
-// The least row that the question is given and no list is, if there is one.
+/// The least row that the question is given and no list is, if there is one.
 pub fn missing(p: &[usize; PLAN_NUMBERS], facts: &[usize]) -> query_rows::Row
     ensures { FormedPlan p.now → MissingBy result.some p.now facts.now result.values }
 {

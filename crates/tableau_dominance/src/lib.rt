@@ -4,7 +4,7 @@
 // the row with b in its place is. That one is lower, so an ascending walk has passed it.
 #![tactic(auto)]
 
-ghost use Rattle.std.specs.Prelude.{◌≡◌, true, ℕ, ◌*◌, ◌/◌, ◌≤◌, ◌<◌, length};
+ghost use Rattle.std.specs.Prelude.{◌≡◌, true, ℕ, ◌*◌, ◌/◌, ◌≤◌, ◌<◌, length, IfSome};
 ghost use Rattle.sheet_format.specs.Limits.{most_atoms};
 ghost use Rattle.tableau_layout.specs.Layout.{most_blocks, plan_numbers, list_block};
 ghost use Rattle.tableau_plan.specs.Plan.{list_count};
@@ -36,45 +36,30 @@ fn lists_dominate(p: &[usize; PLAN_NUMBERS], facts: &[usize], k: usize, x: usize
     ensures { FormedPlan p.now → result ≡ true → (i : ℕ) → i < list_count p.now → DominatesAt p.now (list_block i) facts.now k x y }
 {
     let lists = tableau_parts::list_count(p);
-    let mut i = 0;
-    while i < lists {
-        if !dominates_at(p, LIST_BLOCKS + i, facts, k, x, y) {
-            return false;
-        }
-        i += 1;
-    }
-    true
+    (0..lists).all(|i| dominates_at(p, LIST_BLOCKS + i, facts, k, x, y))
 }
 
 // Whether b dominates a in column k of the question's rows, and a dominates b in each list's.
 fn is_dominated(p: &[usize; PLAN_NUMBERS], facts: &[usize], k: usize, a: usize, b: usize) -> bool
     ensures { FormedPlan p.now → result ≡ true → Dominated p.now facts.now k a b }
 {
-    if !dominates_at(p, QUESTION_BLOCK, facts, k, a, b) {
-        return false;
-    }
-    lists_dominate(p, facts, k, b, a)
+    dominates_at(p, QUESTION_BLOCK, facts, k, a, b) && lists_dominate(p, facts, k, b, a)
 }
 
-// Where a term stands first in the first n atoms; past them if it does not.
-fn place_of(blk: &[usize; BLOCK_NUMBERS], n: usize, y: usize) -> usize
+// Where a term stands first in the first n atoms.
+fn place_of(blk: &[usize; BLOCK_NUMBERS], n: usize, y: usize) -> Option<usize>
     requires { n ≤ most_atoms }
-    ensures { result < n * 5 → TermAmong blk.now n y result }
+    ensures { IfSome result (TermAmong blk.now n y) }
 {
-    let end = n * FACT_NUMBERS;
-    let mut at = 0;
-    while at < end {
-        if blk[at] == y {
-            if at % FACT_NUMBERS != 0 {
-                return at;
-            }
+    for at in 0..n * FACT_NUMBERS {
+        if blk[at] == y && at % FACT_NUMBERS != 0 {
+            return Some(at);
         }
-        at += 1;
     }
-    at
+    None
 }
 
-// A value below a that dominates it, among those that facts of a relation have at a place; a itself if there is none.
+// A value below a that dominates it, among those that facts of a relation have at a place.
 fn dominator(
     p: &[usize; PLAN_NUMBERS],
     facts: &[usize],
@@ -82,24 +67,17 @@ fn dominator(
     relation: usize,
     place: usize,
     a: usize,
-) -> usize
+) -> Option<usize>
     requires { place < 5 }
-    ensures { FormedPlan p.now → result < a → Dominated p.now facts.now k a result }
+    ensures { FormedPlan p.now → IfSome result (λ b. (b < a) × Dominated p.now facts.now k a b) }
 {
-    let m = facts.len() / FACT_NUMBERS;
-    let mut i = 0;
-    while i < m {
+    for i in 0..facts.len() / FACT_NUMBERS {
         let b = facts[i * FACT_NUMBERS + place];
-        if b < a {
-            if facts[i * FACT_NUMBERS] == relation {
-                if is_dominated(p, facts, k, a, b) {
-                    return b;
-                }
-            }
+        if b < a && facts[i * FACT_NUMBERS] == relation && is_dominated(p, facts, k, a, b) {
+            return Some(b);
         }
-        i += 1;
     }
-    a
+    None
 }
 
 // The end of the values after a that b is seen to dominate, with fact i looked at besides: the end before, or the fact's value at the place where
@@ -148,37 +126,35 @@ fn reach(
     requires { place < 5 }
     ensures { FormedPlan p.now → DominatedTo p.now facts.now k relation place a b result }
 {
-    let m = facts.len() / FACT_NUMBERS;
     let mut end = usize::MAX;
-    let mut i = 0;
-    while i < m {
+    for i in 0..facts.len() / FACT_NUMBERS {
         end = nearer(p, facts, k, relation, place, a, b, i, end);
-        i += 1;
     }
     end
 }
 
-// The end of the values in the question's column k, from the row's on, whose rows that begin as the row does are given to lists if the rows below
-// it are; the row's value if none is known.
-pub fn given_up_to(p: &[usize; PLAN_NUMBERS], facts: &[usize], row: [usize; 4], k: usize) -> usize
-    ensures { FormedPlan p.now → k < 4 → GivenUpTo p.now facts.now row k result }
+/// The end of the values in the question's column k, from the row's on, whose rows that begin as the row does are given to lists if the rows below
+/// it are.
+///
+/// None where no value of the column is known to be dominated; there is none past the last column.
+pub fn given_up_to(
+    p: &[usize; PLAN_NUMBERS],
+    facts: &[usize],
+    row: [usize; 4],
+    k: usize,
+) -> Option<usize>
+    ensures { FormedPlan p.now → IfSome result (GivenUpTo p.now facts.now row k) }
 {
     if COLUMNS <= k {
-        return 0;
+        return None;
     }
     let a = row[k];
     let blk = tableau_parts::block_at(p, QUESTION_BLOCK);
     let n = tableau_parts::size_at(p, QUESTION_BLOCK);
     let y = blk[HEAD_AT + k];
-    let at = place_of(&blk, n, y);
-    if n * FACT_NUMBERS <= at {
-        return a;
-    }
+    let at = place_of(&blk, n, y)?;
     let place = at % FACT_NUMBERS;
     let relation = blk[at - place];
-    let b = dominator(p, facts, k, relation, place, a);
-    if a <= b {
-        return a;
-    }
-    reach(p, facts, k, relation, place, a, b)
+    let b = dominator(p, facts, k, relation, place, a)?;
+    Some(reach(p, facts, k, relation, place, a, b))
 }

@@ -1,8 +1,13 @@
 -- What `any` and `all` over the numbers below n say, of the numbers themselves.
-use Rattle.std.proofs.Common.{◌≡◌, ℕ, ◌<◌, ◌-◌, Bool, true, false, List, length, get_or, arith, subst, ◌∙◌}
+use Rattle.std.proofs.Common.{◌≡◌, ℕ, ◌<◌, ◌-◌, Bool, true, false, List, length, get_or, arith, subst, sym, ◌∙◌}
+use mathlib.Core.Bool.{true≢false}
 use Rattle.std.specs.Bool.{MatchBool}
 use Rattle.std.specs.List.{range_with_len, AllWithin, HoldsAt}
 use Rattle.std.proofs.lemmas.List.FromFn.{length-range_with_len, get_or-range_with_len}
+
+pub if-true : (b : Bool) (P Q : Type 0) → MatchBool b P Q → b ≡ true → P
+if-true true P Q h e = h
+if-true false P Q h e = absurd (true≢false (sym e))
 
 -- the numbers below n
 abbrev below : ℕ → List ℕ
@@ -23,3 +28,8 @@ pub all-places : (b : Bool) (n : ℕ) (Yes No : ℕ → Type 0) → MatchBool b 
     → MatchBool b ((k : ℕ) → k < n → Yes k) ((k : ℕ) × (k < n) × No k)
 all-places true n Yes No h = λ k lt. subst Yes (place n k lt) (h k 0 (omega arith) (omega (arith, count n)))
 all-places false n Yes No h = let lt : h.0 < n = omega (arith, count n) in (h.0, lt, subst No (place n h.0 lt) (h.2 0))
+
+-- the same of a test that is answered yes
+pub all-yes : (b : Bool) (n : ℕ) (Yes No : ℕ → Type 0) → MatchBool b (AllWithin Yes (below n) 0 (length (below n))) ((k : ℕ) × (k < length (below n)) × HoldsAt No (below n) k)
+    → b ≡ true → (k : ℕ) → k < n → Yes k
+all-yes b n Yes No h e = if-true b ((k : ℕ) → k < n → Yes k) ((k : ℕ) × (k < n) × No k) (all-places b n Yes No h) e

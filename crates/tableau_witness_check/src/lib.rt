@@ -11,35 +11,29 @@ use query_layout::{BLOCK_NUMBERS, COLUMNS, FACT_NUMBERS, HEAD_AT, NAMES};
 use sheet_format::MOST_ATOMS;
 
 // A term's value, where the variables have these values.
+#[tactic(auto, unfolding(query_join::specs::Joins::value_of))]
 fn value_of(vals: &[usize; NAMES], t: usize) -> usize
     ensures { result ≡ value_of (valued vals.now) t }
 {
-    if t < NAMES {
-        return vals[t];
-    }
-    t - NAMES
+    if t < NAMES { vals[t] } else { t - NAMES }
 }
 
-// The values, with those that the variables of atom j have where it becomes fact i.
+// Gives the variables of atom j the values that they have where it becomes fact i.
 fn learn(
     blk: &[usize; BLOCK_NUMBERS],
     j: usize,
     facts: &[usize],
     i: usize,
-    vals: [usize; NAMES],
-) -> [usize; NAMES]
+    vals: &mut [usize; NAMES],
+)
     requires { (j < most_atoms) × (i < length facts.now / 5) }
 {
-    let mut all = vals;
-    let mut c = 0;
-    while c < COLUMNS {
-        let t = blk[j * FACT_NUMBERS + 1 + c];
+    for c in 1..FACT_NUMBERS {
+        let t = blk[j * FACT_NUMBERS + c];
         if t < NAMES {
-            all[t] = facts[i * FACT_NUMBERS + 1 + c];
+            vals[t] = facts[i * FACT_NUMBERS + c];
         }
-        c += 1;
     }
-    all
 }
 
 // The values that variables have where the first n atoms become the facts at these places.
@@ -52,15 +46,11 @@ fn values_by(
     requires { n ≤ most_atoms }
 {
     let m = facts.len() / FACT_NUMBERS;
-    let mut vals = [0usize; NAMES];
-    let mut j = 0;
-    while j < n {
-        let i = at[j];
-        if i < m {
-            let next = learn(blk, j, facts, i, vals);
-            vals = next;
+    let mut vals = [0; NAMES];
+    for j in 0..n {
+        if at[j] < m {
+            learn(blk, j, facts, at[j], &mut vals);
         }
-        j += 1;
     }
     vals
 }
@@ -76,18 +66,10 @@ fn becomes(
     requires { (j < most_atoms) × (i < length facts.now / 5) }
     ensures { result ≡ true → Becomes blk.now facts.now (valued vals.now) j i }
 {
-    if facts[i * FACT_NUMBERS] != blk[j * FACT_NUMBERS] {
-        return false;
-    }
-    let mut c = 0;
-    while c < COLUMNS {
-        let u = value_of(vals, blk[j * FACT_NUMBERS + 1 + c]);
-        if facts[i * FACT_NUMBERS + 1 + c] != u {
-            return false;
-        }
-        c += 1;
-    }
-    true
+    let fact = i * FACT_NUMBERS;
+    let atom = j * FACT_NUMBERS;
+    facts[fact] == blk[atom]
+        && (0..COLUMNS).all(|c| facts[fact + 1 + c] == value_of(vals, blk[atom + 1 + c]))
 }
 
 // Whether the first n atoms become the facts at these places by the values.
@@ -102,32 +84,23 @@ fn all_become(
     ensures { result ≡ true → Become blk.now n facts.now (valued vals.now) at }
 {
     let m = facts.len() / FACT_NUMBERS;
-    let mut j = 0;
-    while j < n {
-        let i = at[j];
-        if m <= i {
-            return false;
-        }
-        if !becomes(blk, j, facts, i, vals) {
-            return false;
-        }
-        j += 1;
-    }
-    true
+    (0..n).all(|j| at[j] < m && becomes(blk, j, facts, at[j], vals))
 }
 
 // Whether the values make the head the row.
 fn head_is(blk: &[usize; BLOCK_NUMBERS], vals: &[usize; NAMES], row: [usize; 4]) -> bool
     ensures { result ≡ true → head_row (valued vals.now) blk.now ≡ row }
 {
-    let a = value_of(vals, blk[HEAD_AT]);
-    let b = value_of(vals, blk[(HEAD_AT + 1)]);
-    let c = value_of(vals, blk[(HEAD_AT + 2)]);
-    let d = value_of(vals, blk[(HEAD_AT + 3)]);
-    tableau_parts::same([a, b, c, d], row)
+    let head = [
+        value_of(vals, blk[HEAD_AT]),
+        value_of(vals, blk[HEAD_AT + 1]),
+        value_of(vals, blk[HEAD_AT + 2]),
+        value_of(vals, blk[HEAD_AT + 3]),
+    ];
+    head == row
 }
 
-// Whether the block is given a row by the facts at these places, one for each of its atoms.
+/// Whether the block is given a row by the facts at these places, one for each of its atoms.
 pub fn shows(
     blk: &[usize; BLOCK_NUMBERS],
     n: usize,
@@ -139,8 +112,5 @@ pub fn shows(
 {
     let most = query_join::few_atoms(n);
     let vals = values_by(blk, most, facts, at);
-    if !head_is(blk, &vals, row) {
-        return false;
-    }
-    all_become(blk, most, facts, at, &vals)
+    head_is(blk, &vals, row) && all_become(blk, most, facts, at, &vals)
 }

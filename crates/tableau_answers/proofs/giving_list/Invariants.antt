@@ -11,6 +11,3 @@ use Rattle.tableau_answers.proofs.giving_list.Given as goal
 
 abbrev pub invariant-loop-i : goal.invariant-loop-i
 invariant-loop-i l = (l.i ≤ l.lists) × (FormedPlan l.p → (k : ℕ) → k < l.i → GivenAt l.p (list_block k) l.facts l.row → ⊥)
-
-abbrev pub decreases-loop-i : goal.decreases-loop-i
-decreases-loop-i l = l.lists - l.i
