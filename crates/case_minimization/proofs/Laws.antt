@@ -18,9 +18,10 @@ use Rattle.query_join.specs.Joins.{AtomMet, Given}
 use Rattle.tableau_plan.specs.Plan.{parent_in, row_count, block_numbers, block_size}
 use Rattle.tableau_parts.specs.Views.{NoStray, Missing, MissingBy}
 use Rattle.sheet_format.specs.Table.{relation}
-use Rattle.tableau_parts.specs.Walks.{GivenTo, SameBy, four_of}
+use Rattle.std.specs.Bool.{MatchBool}
+use Rattle.tableau_parts.specs.Walks.{GivenTo, four_of}
 use Rattle.case_minimization.specs.Minimization.{IsFact, Parented, IsCase, CaseBy, without, SubFacts, Shrunk}
-use Rattle.case_minimization.specs.Parts.{relation_or_parent, LikeBy, SomeLike, FindsBy, OwedBy, TriedFact}
+use Rattle.case_minimization.specs.Parts.{Like, SomeLike, FindsBy, OwedBy, TriedFact}
 
 -- ---- cases
 
@@ -153,9 +154,10 @@ four-at ns i (suc (suc zero)) h = refl
 four-at ns i (suc (suc (suc zero))) h = refl
 four-at ns i (suc (suc (suc (suc c)))) h = absurd (omega arith)
 
-pub like-by : (p : List ℕ) (b owing : Bool) (ns : List ℕ) (k relation : ℕ) (row : List ℕ) → relation_or_parent p owing (get_or ns (k * 5) 0) ≡ relation → SameBy b (four_of ns (k * 5 + 1)) row → LikeBy p b owing ns k relation row
-like-by p true owing ns k relation row e s = (e, s)
-like-by p false owing ns k relation row e s = λ l. s l.1
+pub finds-by : (p : List ℕ) (b owing : Bool) (ns : List ℕ) (relation : ℕ) (row : List ℕ)
+    → MatchBool b ((k : ℕ) × (k < length ns / 5) × Like p owing ns k relation row) ((k : ℕ) → k < length ns / 5 → Like p owing ns k relation row → ⊥) → FindsBy p b owing ns relation row
+finds-by p true owing ns relation row h = h
+finds-by p false owing ns relation row f = λ s. f s.0 s.1 s.2
 
 pub owed-by : (p : List ℕ) (b : Bool) (ns : List ℕ) (i : ℕ) (rest : List ℕ) → 0 < get_or ns (i * 5) 0 → SomeLike p true rest (get_or ns (i * 5) 0) (four_of ns (i * 5 + 1)) → FindsBy p b false rest (get_or ns (i * 5) 0) (four_of ns (i * 5 + 1)) → OwedBy p (not b) ns i rest
 owed-by p true ns i rest lt s f = λ _ _. f

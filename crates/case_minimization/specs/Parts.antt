@@ -13,10 +13,6 @@ relation_or_parent p false r = r
 abbrev pub Like : List ℕ → Bool → List ℕ → ℕ → ℕ → List ℕ → Type 0
 Like p owing ns k relation row = (relation_or_parent p owing (get_or ns (k * 5) 0) ≡ relation) × (four_of ns (k * 5 + 1) ≡ row)
 
-abbrev pub LikeBy : List ℕ → Bool → Bool → List ℕ → ℕ → ℕ → List ℕ → Type 0
-LikeBy p true owing ns k relation row = Like p owing ns k relation row
-LikeBy p false owing ns k relation row = Like p owing ns k relation row → ⊥
-
 -- one of the facts is so
 abbrev pub SomeLike : List ℕ → Bool → List ℕ → ℕ → List ℕ → Type 0
 SomeLike p owing ns relation row = (k : ℕ) × (k < length ns / 5) × Like p owing ns k relation row

@@ -1,85 +1,48 @@
 // Dropping facts from a case until none is to spare.
 #![tactic(auto)]
 
-ghost use Rattle.std.specs.Prelude.{◌≡◌, true, false, ℕ, ◌+◌, ◌-◌, ◌*◌, ◌<◌, ◌≤◌, length, take};
+ghost use Rattle.std.specs.Prelude.{◌≡◌, true, false, IsTrue, ◌↔◌, List, ℕ, ◌+◌, ◌-◌, ◌*◌, ◌<◌, ◌≤◌, length, take};
 ghost use Rattle.tableau_layout.specs.Layout.{plan_numbers, tableau_atoms};
 ghost use Rattle.sheet_format.specs.Limits.{most_rows};
 ghost use Rattle.tableau_plan.specs.Plan.{parent_in, row_count};
 ghost use Rattle.tableau_parts.specs.Walks as walks;
 ghost use Rattle.tableau_parts.specs.Views.{NoStray, Missing};
 ghost use Rattle.tableau_parts.specs.Walks.{four_of};
-ghost use Rattle.case_minimization.specs.Minimization.{Parented, IsCase, CaseBy, without, Shrunk};
-ghost use Rattle.case_minimization.specs.Parts.{relation_or_parent, LikeBy, FindsBy, OwedBy, TriedFact};
+ghost use Rattle.case_minimization.specs.Minimization.{IsFact, Parented, IsCase, CaseBy, without, Shrunk};
+ghost use Rattle.case_minimization.specs.Parts.{Like, FindsBy, OwedBy, TriedFact};
 
 use query_layout::FACT_NUMBERS;
 use sheet_format::{MOST_ATOMS, MOST_LISTS, MOST_RELATIONS, MOST_ROWS};
 use tableau_layout::{PLAN_NUMBERS, TABLEAU_ATOMS, TABLEAU_NUMBERS};
 
-// A listed row's places of facts, one for each atom of its view; and those of forty rows.
-const MOST_PLACES: usize = MOST_ROWS * MOST_ATOMS;
-
-// The places kept for listed row r.
-fn kept(by: &[usize; MOST_PLACES], r: usize) -> [usize; MOST_ATOMS]
-    requires { r < most_rows }
-{
-    let at = r * MOST_ATOMS;
-    [
-        by[at],
-        by[at + 1],
-        by[at + 2],
-        by[at + 3],
-        by[at + 4],
-        by[at + 5],
-    ]
-}
-
-// Keeps places for listed row r.
-fn keep(by: &mut [usize; MOST_PLACES], r: usize, at: [usize; MOST_ATOMS])
-    requires { r < most_rows }
-{
-    let mut j = 0;
-    while j < MOST_ATOMS {
-        by[r * MOST_ATOMS + j] = at[j];
-        j += 1;
-    }
-}
-
-// Whether fact i is at one of the places.
-fn uses(at: [usize; MOST_ATOMS], i: usize) -> bool {
-    at[0] == i || at[1] == i || at[2] == i || at[3] == i || at[4] == i || at[5] == i
-}
+// The places of the facts by which a listed row is given, one for each atom of its view.
+type Places = [usize; MOST_ATOMS];
 
 // The places where fact i is left out: those after it are one lower.
-fn lowered(at: [usize; MOST_ATOMS], i: usize) -> [usize; MOST_ATOMS] {
-    let mut low = at;
-    let mut j = 0;
-    while j < MOST_ATOMS {
-        if i < low[j] {
-            low[j] -= 1;
+fn lowered(places: Places, i: usize) -> Places {
+    let mut low = places;
+    for place in &mut low {
+        if i < *place {
+            *place -= 1;
         }
-        j += 1;
     }
     low
 }
 
 // Places of facts by which listed row r is given.
-fn places_of(p: &[usize; PLAN_NUMBERS], facts: &[usize], n: usize, r: usize) -> [usize; MOST_ATOMS]
+fn places_of(p: &[usize; PLAN_NUMBERS], facts: &[usize], n: usize, r: usize) -> Places
     requires { (n ≤ tableau_atoms) × (n * 5 ≤ length facts.now) }
 {
     tableau_witness::row_witness(p, &facts[..n * FACT_NUMBERS], r)
 }
 
 // Places of facts by which the listed rows are given.
-fn places(p: &[usize; PLAN_NUMBERS], facts: &[usize], n: usize) -> [usize; MOST_PLACES]
+fn places(p: &[usize; PLAN_NUMBERS], facts: &[usize], n: usize) -> [Places; MOST_ROWS]
     requires { (n ≤ tableau_atoms) × (n * 5 ≤ length facts.now) }
 {
-    let rows = tableau_parts::row_count(p);
-    let mut by = [usize::MAX; MOST_PLACES];
-    let mut r = 0;
-    while r < rows {
-        let at = places_of(p, facts, n, r);
-        keep(&mut by, r, at);
-        r += 1;
+    let mut by = [[usize::MAX; MOST_ATOMS]; MOST_ROWS];
+    for r in 0..tableau_parts::row_count(p) {
+        by[r] = places_of(p, facts, n, r);
     }
     by
 }
@@ -89,94 +52,58 @@ fn renew(
     p: &[usize; PLAN_NUMBERS],
     facts: &[usize],
     n: usize,
-    by: &mut [usize; MOST_PLACES],
+    by: &mut [Places; MOST_ROWS],
     i: usize,
 )
     requires { (n ≤ tableau_atoms) × (n * 5 ≤ length facts.now) }
 {
-    let rows = tableau_parts::row_count(p);
-    let mut r = 0;
-    while r < rows {
-        let old = kept(by, r);
-        let mut at = lowered(old, i);
-        if uses(old, i) {
-            let other = places_of(p, facts, n, r);
-            at = other;
-        }
-        keep(by, r, at);
-        r += 1;
+    for r in 0..tableau_parts::row_count(p) {
+        by[r] = if by[r].contains(&i) {
+            places_of(p, facts, n, r)
+        } else {
+            lowered(by[r], i)
+        };
     }
 }
 
 // Whether a row that fact i was used for is not given where it is left out.
-fn loses(p: &[usize; PLAN_NUMBERS], facts: &[usize], by: &[usize; MOST_PLACES], i: usize) -> bool
+fn loses(p: &[usize; PLAN_NUMBERS], facts: &[usize], by: &[Places; MOST_ROWS], i: usize) -> bool
     ensures { walks.FormedPlan p.now → result ≡ true → walks.GivenTo p.now facts.now (row_count p.now) → ⊥ }
 {
-    let rows = tableau_parts::row_count(p);
     let nowhere = [usize::MAX; MOST_ATOMS];
-    let mut r = 0;
-    while r < rows {
-        let at = kept(by, r);
-        if uses(at, i) {
-            if !tableau_answers::row_given_by(p, facts, r, nowhere) {
-                return true;
-            }
+    for r in 0..tableau_parts::row_count(p) {
+        if by[r].contains(&i) && !tableau_answers::row_given_by(p, facts, r, nowhere) {
+            return true;
         }
-        r += 1;
     }
     false
 }
 
 // Whether all listed rows are given where fact i is left out. The places kept are asked first.
-fn keeps(p: &[usize; PLAN_NUMBERS], facts: &[usize], by: &[usize; MOST_PLACES], i: usize) -> bool
+fn keeps(p: &[usize; PLAN_NUMBERS], facts: &[usize], by: &[Places; MOST_ROWS], i: usize) -> bool
     ensures { walks.FormedPlan p.now → walks.GivenToBy result p.now facts.now (row_count p.now) }
 {
-    let rows = tableau_parts::row_count(p);
-    let mut r = 0;
-    while r < rows {
-        let old = kept(by, r);
-        let at = lowered(old, i);
-        if !tableau_answers::row_given_by(p, facts, r, at) {
+    for r in 0..tableau_parts::row_count(p) {
+        if !tableau_answers::row_given_by(p, facts, r, lowered(by[r], i)) {
             return false;
         }
-        r += 1;
     }
     true
 }
 
 // Whether all listed rows are given where fact i is left out. The rows that it was used for are asked first.
-fn all_given(
-    p: &[usize; PLAN_NUMBERS],
-    facts: &[usize],
-    by: &[usize; MOST_PLACES],
-    i: usize,
-) -> bool
+fn all_given(p: &[usize; PLAN_NUMBERS], facts: &[usize], by: &[Places; MOST_ROWS], i: usize) -> bool
     ensures { walks.FormedPlan p.now → walks.GivenToBy result p.now facts.now (row_count p.now) }
 {
-    if loses(p, facts, by, i) {
-        return false;
-    }
-    keeps(p, facts, by, i)
+    !loses(p, facts, by, i) && keeps(p, facts, by, i)
 }
 
 // Whether the question is given a row and no list is.
 fn lacks(p: &[usize; PLAN_NUMBERS], facts: &[usize], row: [usize; 4]) -> bool
     ensures { walks.FormedPlan p.now → result ≡ true → Missing p.now facts.now row }
 {
-    if !tableau_answers::question_gives(p, facts, row) {
-        return false;
-    }
-    MOST_LISTS <= tableau_answers::giving_list(p, facts, row)
-}
-
-// A relation, or its parent.
-fn relation_by(p: &[usize; PLAN_NUMBERS], relation: usize, owing: bool) -> usize
-    ensures { result ≡ relation_or_parent p.now owing relation }
-{
-    if owing {
-        return tableau_parts::parent_of(p, relation);
-    }
-    relation
+    tableau_answers::question_gives(p, facts, row)
+        && MOST_LISTS <= tableau_answers::giving_list(p, facts, row)
 }
 
 // The values of fact k.
@@ -188,57 +115,47 @@ fn values(facts: &[usize], k: usize) -> [usize; 4]
     [facts[at], facts[at + 1], facts[at + 2], facts[at + 3]]
 }
 
-// Whether fact k is a row of a relation; or where `owing`, whether it owes the relation this row.
-fn is_like(
+// Whether fact k is this row of a relation.
+fn is_row(facts: &[usize], k: usize, relation: usize, row: [usize; 4]) -> bool
+    requires { k * 5 + 5 ≤ length facts.now }
+    ensures { IsTrue result ↔ IsFact facts.now k relation row }
+{
+    facts[k * FACT_NUMBERS] == relation && values(facts, k) == row
+}
+
+// Whether fact k owes a relation this row.
+fn owes_row(
     p: &[usize; PLAN_NUMBERS],
     facts: &[usize],
     k: usize,
     relation: usize,
     row: [usize; 4],
-    owing: bool,
 ) -> bool
     requires { k * 5 + 5 ≤ length facts.now }
-    ensures { LikeBy p.now result owing facts.now k relation row }
+    ensures { IsTrue result ↔ Like p.now true facts.now k relation row }
 {
-    if relation_by(p, facts[k * FACT_NUMBERS], owing) != relation {
-        return false;
-    }
-    tableau_parts::same(values(facts, k), row)
+    tableau_parts::parent_of(p, facts[k * FACT_NUMBERS]) == relation && values(facts, k) == row
 }
 
-// Whether one of the facts is so.
-fn finds(
-    p: &[usize; PLAN_NUMBERS],
-    facts: &[usize],
-    relation: usize,
-    row: [usize; 4],
-    owing: bool,
-) -> bool
-    ensures { FindsBy p.now result owing facts.now relation row }
+// Whether one of the facts is this row of a relation.
+fn has_row(facts: &[usize], relation: usize, row: [usize; 4]) -> bool
+    ensures { (p : List ℕ) → FindsBy p result false facts.now relation row }
 {
-    let n = facts.len() / FACT_NUMBERS;
-    let mut k = 0;
-    while k < n {
-        if is_like(p, facts, k, relation, row, owing) {
-            return true;
-        }
-        k += 1;
-    }
-    false
+    (0..facts.len() / FACT_NUMBERS).any(|k| is_row(facts, k, relation, row))
+}
+
+// Whether one of the facts owes a relation this row.
+fn has_owing(p: &[usize; PLAN_NUMBERS], facts: &[usize], relation: usize, row: [usize; 4]) -> bool
+    ensures { FindsBy p.now result true facts.now relation row }
+{
+    (0..facts.len() / FACT_NUMBERS).any(|k| owes_row(p, facts, k, relation, row))
 }
 
 // Whether a relation is the parent of another.
 fn is_parent(p: &[usize; PLAN_NUMBERS], relation: usize) -> bool
     ensures { length p.now ≡ plan_numbers → result ≡ false → (n : ℕ) → parent_in p.now n ≡ relation → relation ≡ 0 }
 {
-    let mut k = 0;
-    while k < MOST_RELATIONS {
-        if tableau_parts::parent_of(p, k + 1) == relation {
-            return true;
-        }
-        k += 1;
-    }
-    false
+    (0..MOST_RELATIONS).any(|k| tableau_parts::parent_of(p, k + 1) == relation)
 }
 
 // Whether one of the rest owes fact i, and none of them is that fact.
@@ -254,10 +171,10 @@ fn is_owed(p: &[usize; PLAN_NUMBERS], facts: &[usize], i: usize, rest: &[usize])
         return false;
     }
     let row = values(facts, i);
-    if !finds(p, rest, relation, row, true) {
+    if !has_owing(p, rest, relation, row) {
         return false;
     }
-    !finds(p, rest, relation, row, false)
+    !has_row(rest, relation, row)
 }
 
 // Whether facts without fact i that give no stray row, and owe none that they lack, are a case, and then an answer that the lists lack. The
@@ -265,7 +182,7 @@ fn is_owed(p: &[usize; PLAN_NUMBERS], facts: &[usize], i: usize, rest: &[usize])
 fn is_left(
     p: &[usize; PLAN_NUMBERS],
     facts: &[usize],
-    by: &[usize; MOST_PLACES],
+    by: &[Places; MOST_ROWS],
     i: usize,
     seen: [usize; 4],
 ) -> query_rows::Row
@@ -291,11 +208,7 @@ fn copy(facts: &[usize], count: usize, out: &mut [usize])
     requires { (count ≤ length facts.now) × (count ≤ length out.old) }
     ensures { take count out.new ≡ take count facts.now }
 {
-    let mut y = 0;
-    while y < count {
-        out[y] = facts[y];
-        y += 1;
-    }
+    out[..count].copy_from_slice(&facts[..count]);
 }
 
 // Moves what follows fact i down by a fact.
@@ -303,12 +216,8 @@ fn close_gap(facts: &mut [usize], n: usize, i: usize)
     requires { (i < n) × (n ≤ tableau_atoms) × (n * 5 ≤ length facts.old) }
     ensures { take ((n - 1) * 5) facts.new ≡ without (take (n * 5) facts.old) i }
 {
-    let end = (n - 1) * FACT_NUMBERS;
-    let mut y = i * FACT_NUMBERS;
-    while y < end {
-        facts[y] = facts[y + FACT_NUMBERS];
-        y += 1;
-    }
+    let at = i * FACT_NUMBERS;
+    facts.copy_within(at + FACT_NUMBERS..n * FACT_NUMBERS, at);
 }
 
 // Moves what follows fact i down by a fact, if there is a fact i.
@@ -335,12 +244,9 @@ fn put_back(facts: &[usize], n: usize, i: usize, room: &mut [usize])
     requires { (i < n) × (n ≤ tableau_atoms) × (n * 5 ≤ length facts.now) × (n * 5 ≤ length room.old) }
     ensures { take ((n - 1) * 5) room.old ≡ without (take (n * 5) facts.now) i → i + 1 < n → take ((n - 1) * 5) room.new ≡ without (take (n * 5) facts.now) (i + 1) }
 {
-    let end = i * FACT_NUMBERS + FACT_NUMBERS;
-    let mut y = i * FACT_NUMBERS;
-    while y < end {
-        room[y] = facts[y];
-        y += 1;
-    }
+    let at = i * FACT_NUMBERS;
+    let end = at + FACT_NUMBERS;
+    room[at..end].copy_from_slice(&facts[at..end]);
 }
 
 // Whether a case is left of n facts in the room that lacks fact i, and then an answer that the lists lack. What one of them owes must stay.
@@ -349,7 +255,7 @@ fn drops(
     facts: &[usize],
     room: &[usize],
     n: usize,
-    by: &[usize; MOST_PLACES],
+    by: &[Places; MOST_ROWS],
     i: usize,
     seen: [usize; 4],
 ) -> query_rows::Row
@@ -376,7 +282,7 @@ fn pass(
     p: &[usize; PLAN_NUMBERS],
     facts: &mut [usize],
     n: usize,
-    by: &mut [usize; MOST_PLACES],
+    by: &mut [Places; MOST_ROWS],
 ) -> usize
     requires { (n ≤ tableau_atoms) × (n * 5 ≤ length facts.old) }
     ensures upper_bound { result ≤ n }
@@ -403,14 +309,11 @@ fn pass(
     m
 }
 
-// Drops facts, one after the other, as long as a case is left; how many facts are left.
+/// Drops facts, one after the other, as long as a case is left; how many facts are left.
 pub fn shrink(p: &[usize; PLAN_NUMBERS], facts: &mut [usize], n: usize) -> usize
     ensures { walks.FormedPlan p.now → n ≤ tableau_atoms → n * 5 ≤ length facts.old → IsCase p.now (take (n * 5) facts.old) → Shrunk p.now (take (n * 5) facts.old) n (take (result * 5) facts.new) result }
 {
-    if TABLEAU_ATOMS < n {
-        return n;
-    }
-    if facts.len() < n * FACT_NUMBERS {
+    if TABLEAU_ATOMS < n || facts.len() < n * FACT_NUMBERS {
         return n;
     }
     let mut by = places(p, facts, n);

@@ -150,12 +150,7 @@ fn counted(passed: usize) -> usize {
 
 // Where a walk that came from a row, that of the pace, goes on from the next, which a list is given: from that one, or from the last up to which
 // the values of the column that changed are dominated.
-fn onward_dominated(
-    p: &[usize; PLAN_NUMBERS],
-    facts: &[usize],
-    row: [usize; 4],
-    pace: Pace,
-) -> Pace
+fn onward_dominated(p: &[usize; PLAN_NUMBERS], facts: &[usize], row: [usize; 4], pace: Pace) -> Pace
     ensures onward { FormedPlan p.now → GivenToList p.now facts.now row → GivenBelow p.now facts.now row → Onward p.now facts.now row result.values }
     ensures values_bound { room true result.values ≤ room true row }
 {
@@ -206,7 +201,16 @@ fn onward(p: &[usize; PLAN_NUMBERS], i: usize, facts: &[usize], row: [usize; 4],
             values,
         };
     }
-    onward_dominated(p, facts, row, Pace { passed, vain, ..pace })
+    onward_dominated(
+        p,
+        facts,
+        row,
+        Pace {
+            passed,
+            vain,
+            ..pace
+        },
+    )
 }
 
 /// The least row that the question is given and no list is, if there is one.

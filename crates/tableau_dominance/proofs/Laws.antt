@@ -61,9 +61,6 @@ value-fact blk n facts w k at g in-k t =
           ∙ given-column blk n facts w g k in-k,
     )
 
-pub none-given : (p facts row : List ℕ) (k end : ℕ) → end ≤ get_or row k 0 → GivenUpTo p facts row k end
-none-given p facts row k end le = record { each = λ _ w g same from to. absurd (omega arith) }
-
 -- a value is dominated that is the row's, or that a fact has
 pub given-to-end : (p facts row blk : List ℕ) (n k at b end : ℕ) → blk ≡ block_numbers p question_block → n ≡ min (block_size p question_block) most_atoms → k < 4 → length row ≡ 4
     → b < get_or row k 0 → TermAmong blk n (get_or blk (block_head + k) 0) at → Dominated p facts k (get_or row k 0) b

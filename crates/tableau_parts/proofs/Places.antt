@@ -9,6 +9,10 @@ pub if-true : (b : Bool) (P Q : Type 0) → MatchBool b P Q → b ≡ true → P
 if-true true P Q h e = h
 if-true false P Q h e = absurd (true≢false (sym e))
 
+pub if-false : (b : Bool) (P Q : Type 0) → MatchBool b P Q → b ≡ false → Q
+if-false true P Q h e = absurd (true≢false e)
+if-false false P Q h e = h
+
 -- the numbers below n
 abbrev below : ℕ → List ℕ
 below n = range_with_len 0 (n - 0)

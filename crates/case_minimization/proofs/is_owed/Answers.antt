@@ -21,10 +21,10 @@ returns-then-not-is_parent c = let a = c.args in
 pub returns : goal.returns
 returns c = let a = c.args in
     let v = c.values-row in
-    let f = c.finds in
-    let g = c.finds-2 in
+    let f = c.has_owing in
+    let g = c.has_row in
     let relation = get_or a.facts.now (a.i * 5) 0 in
     let row = four_of a.facts.now (a.i * 5 + 1) in
     λ long. owed-by a.p.now g.result a.facts.now a.i a.rest.now (let z = c.if-relation-eq0.false in omega arith)
-    (subst (λ (b : Bool). FindsBy a.p.now b true a.rest.now relation row) (not-false f.result c.if-not-finds.false-raw) (subst (λ (r : List ℕ). FindsBy a.p.now f.result true a.rest.now relation r) v.ensures f.ensures))
-    (subst (λ (r : List ℕ). FindsBy a.p.now g.result false a.rest.now relation r) v.ensures g.ensures)
+    (subst (λ (b : Bool). FindsBy a.p.now b true a.rest.now relation row) (not-false f.result c.if-not-has_owing.false-raw) (subst (λ (r : List ℕ). FindsBy a.p.now f.result true a.rest.now relation r) v.ensures f.ensures))
+    (subst (λ (r : List ℕ). FindsBy a.p.now g.result false a.rest.now relation r) v.ensures (g.ensures a.p.now))

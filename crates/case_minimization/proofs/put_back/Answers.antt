@@ -1,14 +1,12 @@
-use lib.ListN.{get_or}
-use mathlib.Core.Path.{refl}
-use Rattle.list_laws.proofs.Ranges.{filled_none, filled_more}
-use Rattle.list_laws.specs.Kept.{Filled}
+use Rattle.std.proofs.Common.{◌+◌, ◌*◌, get_or, arith, refl, rules}
+use Rattle.std.proofs.lemmas.Slice.{places}
 use Rattle.case_minimization.proofs.Laws.{patched_all}
-use Prim.Native.Nat.{◌≤◌, ◌-◌, ◌*◌}
-use native.Mathlib.Omega.{arith}
-use borrow.Author.Rules.{rules}
 use Rattle.case_minimization.proofs.put_back.Goals as goal
 
 pub returns : goal.returns
-returns c = let l = c.loop-y in
-    let a = c.args in
-    λ e lt. patched_all a.facts.now a.room.now l.room a.n a.i l.y lt (omega arith) (omega arith) (omega arith) l.invariant.2 e
+returns c = let a = c.args in
+    λ e lt. patched_all a.facts.now a.room.now _ a.n a.i (a.i * 5 + 5) lt (omega arith) (omega arith) refl
+    (record {
+      kept = record { same = search (rules, places); below = λ z h. search (rules, places); above = λ z h. search (rules, places) };
+      each = λ z ge lt. search (rules, places);
+    }) e
