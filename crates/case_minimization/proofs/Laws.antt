@@ -248,16 +248,6 @@ left-without b p ms ks m i l lt e s f = subst (λ (l : List ℕ). NoStray p l �
 
 -- ---- numbers copied, and moved down
 
--- the first n numbers are the same
-pub same-front : (a b : List ℕ) (n : ℕ) → n ≤ length a → n ≤ length b → ((y : ℕ) → y < n → get_or a y 0 ≡ get_or b y 0) → take n a ≡ take n b
-same-front a b n la lb h =
-    let ea = length-take-le n a la in
-    let eb = length-take-le n b lb in
-    ext_get_or 0 (take n a) (take n b) (ea ∙ sym eb)
-    (λ y lt.
-    let k : y < n = omega arith in
-    get_or-take n a y 0 k ∙ h y k ∙ sym (get_or-take n b y 0 k))
-
 -- the numbers from fact i to before place y have been moved down by five
 pub moved_all : (xs ys : List ℕ) (n i y : ℕ) → i < n → n * 5 ≤ length xs → (n - 1) * 5 ≤ y → Filled 0 xs ys (i * 5) y (λ z. get_or xs (z + 5) 0) → take ((n - 1) * 5) ys ≡ without (take (n * 5) xs) i
 moved_all xs ys n i y lt h k m =

@@ -293,6 +293,7 @@ fn pass(
     let mut seen = [0; 4];
     let mut m = n;
     let mut i = 0;
+    // Kept: no plainer; m falls as facts are dropped, and i stays there.
     while i < m {
         let left = drops(p, facts, &room, m, by, i, seen);
         if left.some {
@@ -319,6 +320,7 @@ pub fn shrink(p: &[usize; PLAN_NUMBERS], facts: &mut [usize], n: usize) -> usize
     let mut by = places(p, facts, n);
     let mut before = n + 1;
     let mut m = n;
+    // Kept: no plainer; a pass follows as long as the one before it dropped a fact.
     while m < before {
         before = m;
         m = pass(p, facts, m, &mut by);

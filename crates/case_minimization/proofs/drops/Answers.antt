@@ -2,13 +2,11 @@ use mathlib.Core.Bool.{Bool, false}
 use mathlib.Core.List.{List}
 use mathlib.Core.Path.{sym, subst}
 use Prim.Native.Nat.{ℕ, ◌-◌, ◌*◌}
-use native.Mathlib.Omega.{arith}
 use lib.ListN.{take}
 use lib.Seq.{length-take-le}
-use borrow.Author.Rules.{rules}
 use Rattle.case_minimization.specs.Minimization.{Parented}
 use Rattle.case_minimization.specs.Parts.{OwedBy}
-use Rattle.case_minimization.proofs.Laws.{owed-stays, unowed-goes}
+use Rattle.case_minimization.proofs.Laws.{unowed-goes}
 use Rattle.case_minimization.proofs.drops.Goals as goal
 
 pub returns : goal.returns

@@ -1,5 +1,3 @@
-use Rattle.std.proofs.Common.{rules, ◌≡◌, refl}
-use Rattle.tableau_plan.specs.Plan.{row_count}
 use Rattle.case_minimization.proofs.Laws.{left_by}
 use Rattle.case_minimization.proofs.is_left.Goals as goal
 

@@ -1,16 +1,10 @@
-use mathlib.Core.List.{List}
-use mathlib.Core.Bool.{Bool}
-use mathlib.Core.Path.{subst, ◌≡◌, refl, sym, ap, ◌∙◌}
+use mathlib.Core.Path.{◌≡◌}
 use lib.ListN.{take, length}
-use lib.Seq.{length-take-le}
 use Rattle.tableau_layout.specs.Layout.{tableau_numbers}
 use Rattle.tableau_parts.specs.Walks.{FormedPlan}
-use Rattle.case_minimization.specs.Minimization.{IsCase, CaseBy, without}
+use Rattle.case_minimization.specs.Minimization.{IsCase, without}
 use Rattle.case_minimization.specs.Parts.{TriedFact}
-use Rattle.case_minimization.proofs.Laws.{left-without, tried-none, tried-kept, tried_dropped}
-use Prim.Native.Nat.{ℕ, ◌≤◌, ◌<◌, ◌-◌, ◌*◌}
-use native.Mathlib.Omega.{arith}
-use borrow.Author.Rules.{rules}
+use Prim.Native.Nat.{◌≤◌, ◌<◌, ◌-◌, ◌*◌}
 use Rattle.case_minimization.proofs.pass.Given as goal
 
 abbrev pub invariant-loop-i : goal.invariant-loop-i

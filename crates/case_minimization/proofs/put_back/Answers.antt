@@ -1,5 +1,5 @@
-use Rattle.std.proofs.Common.{◌+◌, ◌*◌, get_or, arith, refl, rules}
-use Rattle.std.proofs.lemmas.Slice.{places}
+use Rattle.std.proofs.Common.{◌+◌, ◌*◌, arith, refl, rules}
+use Rattle.std.proofs.lemmas.List.{places}
 use Rattle.case_minimization.proofs.Laws.{patched_all}
 use Rattle.case_minimization.proofs.put_back.Goals as goal
 

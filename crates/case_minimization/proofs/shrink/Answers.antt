@@ -1,13 +1,9 @@
-use lib.ListN.{take, length}
+use lib.ListN.{take}
 use lib.Seq.{length-take-le}
-use Rattle.tableau_parts.specs.Walks.{FormedPlan}
-use Rattle.case_minimization.specs.Minimization.{IsCase}
-use Rattle.case_minimization.specs.Parts.{TriedFact}
 use Rattle.case_minimization.proofs.Laws.{tried-start, tried_again, shrunk}
-use mathlib.Core.Path.{◌≡◌, refl, ◌∙◌}
-use Prim.Native.Nat.{◌≤◌, ◌+◌, ◌*◌}
+use mathlib.Core.Path.{refl, ◌∙◌}
+use Prim.Native.Nat.{◌+◌, ◌*◌}
 use native.Mathlib.Omega.{arith}
-use borrow.Author.Rules.{rules}
 use Rattle.case_minimization.proofs.shrink.Goals as goal
 
 pub loop-m-init : goal.loop-m-init
