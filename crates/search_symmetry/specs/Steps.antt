@@ -1,5 +1,5 @@
 -- What single checks find of two rows' values a and b, of the first n of what each goes through. No promise to a caller rests on these.
-use Rattle.std.specs.Prelude.{◌≡◌, true, false, List, ◌⊎◌, ℕ, ◌+◌, ◌-◌, ◌*◌, ◌/◌, ◌%◌, ◌<◌, ◌≤◌, length, get_or}
+use Rattle.std.specs.Prelude.{◌≡◌, true, List, ◌⊎◌, ℕ, ◌+◌, ◌-◌, ◌*◌, ◌/◌, ◌%◌, ◌<◌, ◌≤◌, length, get_or}
 use Rattle.query_layout.specs.Layout.{block_head, block_width, names}
 use Rattle.tableau_layout.specs.Layout.{blocks_at, most_copies, sizes_at, view_block}
 use Rattle.sheet_format.specs.Limits.{most_rows, most_views}
@@ -7,10 +7,6 @@ use Rattle.case_verdicts.specs.Sheets.{top}
 use Rattle.tableau_plan.specs.Plan.{row_at, row_count, view_count}
 use Rattle.search_slots.specs.Slots.{in_set}
 use Rattle.search_symmetry.specs.Symmetry.{exchanged, copy_becomes}
-
--- both rows have four values
-abbrev pub Fours : List ℕ → List ℕ → Type 0
-Fours a b = (length a ≡ 4) × (length b ≡ 4)
 
 -- the constants of a stray row are those of the row
 pub record SameFor (u a : List ℕ) (n : ℕ) : Type 0 where
@@ -65,13 +61,13 @@ pub record TwoListed (p : List ℕ) (one other : ℕ) : Type 0 where
   pub one_inside : one < row_count p
   pub other_inside : other < row_count p
 
+-- the copy of a made-up value stays
+abbrev pub UnmovedValue : List ℕ → ℕ → Type 0
+UnmovedValue to v = (k x : ℕ) → k < most_copies → x < names → v ≡ top + (k * names + x) → copy_becomes to k ≡ k
+
 -- the copies of a stray row's made-up values stay
 pub record Unmoved (to u : List ℕ) (n : ℕ) : Type 0 where
-  pub each : (c k x : ℕ) → c < n → k < most_copies → x < names → get_or u c 0 ≡ top + (k * names + x) → copy_becomes to k ≡ k
-
--- the slots from n to m are not in the set
-pub record SlotsPassed (set : List ℕ) (n m : ℕ) : Type 0 where
-  pub each : (k : ℕ) → n ≤ k → k < m → in_set set k ≡ false
+  pub each : (c : ℕ) → c < n → UnmovedValue to (get_or u c 0)
 
 -- the slot that slot n becomes
 abbrev pub slot_to : List ℕ → ℕ → ℕ

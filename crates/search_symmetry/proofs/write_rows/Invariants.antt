@@ -1,15 +1,6 @@
-use mathlib.Core.Logic.{⊎_elim}
-use mathlib.Core.Path.{sym, ◌∙◌, subst}
-use Prim.Native.Nat.{ℕ, ◌≤◌, ◌-◌}
-use native.Mathlib.Omega.{arith}
-use borrow.Author.Rules.{rules}
-use Rattle.sheet_format.specs.Limits.{most_rows}
-use Rattle.search_symmetry.proofs.Laws.{never, ended, written-more}
-use Rattle.search_symmetry.specs.Steps.{Goes, WrittenCopies}
+-- The loop holds that the rows passed are written where they go.
+use Rattle.search_symmetry.specs.Steps.{WrittenCopies}
 use Rattle.search_symmetry.proofs.write_rows.Given as goal
 
 abbrev pub invariant-loop-i : goal.invariant-loop-i
-invariant-loop-i l = (l.i ≤ most_rows) × WrittenCopies l.p l.a l.b l.rows l.to l.i
-
-abbrev pub decreases-loop-i : goal.decreases-loop-i
-decreases-loop-i l = most_rows - l.i
+invariant-loop-i l = WrittenCopies l.p l.a l.b l.rows l.to l.i

@@ -1,7 +1,6 @@
-use Rattle.std.proofs.Common.{arith, ◌≡◌, refl}
-use Rattle.tableau_plan.specs.Plan.{row_count, row_values, view_count}
+use Rattle.std.proofs.Common.{arith, refl}
 use Rattle.search_symmetry.proofs.Laws.{all_found}
-use Rattle.search_symmetry.proofs.are_exchanged.Goals as goal
+use Rattle.search_symmetry.proofs.are_alike.Goals as goal
 
 pub returns : goal.returns
 returns c e =
