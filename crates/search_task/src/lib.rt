@@ -6,24 +6,21 @@ ghost use Rattle.search_task.specs.Task as specs;
 
 use tableau_layout::{ASKED_SIZE_AT, PLAN_NUMBERS};
 
-// What is searched for: a case of the sheet, or a log that agrees with its views, whatever the question is.
-#[derive(Clone, Copy)]
+/// What is searched for: a case of the sheet, or a log that agrees with its views, whatever the question is.
+#[derive(Clone, Copy, Debug, PartialEq, Eq)]
 pub enum Goal {
     Counterexample,
     Agreement,
 }
 
-// Whether the question is asked.
+/// Whether the question is asked.
 pub fn asks(goal: Goal) -> bool
     ensures { result ≡ specs.asks goal }
 {
-    match goal {
-        Goal::Counterexample => true,
-        Goal::Agreement => false,
-    }
+    matches!(goal, Goal::Counterexample)
 }
 
-// Where a state's facts start in the tableau.
+/// The atom of the tableau at which a state's facts start: the question's atoms stand first.
 pub fn start(p: &[usize; PLAN_NUMBERS], goal: Goal) -> usize
     ensures { result ≡ specs.from_by goal p.now }
 {
