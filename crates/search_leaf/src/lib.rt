@@ -1,7 +1,7 @@
 // Whether a state in plain words is good. Each word is the value of its slot.
 #![tactic(auto)]
 
-ghost use Rattle.std.specs.Prelude.{◌≡◌, true, false, ◌+◌, ◌*◌, ◌<◌, ◌≤◌, min, length, get_or, take};
+ghost use Rattle.std.specs.Prelude.{◌≡◌, true, false, ◌+◌, ◌*◌, ◌<◌, ◌≤◌, min, length, get_or, take, IfSome};
 ghost use Rattle.query_layout.specs.Layout.{block_head, names};
 ghost use Rattle.sheet_format.specs.Limits.{most_atoms, most_rows};
 ghost use Rattle.tableau_layout.specs.Layout.{most_blocks, most_copies, slot_end, tableau_atoms, tableau_numbers, view_block};
@@ -12,10 +12,11 @@ ghost use Rattle.case_verdicts.specs.Tableau.{Good};
 ghost use Rattle.case_verdicts.specs.Verdict.{Sheet};
 ghost use Rattle.case_verdicts.specs.Words.{state_of};
 ghost use Rattle.tableau_plan.specs.Plan.{block_numbers, block_size, row_count, row_values};
-ghost use Rattle.tableau_parts.specs.Views.{GivenToList, StrayBy};
+ghost use Rattle.tableau_parts.specs.Views.{GivenToList};
 ghost use Rattle.tableau_parts.specs.Walks.{FormedPlan};
 ghost use Rattle.search_keys.specs.Keys.{KeysBy};
 ghost use Rattle.search_task.specs.Task.{ReadyPlan, asks, sheet_by, goal_facts, HeadsSettled, asked_row};
+ghost use Rattle.search_violation.specs.Parts.{StrayIn};
 ghost use Rattle.search_leaf.specs.Leaf.{row_head, RowHeads};
 
 use query_layout::{BLOCK_NUMBERS, FACT_NUMBERS, HEAD_AT, NAMES};
@@ -68,13 +69,10 @@ fn has_row(p: &[usize; PLAN_NUMBERS], ws: &[usize; SLOTS], i: usize) -> bool
 fn has_rows(p: &[usize; PLAN_NUMBERS], ws: &[usize; SLOTS]) -> bool
     ensures { length ws.now ≡ slot_end → row_count p.now ≤ most_rows → result ≡ true → RowHeads p.now (state_of top ws.now) (row_count p.now) }
 {
-    let rows = tableau_parts::row_count(p);
-    let mut i = 0;
-    while i < rows {
+    for i in 0..tableau_parts::row_count(p) {
         if !has_row(p, ws, i) {
             return false;
         }
-        i += 1;
     }
     true
 }
@@ -122,11 +120,10 @@ fn is_clean(p: &[usize; PLAN_NUMBERS], goal: Goal, ws: &[usize; SLOTS], facts: &
     if clash.some {
         return false;
     }
-    let stray = search_violation::first(p, facts);
-    !stray.some
+    search_violation::first(p, facts).is_none()
 }
 
-// Whether the state is good: of the whole sheet where the question is asked, else of its views alone.
+/// Whether the state is good: of the whole sheet where the question is asked, else of its views alone.
 pub fn is_good(p: &[usize; PLAN_NUMBERS], goal: Goal, ws: &[usize; SLOTS]) -> bool
     ensures { (x : Sheet) → ReadyPlan p.now x → result ≡ true → length ws.now ≡ slot_end → Good (sheet_by goal x) (state_of top ws.now) }
 {
@@ -138,7 +135,7 @@ pub fn is_good(p: &[usize; PLAN_NUMBERS], goal: Goal, ws: &[usize; SLOTS]) -> bo
     is_clean(p, goal, ws, &room[..n * FACT_NUMBERS])
 }
 
-// Whether the question is asked and the facts of the state give a list its head.
+/// Whether the question is asked and the facts of the state give a list its head.
 pub fn is_given(p: &[usize; PLAN_NUMBERS], goal: Goal, ws: &[usize; SLOTS]) -> bool
     ensures fact { (x : Sheet) → ReadyPlan p.now x → length ws.now ≡ slot_end → result ≡ false → asks goal ≡ true → GivenToList p.now (goal_facts goal p.now (state_of top ws.now)) (asked_row p.now (state_of top ws.now)) → ⊥ }
     ensures goal_value { (x : Sheet) → ReadyPlan p.now x → length ws.now ≡ slot_end → result ≡ true → (asks goal ≡ true) × GivenToList p.now (goal_facts goal p.now (state_of top ws.now)) (asked_row p.now (state_of top ws.now)) }
@@ -148,7 +145,7 @@ pub fn is_given(p: &[usize; PLAN_NUMBERS], goal: Goal, ws: &[usize; SLOTS]) -> b
     is_answered(p, goal, ws, &room[..n * 5])
 }
 
-// Two facts of the state that clash in a key, if there are any.
+/// Two facts of the state that clash in a key, if there are any.
 pub fn first_clash(p: &[usize; PLAN_NUMBERS], goal: Goal, ws: &[usize; SLOTS]) -> Clash
     ensures { (x : Sheet) → ReadyPlan p.now x → length ws.now ≡ slot_end → KeysBy result.some p.now (goal_facts goal p.now (state_of top ws.now)) result.left result.right }
 {
@@ -157,10 +154,10 @@ pub fn first_clash(p: &[usize; PLAN_NUMBERS], goal: Goal, ws: &[usize; SLOTS]) -
     search_keys::first_clash(p, &room[..n * FACT_NUMBERS])
 }
 
-// The first stray row that the facts of the state give a view, if there is one, and the places of facts that give it.
-pub fn first_stray(p: &[usize; PLAN_NUMBERS], goal: Goal, ws: &[usize; SLOTS]) -> Stray
-    ensures stray_by { (x : Sheet) → ReadyPlan p.now x → length ws.now ≡ slot_end → StrayBy result.some p.now (goal_facts goal p.now (state_of top ws.now)) result.view result.values }
-    ensures witness_at { (x : Sheet) → ReadyPlan p.now x → length ws.now ≡ slot_end → result.some ≡ true → WitnessAt (block_numbers p.now (view_block result.view)) (min (block_size p.now (view_block result.view)) most_atoms) (goal_facts goal p.now (state_of top ws.now)) result.values result.at }
+/// The first stray row that the facts of the state give a view, if there is one.
+pub fn first_stray(p: &[usize; PLAN_NUMBERS], goal: Goal, ws: &[usize; SLOTS]) -> Option<Stray>
+    ensures stray { (x : Sheet) → ReadyPlan p.now x → length ws.now ≡ slot_end → StrayIn p.now (goal_facts goal p.now (state_of top ws.now)) result }
+    ensures witness { (x : Sheet) → ReadyPlan p.now x → length ws.now ≡ slot_end → IfSome result (λ s. WitnessAt (block_numbers p.now (view_block s.view)) (min (block_size p.now (view_block s.view)) most_atoms) (goal_facts goal p.now (state_of top ws.now)) s.values s.at) }
 {
     let mut room = [0; TABLEAU_NUMBERS];
     let n = write_facts(p, goal, ws, &mut room);

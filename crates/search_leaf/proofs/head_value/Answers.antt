@@ -1,7 +1,6 @@
 -- A variable's value is the word of its slot; a constant is itself.
 use mathlib.Core.Path.{◌∙◌}
 use native.Mathlib.Omega.{arith}
-use borrow.Author.Rules.{rules}
 use Rattle.list_laws.proofs.Lists.{inside}
 use Rattle.case_verdicts.specs.Sheets.{top}
 use Rattle.case_verdicts.specs.Words.{state_of}

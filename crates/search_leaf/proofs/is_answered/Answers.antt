@@ -1,10 +1,7 @@
 -- The list that is found is given the head; none is where none is found, and none is asked for where the question is not.
 use mathlib.Core.Path.{sym, ◌∙◌, subst}
-use mathlib.Core.Bool.{true≢false}
-use borrow.Author.Rules.{rules}
 use borrow.Author.Tests.{ltb-true, ltb-false, not-false}
 use Rattle.tableau_parts.specs.Views.{GivenToList}
-use Rattle.search_task.proofs.NodeLaws.{unasked}
 use Rattle.search_leaf.proofs.is_answered.Goals as goal
 
 pub returns-clause-fact : goal.returns-clause-fact

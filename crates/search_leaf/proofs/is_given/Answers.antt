@@ -1,9 +1,5 @@
 -- The facts asked of are those of the state.
 use mathlib.Core.Path.{sym, subst}
-use Prim.Native.Nat.{◌*◌}
-use native.Mathlib.Omega.{arith}
-use borrow.Author.Rules.{rules}
-use lib.Seq.{length-take-le}
 use Rattle.case_verdicts.specs.Sheets.{top}
 use Rattle.case_verdicts.specs.Words.{state_of}
 use Rattle.tableau_parts.specs.Views.{GivenToList}

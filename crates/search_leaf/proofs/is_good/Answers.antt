@@ -1,11 +1,5 @@
 -- The copies have their rows at their heads, and the facts show nothing against the state.
-use mathlib.Core.Path.{sym}
-use mathlib.Core.Bool.{true≢false}
-use Prim.Native.Nat.{◌*◌}
-use native.Mathlib.Omega.{arith}
-use borrow.Author.Rules.{rules}
 use borrow.Author.Tests.{not-false}
-use lib.Seq.{length-take-le}
 use Rattle.case_verdicts.specs.Sheets.{top}
 use Rattle.case_verdicts.specs.Words.{state_of}
 use Rattle.search_leaf.proofs.Laws.{settled}
