@@ -10,11 +10,11 @@ use Rattle.case_verdicts.specs.Verdict.{Sheet}
 use Rattle.case_verdicts.specs.Sheets.{top}
 use Rattle.case_verdicts.specs.Tableau.{State, Good}
 use Rattle.case_verdicts.specs.Words.{state_of}
-use Rattle.tableau_parts.specs.Views.{GivenToList, StrayAt, NoStray, StrayBy}
+use Rattle.tableau_parts.specs.Views.{GivenToList, StrayAt, NoStray}
 use Rattle.search_task.specs.Task.{ReadyPlan, asks, sheet_by, goal_facts, asked_row, HeadsSettled}
 use Rattle.search_task.specs.declared.Goal.{Goal}
 use Rattle.search_task.specs.declared.Goal.TheVariants.{Counterexample, Agreement}
-use Rattle.search_task.proofs.NodeLaws.{closed, stray-is}
+use Rattle.search_task.proofs.NodeLaws.{closed}
 use Rattle.search_task.proofs.ReadyLaws.{ready-facts}
 use Rattle.search_slots.specs.Slots.{in_set}
 use Rattle.search_keys.specs.Keys.{KeyClash, KeysHold, KeysBy}
@@ -46,20 +46,16 @@ module _ (p : List ℕ) (x : Sheet) (r : ReadyPlan p x) {ws : List ℕ} (out : L
       go Counterexample e k = walk-shut p x r ws set full k
       go Agreement e k = absurd (true≢false (sym e))
 
-  pub read-stray : (b : Bool) (v : ℕ) (u : List ℕ) → b ≡ true → StrayBy b p (goal_facts goal p (state_of top out)) v u → StrayAt p (goal_facts goal p (linked_state top ws)) v u
-  read-stray b v u e s = subst (λ (t : State). StrayAt p (goal_facts goal p t) v u) same (stray-is p (goal_facts goal p (state_of top out)) b v u e s)
+  pub read-stray : (v : ℕ) (u : List ℕ) → StrayAt p (goal_facts goal p (state_of top out)) v u → StrayAt p (goal_facts goal p (linked_state top ws)) v u
+  read-stray v u s = subst (λ (t : State). StrayAt p (goal_facts goal p t) v u) same s
 
   pub read-clash : (b : Bool) (i k : ℕ) → b ≡ true → KeysBy b p (goal_facts goal p (state_of top out)) i k → KeyClash p (goal_facts goal p (linked_state top ws)) i k
   read-clash b i k e c = subst (λ (t : State). KeyClash p (goal_facts goal p t) i k) same (some-clash p (goal_facts goal p (state_of top out)) b i k e c)
 
-  none_left : (b : Bool) (v : ℕ) (u : List ℕ) → b ≡ false → StrayBy b p (goal_facts goal p (state_of top out)) v u → NoStray p (goal_facts goal p (state_of top out))
-  none_left true v u e s = absurd (true≢false e)
-  none_left false v u e s = s
-
   pub read-good : (asks goal ≡ true → GivenToList p (goal_facts goal p (state_of top out)) (asked_row p (state_of top out)) → ⊥) → KeysHold p (goal_facts goal p (state_of top out))
-      → (b : Bool) (v : ℕ) (u : List ℕ) → b ≡ false → StrayBy b p (goal_facts goal p (state_of top out)) v u → StateFound x (sheet_by goal x) out
-  read-good lacks keys b v u e s = record {
-    good = closed p x r goal (state_of top out) (goal_facts goal p (state_of top out)) (ready-facts p x r goal (state_of top out)) lacks keys (none_left b v u e s)
+      → NoStray p (goal_facts goal p (state_of top out)) → StateFound x (sheet_by goal x) out
+  read-good lacks keys none = record {
+    good = closed p x r goal (state_of top out) (goal_facts goal p (state_of top out)) (ready-facts p x r goal (state_of top out)) lacks keys none
         (subst (λ (t : State). HeadsSettled (sheet_by goal x) t) (sym same) w.settled);
     size = size;
     stood = λ n h. subst (Standing x) (sym (each n h)) (slot-stands x ws (λ k l. let z = w.size in w.stood k (omega arith)) n h);

@@ -4,7 +4,7 @@
 // at whole.
 #![tactic(auto)]
 
-ghost use Rattle.std.specs.Prelude.{◌≡◌, true, false, List, ℕ, ◌<◌, ◌≤◌, length, get_or};
+ghost use Rattle.std.specs.Prelude.{◌≡◌, true, false, List, ℕ, ◌<◌, ◌≤◌, length, get_or, IfSome};
 ghost use Rattle.sheet_format.specs.Limits.{most_rows};
 ghost use Rattle.tableau_layout.specs.Layout.{slot_end, tableau_atoms};
 ghost use Rattle.case_verdicts.specs.Verdict.{Sheet};
@@ -162,10 +162,9 @@ pub fn right_row(p: &[usize; PLAN_NUMBERS], node: &[usize; NODE_NUMBERS], k: usi
 
 // ---- what a state is found to be
 
-// A row of a view that is not listed, if there is one.
-#[derive(Clone, Copy)]
+// A row of a view that is not listed.
+#[derive(Clone, Copy, Debug)]
 struct OpenRow {
-    some: bool,
     view: usize,
     values: [usize; 4],
 }
@@ -182,10 +181,8 @@ fn read_all(ws: &[usize; SLOTS], out: &mut [usize; SLOTS])
     ensures n_after { length out.old ≡ slot_end → (n : ℕ) → n < slot_end → get_or out.new n 0 ≡ linked_state top ws.now n }
     ensures out_len_unchanged { length out.new ≡ length out.old }
 {
-    let mut n = 0;
-    while n < SLOTS {
+    for n in 0..SLOTS {
         out[n] = search_links::place_value(ws, n);
-        n += 1;
     }
 }
 
@@ -220,17 +217,6 @@ fn is_shut(
     tableau_parts::same(row, head)
 }
 
-// No row.
-fn none() -> OpenRow
-    ensures { result.some ≡ false }
-{
-    OpenRow {
-        some: false,
-        view: 0,
-        values: [0; 4],
-    }
-}
-
 // The row that atoms of the tableau give view block b, if it is none of the listed; the set is what this rests on.
 fn open_row(
     p: &[usize; PLAN_NUMBERS],
@@ -239,30 +225,26 @@ fn open_row(
     b: usize,
     at: &[usize; MOST_ATOMS],
     set: &mut [u64; SET_WORDS],
-) -> OpenRow
-    ensures row_open { (x : Sheet) → ReadyPlan p.now x → Wordly x (sheet_by goal x) ws.now → result.some ≡ true → RowOpen p.now x (Good (sheet_by goal x)) ws.now set.new result.view result.values }
+) -> Option<OpenRow>
+    ensures row_open { (x : Sheet) → ReadyPlan p.now x → Wordly x (sheet_by goal x) ws.now → IfSome result (λ o. RowOpen p.now x (Good (sheet_by goal x)) ws.now set.new o.view o.values) }
     ensures set_len_unchanged { length set.new ≡ length set.old }
 {
     if b < VIEW_BLOCKS {
-        return none();
+        return None;
     }
     let view = b - VIEW_BLOCKS;
     if tableau_parts::view_count(p) <= view {
-        return none();
+        return None;
     }
     let given = search_witness::show(p, ws, search_task::start(p, goal), b, at, set);
     if !given.ok {
-        return none();
+        return None;
     }
     let values = given.row;
     if tableau_parts::is_listed(p, tableau_parts::row_count(p), view, values) {
-        return none();
+        return None;
     }
-    OpenRow {
-        some: true,
-        view,
-        values,
-    }
+    Some(OpenRow { view, values })
 }
 
 // Leaves every slot in the set.
@@ -275,30 +257,23 @@ fn fill(set: &mut [u64; SET_WORDS])
 
 // The atoms of the tableau that are these facts of a state: its facts begin at atom `from`.
 fn atoms_of(at: &[usize; MOST_ATOMS], from: usize) -> [usize; MOST_ATOMS] {
-    let mut atoms = [TABLEAU_ATOMS; MOST_ATOMS];
-    let mut j = 0;
-    while j < MOST_ATOMS {
-        let i = at[j];
-        if i < TABLEAU_ATOMS {
-            if from < TABLEAU_ATOMS {
-                atoms[j] = from + i;
-            }
+    at.map(|i| {
+        if i < TABLEAU_ATOMS && from < TABLEAU_ATOMS {
+            from + i
+        } else {
+            TABLEAU_ATOMS
         }
-        j += 1;
-    }
-    atoms
+    })
 }
 
 // Whether v is a slot's word.
 fn is_word(ws: &[usize; SLOTS], v: usize) -> bool
     ensures { result ≡ true → WordOf ws.now v }
 {
-    let mut n = 0;
-    while n < SLOTS {
-        if ws[n] == v {
+    for word in ws {
+        if *word == v {
             return true;
         }
-        n += 1;
     }
     false
 }
@@ -308,12 +283,10 @@ fn has_term(p: &[usize; PLAN_NUMBERS], i: usize, w: usize) -> bool
     requires { i < tableau_atoms }
     ensures { result ≡ true → TermAt p.now i w }
 {
-    let mut c = 0;
-    while c < COLUMNS {
+    for c in 0..COLUMNS {
         if p[i * FACT_NUMBERS + 1 + c] == w {
             return true;
         }
-        c += 1;
     }
     false
 }
@@ -326,12 +299,10 @@ fn is_term(p: &[usize; PLAN_NUMBERS], w: usize) -> bool
     if TABLEAU_ATOMS < size {
         return false;
     }
-    let mut i = 0;
-    while i < size {
+    for i in 0..size {
         if has_term(p, i, w) {
             return true;
         }
-        i += 1;
     }
     false
 }
@@ -365,14 +336,12 @@ fn take_values(
     ensures standing { (x y : Sheet) → ReadyPlan p.now x → Wordly x y ws.now → length out.old ≡ slot_end → result ≡ true → (n : ℕ) → n < slot_end → Standing x (get_or out.new n 0) }
     ensures out_len_unchanged { length out.new ≡ length out.old }
 {
-    let mut n = 0;
-    while n < SLOTS {
+    for n in 0..SLOTS {
         let v = values[n];
         if !is_standing(p, ws, n, v) {
             return false;
         }
         out[n] = v;
-        n += 1;
     }
     true
 }
@@ -412,10 +381,15 @@ fn by_row(
     }
     let atoms = atoms_of(&at, search_task::start(p, goal));
     search_slots::clear(set);
-    let o = open_row(p, ws, goal, VIEW_BLOCKS + view, &atoms, set);
-    if o.some {
-        let row = o.values;
-        *node = rows_node(o.view, row, 0);
+    if let Some(OpenRow { view, values: row }) = open_row(
+        p,
+        ws,
+        goal,
+        VIEW_BLOCKS + view,
+        &atoms,
+        set,
+    ) {
+        *node = rows_node(view, row, 0);
         return;
     }
     by_all(view, values, set, node);
@@ -482,16 +456,7 @@ fn clash_node(
 {
     let from = search_task::start(p, goal);
     let size = p[TABLEAU_SIZE_AT];
-    if i < from {
-        return false;
-    }
-    if size <= i {
-        return false;
-    }
-    if k < from {
-        return false;
-    }
-    if size <= k {
+    if i < from || size <= i || k < from || size <= k {
         return false;
     }
     if !search_keys::are_clashing(p, ws, i, k) {
@@ -525,8 +490,7 @@ fn by_walk(
         by_clash(p, ws, goal, clash, set, node);
         return false;
     }
-    let stray = search_leaf::first_stray(p, goal, out);
-    if stray.some {
+    if let Some(stray) = search_leaf::first_stray(p, goal, out) {
         by_row(p, ws, goal, stray, set, node);
         return false;
     }
@@ -590,12 +554,10 @@ fn view_node(
     ensures open_state { (x : Sheet) → ReadyPlan p.now x → Wordly x (sheet_by goal x) ws.now → result ≡ true → OpenState p.now x (Good (sheet_by goal x)) ws.now set.new node.new }
     ensures set_len_unchanged { length set.new ≡ length set.old }
 {
-    let o = open_row(p, ws, goal, b, at, set);
-    if !o.some {
+    let Some(OpenRow { view, values: row }) = open_row(p, ws, goal, b, at, set) else {
         return false;
-    }
-    let row = o.values;
-    *node = rows_node(o.view, row, hint);
+    };
+    *node = rows_node(view, row, hint);
     true
 }
 

@@ -10,12 +10,12 @@ use Rattle.search_node.proofs.Open.{walk_open}
 use borrow.Author.Rules.{rules}
 use Rattle.search_node.proofs.by_row.Goals as goal
 
-pub returns-then-o-clause-open_state : goal.returns-then-o-clause-open_state
-returns-then-o-clause-open_state c = let a = c.args in
+pub returns-in-Some-clause-open_state : goal.returns-in-Some-clause-open_state
+returns-in-Some-clause-open_state c = let a = c.args in
     let k = c.rows_node in
-    let o = c.open_row-o in
+    let o = c.open_row in
     let z = c.clear in λ x r w st. subst (λ (l : List ℕ). OpenState a.p.now x (Good (sheet_by a.goal x)) a.ws.now o.new.set l) (sym k.ensures)
-    (rows_open a.p.now x (Good (sheet_by a.goal x)) a.ws.now o.new.set r o.result.view o.result.values (one_value 0) (o.ensures.row_open x r w c.if-o.true))
+    (rows_open a.p.now x (Good (sheet_by a.goal x)) a.ws.now o.new.set r c.in-Some.view c.in-Some.row (one_value 0) (c.in-Some.ensures.row_open x r w))
 
 pub returns-clause-open_state : goal.returns-clause-open_state
 returns-clause-open_state c = let a = c.args in

@@ -31,20 +31,18 @@ returns-then-clash-clause-node_by c = let k = c.by_clash in
     (read-clash a.p.now x r l.new.out a.goal w (l.ensures.out_len_unchanged ∙ whole) (l.ensures.n_after whole) s.result.some s.result.left s.result.right c.if-clash.true
     (s.ensures x r (l.ensures.out_len_unchanged ∙ whole)))
 
-pub returns-then-stray-clause-node_by : goal.returns-then-stray-clause-node_by
-returns-then-stray-clause-node_by c = let k = c.by_row in
-    let s = c.first_stray-stray in
+pub returns-in-Some-clause-node_by : goal.returns-in-Some-clause-node_by
+returns-in-Some-clause-node_by c = let k = c.by_row in
     let l = c.read_all in
     let a = c.args in λ x r w whole. k.ensures.open_state x r w
-    (read-stray a.p.now x r l.new.out a.goal w (l.ensures.out_len_unchanged ∙ whole) (l.ensures.n_after whole) s.result.some s.result.view s.result.values c.if-stray.true
-    (s.ensures.stray_by x r (l.ensures.out_len_unchanged ∙ whole)))
+    (read-stray a.p.now x r l.new.out a.goal w (l.ensures.out_len_unchanged ∙ whole) (l.ensures.n_after whole) _ _
+    (c.in-Some.ensures.stray x r (l.ensures.out_len_unchanged ∙ whole)))
 
 pub returns-clause-node_by : goal.returns-clause-node_by
-returns-clause-node_by c = let s = c.first_stray-stray in
-    let f = c.first_clash-clash in
+returns-clause-node_by c = let f = c.first_clash-clash in
     let g = c.is_given in
     let l = c.read_all in
     let a = c.args in λ x r w whole. read-good a.p.now x r l.new.out a.goal w (l.ensures.out_len_unchanged ∙ whole) (l.ensures.n_after whole)
     (g.ensures.fact x r (l.ensures.out_len_unchanged ∙ whole) c.if-is_given.false)
     (none-clash a.p.now (goal_facts a.goal a.p.now (state_of top l.new.out)) f.result.some f.result.left f.result.right c.if-clash.false (f.ensures x r (l.ensures.out_len_unchanged ∙ whole)))
-    s.result.some s.result.view s.result.values c.if-stray.false (s.ensures.stray_by x r (l.ensures.out_len_unchanged ∙ whole))
+    (c.in_default.ensures.stray x r (l.ensures.out_len_unchanged ∙ whole))

@@ -13,7 +13,7 @@ pub returns-clause-row_open : goal.returns-clause-row_open
 returns-clause-row_open c = let s = c.show-given in
     let a = c.args in
     let low = c.if-b-lt-VIEW_BLOCKS.false in
-    let here = c.if-view_count-view.false in λ x r w e.
+    let here = c.if-view_count-view.false in λ x r w.
     let many = c.view_count.ensures.exact r.plan.views_few in
     let rows = c.row_count.ensures in
     shown_open a.p.now x r a.goal (a.b - (1 + most_lists)) (omega arith) c.start.result a.b c.start.ensures (omega arith) w.linked w.size

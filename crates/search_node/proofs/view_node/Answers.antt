@@ -14,5 +14,5 @@ use Rattle.search_node.proofs.view_node.Goals as goal
 pub returns-clause-open_state : goal.returns-clause-open_state
 returns-clause-open_state c = let a = c.args in
     let k = c.rows_node in
-    let o = c.open_row-o in λ x r w e. subst (λ (n : List ℕ). OpenState a.p.now x (Good (sheet_by a.goal x)) a.ws.now o.new.set n) (sym k.ensures)
-    (rows_open a.p.now x (Good (sheet_by a.goal x)) a.ws.now o.new.set r o.result.view o.result.values (one_value a.hint) (o.ensures.row_open x r w (not-false o.result.some c.if-not-o.false)))
+    let o = c.open_row in λ x r w e. subst (λ (n : List ℕ). OpenState a.p.now x (Good (sheet_by a.goal x)) a.ws.now o.new.set n) (sym k.ensures)
+    (rows_open a.p.now x (Good (sheet_by a.goal x)) a.ws.now o.new.set r c.in-Some.view c.in-Some.row (one_value a.hint) (c.in-Some.ensures.row_open x r w))
