@@ -196,19 +196,16 @@ pub fn next(
     let mut to = [0; MOST_ROWS];
     let count = search_node::alternatives(p, node);
     let hint = search_node::hint_of(node);
-    let mut i = from;
-    while i < 2 * count {
+    for i in from..2 * count {
         let k = turn(count, i);
-        let now = is_turn(hint, count, i, k);
-        i += 1;
-        if !now {
+        if !is_turn(hint, count, i, k) {
             continue;
         }
         if is_refuted(p, ws, node, last, k, below, sl, sm, set, &mut to) {
             continue;
         }
         if take(p, ws, node, k) {
-            return i;
+            return i + 1;
         }
     }
     0
@@ -259,12 +256,10 @@ pub fn settle(p: &[usize; PLAN_NUMBERS], ws: &mut [usize]) -> bool
     ensures { (x : Sheet) → ReadyPlan p.now x → (goal : Goal) → state_of top ws.old ≡ free top → HeadsBy result x (sheet_by goal x) ws.new (row_count p.now) }
 {
     let listed = tableau_parts::row_count(p);
-    let mut i = 0;
-    while i < listed {
+    for i in 0..listed {
         if !settle_row(p, ws, i) {
             return false;
         }
-        i += 1;
     }
     true
 }
@@ -274,12 +269,7 @@ pub fn copy(words: &[usize], out: &mut [usize])
     ensures out_after { length out.old ≡ length words.now → out.new ≡ words.now }
     ensures out_unchanged { (length out.old ≡ length words.now → ⊥) → out.new ≡ out.old }
 {
-    if out.len() != words.len() {
-        return;
-    }
-    let mut i = 0;
-    while i < words.len() {
-        out[i] = words[i];
-        i += 1;
+    if out.len() == words.len() {
+        out.copy_from_slice(words);
     }
 }
