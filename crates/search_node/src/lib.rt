@@ -381,15 +381,9 @@ fn by_row(
     }
     let atoms = atoms_of(&at, search_task::start(p, goal));
     search_slots::clear(set);
-    if let Some(OpenRow { view, values: row }) = open_row(
-        p,
-        ws,
-        goal,
-        VIEW_BLOCKS + view,
-        &atoms,
-        set,
-    ) {
-        *node = rows_node(view, row, 0);
+    if let Some(shown) = open_row(p, ws, goal, VIEW_BLOCKS + view, &atoms, set) {
+        let row = shown.values;
+        *node = rows_node(shown.view, row, 0);
         return;
     }
     by_all(view, values, set, node);
@@ -554,10 +548,11 @@ fn view_node(
     ensures open_state { (x : Sheet) → ReadyPlan p.now x → Wordly x (sheet_by goal x) ws.now → result ≡ true → OpenState p.now x (Good (sheet_by goal x)) ws.now set.new node.new }
     ensures set_len_unchanged { length set.new ≡ length set.old }
 {
-    let Some(OpenRow { view, values: row }) = open_row(p, ws, goal, b, at, set) else {
+    let Some(shown) = open_row(p, ws, goal, b, at, set) else {
         return false;
     };
-    *node = rows_node(view, row, hint);
+    let row = shown.values;
+    *node = rows_node(shown.view, row, hint);
     true
 }
 

@@ -15,7 +15,7 @@ returns-in-Some-clause-open_state c = let a = c.args in
     let k = c.rows_node in
     let o = c.open_row in
     let z = c.clear in λ x r w st. subst (λ (l : List ℕ). OpenState a.p.now x (Good (sheet_by a.goal x)) a.ws.now o.new.set l) (sym k.ensures)
-    (rows_open a.p.now x (Good (sheet_by a.goal x)) a.ws.now o.new.set r c.in-Some.view c.in-Some.row (one_value 0) (c.in-Some.ensures.row_open x r w))
+    (rows_open a.p.now x (Good (sheet_by a.goal x)) a.ws.now o.new.set r c.in-Some.shown.view c.in-Some.shown.values (one_value 0) (c.in-Some.ensures.row_open x r w))
 
 pub returns-clause-open_state : goal.returns-clause-open_state
 returns-clause-open_state c = let a = c.args in

@@ -15,4 +15,4 @@ pub returns-clause-open_state : goal.returns-clause-open_state
 returns-clause-open_state c = let a = c.args in
     let k = c.rows_node in
     let o = c.open_row in λ x r w e. subst (λ (n : List ℕ). OpenState a.p.now x (Good (sheet_by a.goal x)) a.ws.now o.new.set n) (sym k.ensures)
-    (rows_open a.p.now x (Good (sheet_by a.goal x)) a.ws.now o.new.set r c.in-Some.view c.in-Some.row (one_value a.hint) (c.in-Some.ensures.row_open x r w))
+    (rows_open a.p.now x (Good (sheet_by a.goal x)) a.ws.now o.new.set r c.in-Some.shown.view c.in-Some.shown.values (one_value a.hint) (c.in-Some.ensures.row_open x r w))
