@@ -2,7 +2,6 @@ use mathlib.Core.List.{List}
 use mathlib.Core.Path.{sym, subst}
 use Prim.Native.Nat.{ℕ, ◌+◌, ◌-◌, ◌*◌, ◌<◌, ◌≤◌}
 use native.Mathlib.Omega.{arith}
-use borrow.Author.Tests.{not-true}
 use Rattle.sheet_format.specs.Limits.{most_rows}
 use Rattle.case_verdicts.specs.Verdict.{Sheet}
 use Rattle.case_verdicts.specs.Tableau.{Good}
@@ -27,7 +26,7 @@ loop-i-preserved-then-not-is_turn c = let a = c.args in
     λ x r goal w g.
     let many = n.ensures.exact (many-few a.node.now a.p.now r.plan.rows_few) in
     going_later a.p.now x (Good (sheet_by goal x)) a.ws.now a.node.now l.set l.i l.ws a.below.now a.last a.sl.now a.sm.now (l.invariant x r goal w g)
-    now.result (not-true now.result c.if-not-is_turn.true-raw) (is-turn-at a.p.now a.node.now many l.i h.ensures now.result (now.ensures k.ensures.0))
+    now.result c.if-not-is_turn.true (is-turn-at a.p.now a.node.now many l.i h.ensures now.result (now.ensures k.ensures.0))
 
 pub loop-i-preserved-then-is_refuted : goal.loop-i-preserved-then-is_refuted
 loop-i-preserved-then-is_refuted c = let a = c.args in
