@@ -4,10 +4,10 @@
 ghost use Rattle.std.specs.Prelude.{◌≡◌, ◌≤◌, length};
 ghost use Rattle.text_begins.specs.Begins.{letter_of, is_blank_byte, begins_text, is_text_bytes, leading_blanks};
 
-// A text has at most so many bytes.
+/// A text has at most so many bytes.
 pub const MOST_TEXT: usize = 65536;
 
-// The letter of a block's kind.
+/// The letter of a block's kind.
 pub fn letter(block: usize) -> u8
     ensures { result ≡ letter_of block }
 {
@@ -22,42 +22,26 @@ pub fn letter(block: usize) -> u8
 fn begins(b: u8) -> bool
     ensures { result ≡ begins_text b }
 {
-    match b {
-        b'a'..=b'z' | b'A'..=b'Z' | b'#' | b'\n' => true,
-        _ => false,
-    }
+    matches!(b, b'a'..=b'z' | b'A'..=b'Z' | b'#' | b'\n')
 }
 
 fn is_blank(b: u8) -> bool
     ensures { result ≡ is_blank_byte b }
 {
-    match b {
-        b' ' | b'\t' | b'\r' => true,
-        _ => false,
-    }
+    matches!(b, b' ' | b'\t' | b'\r')
 }
 
-// How many blanks come first.
+/// How many blanks come first.
 pub fn blanks(s: &[u8]) -> usize
     ensures { (result ≤ length s.now) × (result ≡ leading_blanks s.now) }
 {
-    let mut i = 0;
-    while i < s.len() {
-        if !is_blank(s[i]) {
-            return i;
-        }
-        i += 1;
-    }
-    i
+    s.iter().position(|b| !is_blank(*b)).unwrap_or(s.len())
 }
 
-// Whether bytes are a text and no sheet: a letter, "#" or an empty line comes first.
+/// Whether bytes are a text and no sheet: a letter, "#" or an empty line comes first.
 pub fn is_text(given: &[u8]) -> bool
     ensures { result ≡ is_text_bytes given.now }
 {
     let at = blanks(given);
-    if at < given.len() {
-        return begins(given[at]);
-    }
-    false
+    at < given.len() && begins(given[at])
 }

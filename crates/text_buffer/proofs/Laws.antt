@@ -4,9 +4,10 @@ use mathlib.Core.List.{List, [], ◌∷◌, ◌++◌}
 use mathlib.Core.Logic.{⊎_elim}
 use Prim.Native.Nat.{ℕ, suc, ◌+◌, ◌-◌, min, ◌≤◌, ◌<◌}
 use native.Mathlib.Omega.{arith}
-use native.Mathlib.Numerals.{add-one}
-use lib.ListN.{length, take, drop, get_or, set, length-set, length-append, take-append-drop}
-use lib.Seq.{sets, length-sets, sets-eq, set_out, take-suc, take_all, take-suc-set, drop-set-lt, append_snoc}
+use lib.ListN.{length, take, drop, set, length-set, length-append, take-append-drop}
+use borrow.Rule.Slice.PartMut.{put_mid, Post-is}
+use Rattle.std.proofs.Common.{append_assoc}
+use lib.Seq.{sets, length-sets, sets-eq, set_out, take-suc-set, drop-set-lt, append_snoc}
 use Rattle.list_laws.proofs.Order.{less?}
 use Rattle.text_buffer.specs.Puts.{reached, placed, Put}
 
@@ -134,19 +135,16 @@ followed {a} {b} {c} {at} {n} {m} {s} {t} p q =
 pub said : {a b : List ℕ} {at n : ℕ} {s t : List ℕ} → s ≡ t → Put a b at s n → Put a b at t n
 said e p = rw (← e) p
 
--- a byte within the buffer, and one beyond it
-pub one-within : (out : List ℕ) (at b : ℕ) → at < length out → Put out (set out at b) at (b ∷ []) (at + 1)
+-- beyond the buffer nothing is put
+pub outside : (out : List ℕ) (at : ℕ) (s : List ℕ) → length out ≤ at → Put out out at s at
 unfolding reached
-one-within out at b h = record { bytes = sym (placed-sets out at (b ∷ [])); place = omega arith }
+outside out at s h = record { bytes = sym (placed-beyond out at s h); place = omega arith }
 
-pub one-beyond : (out : List ℕ) (at b : ℕ) → length out ≤ at → Put out out at (b ∷ []) at
-unfolding reached
-one-beyond out at b h = record { bytes = sym (placed-beyond out at (b ∷ []) h); place = omega arith }
-
--- one byte more of a list
-pub one_more : {a b c : List ℕ} {at n m : ℕ} (s : List ℕ) (i : ℕ) → i < length s → Put a b at (take i s) n → Put b c n (get_or s i 0 ∷ []) m → Put a c at (take (i + 1) s) m
-one_more s i h p q = rw (add-one, take-suc s i 0 h) (followed p q)
-
--- all bytes of a list
-pub all-put : {a b : List ℕ} {at n : ℕ} (s : List ℕ) (i : ℕ) → length s ≤ i → Put a b at (take i s) n → Put a b at s n
-all-put s i h p = said (take_all i s h) p
+-- a part of the buffer becomes what fits there
+pub copied : (out : List ℕ) (at n : ℕ) (s part : List ℕ) → at < length out → n ≡ min (length s) (length out - at) → part ≡ take n s → Put out (put_mid at (at + n - at) out part) at s (at + n)
+unfolding placed reached
+copied out at n s part h e p =
+    record {
+      bytes = rw (Post-is at (at + n) out (omega arith), p, ← e) (sym (append_assoc (take at out) (take n s) (drop (at + n) out)));
+      place = rw e refl;
+    }

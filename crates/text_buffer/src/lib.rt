@@ -4,24 +4,22 @@
 ghost use Rattle.text_buffer.specs.Puts.{Put};
 ghost use Rattle.std.specs.Prelude.{[], ◌∷◌};
 
+/// Puts one byte at a place of a buffer.
 pub fn put_byte(out: &mut [u8], at: usize, b: u8) -> usize
     ensures { Put out.old out.new at (b ∷ []) result }
 {
-    if at < out.len() {
-        out[at] = b;
-        return at + 1;
-    }
-    at
+    put(out, at, &[b])
 }
 
+/// Puts bytes at a place of a buffer.
 pub fn put(out: &mut [u8], at: usize, s: &[u8]) -> usize
     ensures { Put out.old out.new at s.now result }
 {
-    let mut n = at;
-    let mut i = 0;
-    while i < s.len() {
-        n = put_byte(out, n, s[i]);
-        i += 1;
+    if out.len() <= at {
+        return at;
     }
-    n
+    let fitting = s.len().min(out.len() - at);
+    let end = at + fitting;
+    out[at..end].copy_from_slice(&s[..fitting]);
+    end
 }

@@ -1,7 +1,7 @@
 // Facts as bytes, put at a place of a buffer, by a table of relations in plain numbers.
 #![tactic(auto)]
 
-ghost use Rattle.std.specs.Prelude.{◌≡◌, cond, ◌++◌, min, eqb, length};
+ghost use Rattle.std.specs.Prelude.{cond, ◌++◌, eqb};
 ghost use Rattle.sheet_format.specs.Table.{table_in};
 ghost use Rattle.text_buffer.specs.Puts.{Put};
 ghost use Rattle.text_buffer.specs.Words.{bytes};
@@ -14,7 +14,7 @@ use text_writer::{natural, put_relation, put_terms};
 // The words of a fact.
 const FACT: usize = 5;
 
-// The first facts, as many as are counted and there.
+/// Puts the first facts, as many as are counted and there.
 pub fn put_facts(
     table: &[usize; TABLE_NUMBERS],
     out: &mut [u8],
@@ -24,13 +24,11 @@ pub fn put_facts(
 ) -> usize
     ensures { Put out.old out.new at (facts_bytes (table_in table.now) count facts.now) result }
 {
-    let some = least(count, facts.len() / FACT);
+    let (facts, _) = facts.as_chunks::<FACT>();
+    let shown = &facts[..count.min(facts.len())];
     let mut n = at;
-    let mut i = 0;
-    while i < some {
-        let from = i * FACT;
-        n = put_next_fact(table, out, n, &facts[from..from + FACT], i);
-        i += 1;
+    for (i, fact) in shown.iter().enumerate() {
+        n = put_next_fact(table, out, n, fact, i);
     }
     n
 }
@@ -40,10 +38,9 @@ fn put_next_fact(
     table: &[usize; TABLE_NUMBERS],
     out: &mut [u8],
     at: usize,
-    fact: &[i32],
+    fact: &[i32; FACT],
     i: usize,
 ) -> usize
-    requires { length fact.now ≡ 5 }
     ensures { Put out.old out.new at (cond (eqb i 0) (fact_bytes (table_in table.now) fact.now) (bytes ", " ++ fact_bytes (table_in table.now) fact.now)) result }
 {
     if i == 0 {
@@ -54,18 +51,11 @@ fn put_next_fact(
 }
 
 // A relation with a term for each of its columns.
-fn put_fact(table: &[usize; TABLE_NUMBERS], out: &mut [u8], at: usize, fact: &[i32]) -> usize
-    requires { length fact.now ≡ 5 }
+fn put_fact(table: &[usize; TABLE_NUMBERS], out: &mut [u8], at: usize, fact: &[i32; FACT]) -> usize
     ensures { Put out.old out.new at (fact_bytes (table_in table.now) fact.now) result }
 {
     let relation = fact[0];
-    let columns = least(sheet_terms::columns(table, relation), 4);
+    let columns = sheet_terms::columns(table, relation).min(4);
     let n = put_relation(out, at, natural(relation));
     put_terms(out, n, &fact[1..1 + columns])
-}
-
-fn least(a: usize, b: usize) -> usize
-    ensures { result ≡ min a b }
-{
-    if a < b { a } else { b }
 }

@@ -1,11 +1,11 @@
 // The lines of a number form as bytes, put at a place of a buffer, by a table of relations in plain numbers.
 #![tactic(auto)]
 
-ghost use Rattle.std.specs.Prelude.{◌≡◌, cond, ◌≤◌, ◌-◌, ◌/◌, ◌*◌, ltb, length, take, drop};
+ghost use Rattle.std.specs.Prelude.{◌≡◌, ◌≤◌, ◌-◌, drop};
 ghost use Rattle.sheet_format.specs.Limits.{most_fields, line_word_count};
 ghost use Rattle.sheet_format.specs.Table.{table_in};
 ghost use Rattle.text_buffer.specs.Puts.{Put};
-ghost use Rattle.text_writer.specs.Texts.{small, line_kind, block_kind, head_bytes, atom_bytes, values_bytes, row_bytes, kind_bytes, line_text, lines_bytes};
+ghost use Rattle.text_writer.specs.Texts.{small, kind_of_first, block_kind, head_bytes, atom_bytes, values_bytes, row_bytes, kind_bytes, line_text, lines_bytes};
 
 use sheet_format::{ATOM_KIND, LINE_WORDS, MOST_FIELDS, ROW_KIND, TABLE_NUMBERS, VIEW_KIND};
 use text_buffer::{put, put_byte};
@@ -28,38 +28,30 @@ fn terms_end(fields: usize) -> usize
     requires { fields ≤ most_fields }
     ensures { (2 ≤ result) × (result ≤ line_word_count) × (result - 2 ≡ fields - 1) }
 {
-    if fields < 1 {
-        return 2;
-    }
-    fields + 1
+    fields.max(1) + 1
 }
 
 // The kind of line i, 0 where there is none.
-fn kind_at(words: &[i32], i: usize) -> usize
-    ensures { result ≡ cond (ltb i (length words.now / line_word_count)) (line_kind (take line_word_count (drop (i * line_word_count) words.now))) 0 }
+fn kind_at(lines: &[[i32; LINE_WORDS]], i: usize) -> usize
+    ensures { result ≡ kind_of_first (drop i lines.now) }
 {
-    let lines = words.len() / LINE_WORDS;
-    if i < lines {
-        return small(words[i * LINE_WORDS + 1]);
+    match lines.get(i) {
+        Some(line) => small(line[1]),
+        None => 0,
     }
-    0
 }
 
 // The kind of the block that a line of a kind stands in, given that of the line before.
 fn block_at(kind: usize, block: usize) -> usize
     ensures { result ≡ block_kind kind block }
 {
-    if kind == ATOM_KIND {
-        return block;
-    }
-    if kind == ROW_KIND {
+    if kind == ATOM_KIND || kind == ROW_KIND {
         return block;
     }
     kind
 }
 
-fn put_head(out: &mut [u8], at: usize, line: &[i32], kind: usize) -> usize
-    requires { length line.now ≡ line_word_count }
+fn put_head(out: &mut [u8], at: usize, line: &[i32; LINE_WORDS], kind: usize) -> usize
     ensures { Put out.old out.new at (head_bytes line.now kind) result }
 {
     let end = terms_end(small(line[0]));
@@ -73,15 +65,14 @@ fn put_atom(
     table: &[usize; TABLE_NUMBERS],
     out: &mut [u8],
     at: usize,
-    line: &[i32],
+    line: &[i32; LINE_WORDS],
     block: usize,
     next: usize,
 ) -> usize
-    requires { length line.now ≡ line_word_count }
     ensures { Put out.old out.new at (atom_bytes (table_in table.now) line.now block next) result }
 {
     let n = put_byte(out, at, b' ');
-    let m = put_facts(table, out, n, &line[2..LINE_WORDS], 1);
+    let m = put_facts(table, out, n, &line[2..], 1);
     if next == ATOM_KIND {
         return put_byte(out, m, b',');
     }
@@ -92,8 +83,7 @@ fn put_atom(
 }
 
 // A row, bare where it has one column, and a semicolon before the next.
-fn put_row(out: &mut [u8], at: usize, line: &[i32], next: usize) -> usize
-    requires { length line.now ≡ line_word_count }
+fn put_row(out: &mut [u8], at: usize, line: &[i32; LINE_WORDS], next: usize) -> usize
     ensures { Put out.old out.new at (row_bytes line.now next) result }
 {
     let n = put_byte(out, at, b' ');
@@ -104,8 +94,7 @@ fn put_row(out: &mut [u8], at: usize, line: &[i32], next: usize) -> usize
     m
 }
 
-fn put_values(out: &mut [u8], at: usize, line: &[i32]) -> usize
-    requires { length line.now ≡ line_word_count }
+fn put_values(out: &mut [u8], at: usize, line: &[i32; LINE_WORDS]) -> usize
     ensures { Put out.old out.new at (values_bytes line.now) result }
 {
     let fields = small(line[0]);
@@ -121,12 +110,11 @@ fn put_kind(
     table: &[usize; TABLE_NUMBERS],
     out: &mut [u8],
     at: usize,
-    line: &[i32],
+    line: &[i32; LINE_WORDS],
     kind: usize,
     block: usize,
     next: usize,
 ) -> usize
-    requires { length line.now ≡ line_word_count }
     ensures { Put out.old out.new at (kind_bytes (table_in table.now) line.now kind block next) result }
 {
     if kind == ATOM_KIND {
@@ -143,12 +131,11 @@ fn put_line(
     table: &[usize; TABLE_NUMBERS],
     out: &mut [u8],
     at: usize,
-    line: &[i32],
+    line: &[i32; LINE_WORDS],
     kind: usize,
     block: usize,
     next: usize,
 ) -> usize
-    requires { length line.now ≡ line_word_count }
     ensures { Put out.old out.new at (line_text (table_in table.now) line.now kind block next) result }
 {
     let n = put_kind(table, out, at, line, kind, block, next);
@@ -158,28 +145,17 @@ fn put_line(
     n
 }
 
-// The text of a number form.
+/// Puts the text of a number form.
 pub fn put_lines(table: &[usize; TABLE_NUMBERS], out: &mut [u8], words: &[i32]) -> usize
     ensures { Put out.old out.new 0 (lines_bytes (table_in table.now) words.now) result }
 {
-    let lines = words.len() / LINE_WORDS;
+    let (lines, _) = words.as_chunks::<LINE_WORDS>();
     let mut n = 0;
     let mut block = 0;
-    let mut i = 0;
-    while i < lines {
-        let from = i * LINE_WORDS;
-        let kind = kind_at(words, i);
+    for (i, line) in lines.iter().enumerate() {
+        let kind = small(line[1]);
         block = block_at(kind, block);
-        n = put_line(
-            table,
-            out,
-            n,
-            &words[from..from + LINE_WORDS],
-            kind,
-            block,
-            kind_at(words, i + 1),
-        );
-        i += 1;
+        n = put_line(table, out, n, line, kind, block, kind_at(lines, i + 1));
     }
     n
 }

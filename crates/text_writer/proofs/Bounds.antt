@@ -1,21 +1,19 @@
 -- How long the texts of terms, facts, lines and refusals are at most, and what is put where there is room for it.
 use mathlib.Core.Path.{◌≡◌, refl, ap, ◌∙◌}
-use mathlib.Core.Bool.{Bool, true, false, cond, ◌&&◌}
+use mathlib.Core.Bool.{Bool, true, false, cond}
 use mathlib.Core.List.{List, [], ◌∷◌, ◌++◌, map}
-use mathlib.Core.Logic.{⊎_elim}
-use Prim.Native.Nat.{ℕ, zero, suc, ◌+◌, ◌-◌, ◌*◌, ◌/◌, min, ◌≤◌, ◌<◌}
+use Prim.Native.Nat.{ℕ, zero, suc, ◌+◌, ◌-◌, ◌*◌, ◌/◌, min, ◌≤◌}
 use native.Mathlib.Omega.{arith}
 use native.Mathlib.Nat.{suc-mul}
 use borrow.Author.Tests.{ltb-false, leb-true, le-leb}
 use lib.Dec.{eqb, ltb, leb}
 use lib.IntN.{ℤ, pos}
-use lib.ListN.{length, take, drop, get_or, length-append, length-take, length-map, get_or-eq_default}
+use lib.ListN.{length, take, drop, get_or, length-append, length-take}
 use Rattle.list_laws.proofs.Lists.{inside}
 use Rattle.sheet_format.specs.Limits.{field_byte_count, most_fields, field_end, line_word_count, most_columns}
 use Rattle.sheet_format.specs.Field.{field_bytes}
 use Rattle.sheet_format.specs.Line.{all, natural}
 use Rattle.sheet_format.specs.Cause.{term_of}
-use Rattle.sheet_format.specs.Sheet.{over}
 use Rattle.sheet_format.specs.Table.{Table, columns_of, ten}
 use Rattle.sheet_format.specs.Answers.{FieldTerm}
 use Rattle.sheet_format.specs.Answers.FieldTerm.{Constant, Variable, OutOfRange}
@@ -27,8 +25,8 @@ use Rattle.text_buffer.specs.Words.{bytes}
 use Rattle.text_buffer.proofs.Laws.{reached-all, placed-all}
 use Rattle.text_begins.specs.Begins.{most_text}
 use Rattle.text_writer.specs.Rooms.{text_room}
-use Rattle.text_writer.specs.Texts.{without_blanks, following, separated, groups, word_bytes, number_bytes, term_as, term_bytes, terms_bytes, relation_names, relation_bytes, fact_bytes, facts_bytes, small, line_terms, head_bytes, atom_bytes, values_bytes, row_bytes, kind_bytes, line_text, block_kind, line_kind, kind_of_first, lines_from, lines_bytes, causes, cause_bytes, place_bytes, refusal_bytes, counts, count_bytes, columns_bytes, expectations, length_bytes, what_bytes, expected_bytes}
-use Rattle.text_writer.specs.Says.{Silent, Spoken}
+use Rattle.text_writer.specs.Texts.{without_blanks, following, separated, groups, word_bytes, number_bytes, term_as, term_bytes, terms_bytes, relation_names, relation_bytes, fact_bytes, facts_bytes, small, line_terms, head_bytes, atom_bytes, values_bytes, row_bytes, line_text, block_kind, line_kind, kind_of_first, lines_from, lines_bytes, causes, cause_bytes, place_bytes, refusal_bytes, counts, count_bytes, columns_bytes, expectations, length_bytes, what_bytes, expected_bytes}
+use Rattle.text_writer.specs.Says.{Spoken}
 use Rattle.text_writer.proofs.Parts.{groups-length}
 
 -- ---- what is put where there is room for it
@@ -134,12 +132,6 @@ relation-few : (n : ℕ) → length (relation_bytes n) ≤ name-bytes
 unfolding relation_bytes
 relation-few zero = omega arith
 relation-few (suc n) = let h = number-few (suc n) in few-at relation_names name-bytes refl (bytes "R" ++ number_bytes (suc n)) (simp length-append (omega arith)) n
-
--- the ten have shorter names
-pub named-few : (n : ℕ) → n ≤ 10 → length (relation_bytes n) ≤ 5
-unfolding relation_bytes
-named-few zero h = omega arith
-named-few (suc n) h = rw (inside relation_names n (bytes "R" ++ number_bytes (suc n)) [] (omega arith)) (few-at relation_names 5 refl [] (omega arith) n)
 
 fact-few : (table : Table) → Narrow table → (ws : List ℤ) → length (fact_bytes table ws) ≤ fact-bytes
 unfolding fact_bytes

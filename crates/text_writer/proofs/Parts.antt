@@ -2,8 +2,11 @@
 use mathlib.Core.Path.{◌≡◌, refl, sym, ap, ◌∙◌}
 use mathlib.Core.Bool.{Bool, true, false, cond}
 use mathlib.Core.List.{List, [], ◌∷◌, ◌++◌, map, append_assoc}
-use mathlib.Core.Logic.{⊎_elim}
-use Prim.Native.Nat.{ℕ, zero, suc, ◌+◌, ◌-◌, ◌*◌, ◌/◌, min, ◌≤◌, ◌<◌}
+use mathlib.Core.Logic.{◌⊎◌, inl, inr, ⊎_elim}
+use Rattle.std.specs.Simd.{first_chunks}
+use Rattle.std.proofs.lemmas.Bool.{cases_lt}
+use Rattle.std.proofs.lemmas.List.{get_or_default}
+use Prim.Native.Nat.{ℕ, zero, suc, ◌+◌, ◌-◌, ◌*◌, ◌/◌, min, max, ◌≤◌, ◌<◌}
 use native.Mathlib.Omega.{arith}
 use native.Mathlib.Numerals.{add-one}
 use native.Mathlib.Nat.{suc-mul, eq-or-lt_of_le}
@@ -25,7 +28,7 @@ use Rattle.sheet_format.proofs.Lists.{append-nil, map_append}
 use Rattle.text_buffer.specs.Puts.{Put}
 use Rattle.text_buffer.specs.Words.{bytes}
 use Rattle.text_buffer.proofs.Laws.{followed}
-use Rattle.text_writer.specs.Texts.{without_blanks, following, separated, groups, nth_text, word_bytes, number_bytes, variable_letter, term_as, term_bytes, terms_bytes, relation_names, relation_bytes, fact_bytes, small, line_kind, line_terms, count_bytes, columns_bytes}
+use Rattle.text_writer.specs.Texts.{without_blanks, following, separated, groups, nth_text, word_bytes, number_bytes, variable_letter, term_as, term_bytes, terms_bytes, relation_names, name_bytes, relation_bytes, fact_bytes, small, line_kind, line_terms, count_bytes, columns_bytes}
 
 -- ---- without blanks
 
@@ -80,6 +83,19 @@ groups-at k (suc n) ws (suc i) h =
     let e : suc i * k ≡ k + i * k = suc-mul i k ∙ omega arith in
     groups-at k n (drop k ws) i (omega arith) ∙ rw (e, drop-drop (i * k) k ws)
 
+-- the first of them
+pub take-groups : (k m n : ℕ) (ws : List ℤ) → n ≤ m → take n (groups k m ws) ≡ groups k n ws
+unfolding groups
+take-groups k m zero ws h = refl
+take-groups k zero (suc n) ws h = absurd (omega arith)
+take-groups k (suc m) (suc n) ws h = ap (λ l. take k ws ∷ l) (take-groups k m n (drop k ws) (omega arith))
+
+-- a slice as arrays of k words
+pub chunks-groups : (k n : ℕ) (ws : List ℤ) → first_chunks k n ws ≡ groups k n ws
+unfolding groups
+chunks-groups k zero ws = refl
+chunks-groups k (suc n) ws = ap (λ l. take k ws ∷ l) (chunks-groups k n (drop k ws))
+
 -- k words from a place on, cut out by that place and the one after them
 pub part_of : (x k : ℕ) (ws : List ℤ) → take (x + k - x) (drop x ws) ≡ take k (drop x ws)
 part_of x k ws = let e : x + k - x ≡ k = omega arith in rw e
@@ -92,24 +108,6 @@ take-least zero (x ∷ l) = let e : min 0 (suc (length l)) ≡ 0 = omega arith i
 take-least (suc k) (x ∷ l) = let e : min (suc k) (suc (length l)) ≡ suc (min k (length l)) = omega arith in rw e (ap (λ r. x ∷ r) (take-least k l))
 
 -- ---- relations
-
--- all names, each filled up with blanks to five bytes
-abbrev pub padded_names : List ℕ
-padded_names = bytes "RowerStrapWorn Sig  Beat NoisePulseCoachSeat Pause"
-
-pub name_of : (n : ℕ) → n < 10 → without_blanks (take 5 (drop (n * 5) padded_names)) ≡ relation_bytes (suc n)
-unfolding without_blanks relation_bytes
-name_of zero h = refl
-name_of (suc zero) h = refl
-name_of (suc (suc zero)) h = refl
-name_of (suc (suc (suc zero))) h = refl
-name_of (suc (suc (suc (suc zero)))) h = refl
-name_of (suc (suc (suc (suc (suc zero))))) h = refl
-name_of (suc (suc (suc (suc (suc (suc zero)))))) h = refl
-name_of (suc (suc (suc (suc (suc (suc (suc zero))))))) h = refl
-name_of (suc (suc (suc (suc (suc (suc (suc (suc zero)))))))) h = refl
-name_of (suc (suc (suc (suc (suc (suc (suc (suc (suc zero))))))))) h = refl
-name_of (suc (suc (suc (suc (suc (suc (suc (suc (suc (suc n)))))))))) h = absurd (omega arith)
 
 -- ---- a byte
 
@@ -158,17 +156,14 @@ word_of {n} h = rw (to_z_pos w32 n (omega arith), lt-ltb n field_end h)
 pub no_number : {n : ℕ} → field_end ≤ n → [] ≡ number_bytes n
 no_number {n} h = rw (le-ltb n field_end h)
 
-pub letter_first : {i : ℕ} → i < 1 → 97 ≡ variable_letter i
+pub letter_at : (i : ℕ) → 96 + max 1 (min i 26) ≡ variable_letter i
 unfolding variable_letter
-letter_first {i} h = rw (lt-ltb i 1 h)
-
-pub letter_last : {i : ℕ} → 1 ≤ i → 26 < i → 96 + 26 ≡ variable_letter i
-unfolding variable_letter
-letter_last {i} h l = rw (le-ltb i 1 h, lt-ltb 26 i l)
-
-pub letter_at : {i : ℕ} → 1 ≤ i → i ≤ 26 → 96 + i ≡ variable_letter i
-unfolding variable_letter
-letter_at {i} h l = rw (le-ltb i 1 h, le-ltb 26 i l)
+letter_at i = by (cases_lt i 1) (cases_lt 26 i)
+  where
+    by : (i < 1) ⊎ (1 ≤ i) → (26 < i) ⊎ (i ≤ 26) → 96 + max 1 (min i 26) ≡ cond (ltb i 1) 97 (cond (ltb 26 i) (96 + 26) (96 + i))
+    by (inl h) k = rw (lt-ltb i 1 h) (omega arith)
+    by (inr h) (inl l) = rw (le-ltb i 1 h, lt-ltb 26 i l) (omega arith)
+    by (inr h) (inr l) = rw (le-ltb i 1 h, le-ltb 26 i l) (omega arith)
 
 pub term-variable : {t : FieldTerm} {i v : ℕ} (w : ℤ) → t ≡ term_of w → t ≡ Variable i → v ≡ variable_letter i → v ∷ [] ≡ term_bytes w
 unfolding term_bytes
@@ -184,17 +179,10 @@ term-other w e f = ap (λ x. term_as x w) (sym f ∙ e)
 
 -- ---- relations and facts
 
-pub no-relation : {n : ℕ} → n < 1 → [] ≡ relation_bytes n
+pub name-is : (r : ℕ) → r ≤ 10 → name_bytes r ≡ relation_bytes r
 unfolding relation_bytes
-no-relation {n = zero} h = refl
-no-relation {n = suc m} h = absurd (omega arith)
-
-pub name-at : (r : ℕ) → 1 ≤ r → r ≤ 10 → without_blanks (take ((r - 1) * 5 + 5 - (r - 1) * 5) (drop ((r - 1) * 5) padded_names)) ≡ relation_bytes r
-name-at zero l h = absurd (omega arith)
-name-at (suc n) l h =
-    let e : suc n - 1 ≡ n = omega arith in
-    let f : n * 5 + 5 - n * 5 ≡ 5 = omega arith in
-    rw (e, f) (name_of n (omega arith))
+name-is zero h = refl
+name-is (suc n) h = get_or_default relation_names n [] (bytes "R" ++ number_bytes (suc n)) (omega arith)
 
 pub far-relation : (n : ℕ) → 10 < n → bytes "R" ++ number_bytes n ≡ relation_bytes n
 unfolding relation_bytes

@@ -86,6 +86,11 @@ relation_names =
     ∷ bytes "Pause"
     ∷ []
 
+-- the name of one of the ten, counted from 1; nothing for any other
+abbrev pub name_bytes : ℕ → List ℕ
+name_bytes zero = []
+name_bytes (suc n) = get_or relation_names n []
+
 -- a relation's name; one beyond the ten is "R" and its number
 unfoldable pub relation_bytes : ℕ → List ℕ
 relation_bytes zero = []

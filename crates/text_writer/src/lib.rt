@@ -6,18 +6,13 @@ ghost use Rattle.std.specs.Prelude.{◌≡◌, cond, [], ◌∷◌, ◌++◌, eq
 ghost use Rattle.sheet_format.specs.Line.{natural};
 ghost use Rattle.text_buffer.specs.Puts.{Put};
 ghost use Rattle.text_buffer.specs.Words.{bytes};
-ghost use Rattle.text_writer.specs.Texts.{without_blanks, word_bytes, number_bytes, variable_letter, term_bytes, terms_bytes, relation_bytes};
+ghost use Rattle.text_writer.specs.Texts.{without_blanks, word_bytes, number_bytes, variable_letter, term_bytes, terms_bytes, name_bytes, relation_bytes};
 
 use sheet_format::{FIELD_END, MOST_SHEET_BYTES, Term};
-use text_buffer::put_byte;
+use text_buffer::{put, put_byte};
 
-// The room that the text of a sheet, and all that is said in words, want: twice as many bytes as a sheet may have, for the facts of a case.
+/// The room that the text of a sheet, and all that is said in words, want: twice as many bytes as a sheet may have, for the facts of a case.
 pub const TEXT_ROOM: usize = MOST_SHEET_BYTES * 2;
-
-// The bytes of a relation's name at most, and all names, each filled up with blanks.
-pub const NAME: usize = 5;
-
-const NAMES: [u8; 50] = *b"RowerStrapWorn Sig  Beat NoisePulseCoachSeat Pause";
 
 // A byte that is no blank.
 fn put_unless_blank(out: &mut [u8], at: usize, b: u8) -> usize
@@ -34,10 +29,8 @@ fn put_plain(out: &mut [u8], at: usize, s: &[u8]) -> usize
     ensures { Put out.old out.new at (without_blanks s.now) result }
 {
     let mut n = at;
-    let mut i = 0;
-    while i < s.len() {
-        n = put_unless_blank(out, n, s[i]);
-        i += 1;
+    for b in s {
+        n = put_unless_blank(out, n, *b);
     }
     n
 }
@@ -50,6 +43,7 @@ fn put_word(out: &mut [u8], at: usize, w: i32) -> usize
     put_plain(out, at, &field)
 }
 
+/// Puts a number of at most eight digits; nothing for a longer one.
 pub fn put_number(out: &mut [u8], at: usize, n: usize) -> usize
     ensures { Put out.old out.new at (number_bytes n) result }
 {
@@ -63,15 +57,10 @@ pub fn put_number(out: &mut [u8], at: usize, n: usize) -> usize
 fn variable(index: usize) -> u8
     ensures { result ≡ variable_letter index }
 {
-    if index < 1 {
-        return b'a';
-    }
-    if 26 < index {
-        return b'z';
-    }
-    96 + index as u8
+    b'a' - 1 + index.clamp(1, 26) as u8
 }
 
+/// Puts a term: a variable's letter, or a number.
 pub fn put_term(out: &mut [u8], at: usize, w: i32) -> usize
     ensures { Put out.old out.new at (term_bytes w) result }
 {
@@ -93,41 +82,50 @@ fn put_next(out: &mut [u8], at: usize, w: i32, i: usize) -> usize
     put_term(out, n, w)
 }
 
-// Terms in brackets.
+/// Puts terms in brackets.
 pub fn put_terms(out: &mut [u8], at: usize, terms: &[i32]) -> usize
     ensures { Put out.old out.new at (terms_bytes terms.now) result }
 {
     let mut n = put_byte(out, at, b'(');
-    let mut i = 0;
-    while i < terms.len() {
-        n = put_next(out, n, terms[i], i);
-        i += 1;
+    for (i, w) in terms.iter().enumerate() {
+        n = put_next(out, n, *w, i);
     }
     put_byte(out, n, b')')
 }
 
-// A word as a number, 0 where it is below 0.
+/// A word as a number, 0 where it is below 0.
 pub fn natural(w: i32) -> usize
     ensures { result ≡ natural w }
 {
-    if w < 0 {
-        return 0;
-    }
-    w as usize
+    usize::try_from(w).unwrap_or(0)
 }
 
-// A relation's name; one beyond the ten by its number.
+/// The name of one of the ten relations; no bytes for any other.
+pub fn name(relation: usize) -> &'static [u8]
+    ensures { result.now ≡ name_bytes relation }
+{
+    match relation {
+        1 => b"Rower",
+        2 => b"Strap",
+        3 => b"Worn",
+        4 => b"Sig",
+        5 => b"Beat",
+        6 => b"Noise",
+        7 => b"Pulse",
+        8 => b"Coach",
+        9 => b"Seat",
+        10 => b"Pause",
+        _ => b"",
+    }
+}
+
+/// Puts a relation's name; one beyond the ten by its number.
 pub fn put_relation(out: &mut [u8], at: usize, relation: usize) -> usize
     ensures { Put out.old out.new at (relation_bytes relation) result }
 {
-    if relation < 1 {
-        return at;
-    }
     if 10 < relation {
         let n = put_byte(out, at, b'R');
         return put_number(out, n, relation);
     }
-    let names = NAMES;
-    let from = (relation - 1) * NAME;
-    put_plain(out, at, &names[from..from + NAME])
+    put(out, at, name(relation))
 }

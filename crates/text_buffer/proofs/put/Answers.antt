@@ -1,17 +1,8 @@
-use mathlib.Core.Path.{◌≡◌, ◌∙◌}
-use Prim.Native.Nat.{◌≤◌, ◌-◌}
-use native.Mathlib.Omega.{arith}
-use borrow.Author.Rules.{rules}
-use lib.ListN.{length, take}
-use Rattle.text_buffer.specs.Puts.{Put}
-use Rattle.text_buffer.proofs.Laws.{nothing, kept, one_more, all-put}
+use Rattle.text_buffer.proofs.Laws.{outside, copied}
 use Rattle.text_buffer.proofs.put.Goals as goal
 
-pub loop-i-init : goal.loop-i-init
-loop-i-init c = (search rules, search rules, nothing c.args.out.now c.args.at)
+pub returns-then-out-at : goal.returns-then-out-at
+returns-then-out-at c = outside c.args.out.now c.args.at c.args.s.now c.if-out-at.true
 
-pub loop-i-preserved : goal.loop-i-preserved
-loop-i-preserved c = let l = c.loop-i in
-    let s = c.args.s.now in
-    let p = c.put_byte-n.ensures in
-    (search rules, kept p ∙ l.invariant.1, one_more s l.i (omega arith) l.invariant.2 p)
+pub returns : goal.returns
+returns c = let e = c.copy_from_slice.ensures.after in copied c.args.out.now c.args.at c.min-fitting.result c.args.s.now _ c.if-out-at.false c.min-fitting.ensures e

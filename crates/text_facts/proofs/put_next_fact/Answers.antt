@@ -1,11 +1,8 @@
 -- A comma stands before each fact but the first.
-use borrow.Author.Rules.{rules}
-use Rattle.text_writer.proofs.Parts.{where_is, unless_is}
+use Rattle.text_writer.proofs.Parts.{unless_is}
 use Rattle.text_buffer.proofs.Laws.{said, followed}
 use Rattle.sheet_format.specs.Table.{table_in}
 use Rattle.text_writer.specs.Texts.{fact_bytes}
-use Rattle.text_buffer.specs.Words.{bytes}
-use mathlib.Core.List.{◌++◌}
 use Rattle.text_facts.proofs.put_next_fact.Goals as goal
 
 pub returns : goal.returns

@@ -1,5 +1,4 @@
 -- The line, and the end of the text's line before a head or nothing.
-use borrow.Author.Rules.{rules}
 use Rattle.text_writer.proofs.Parts.{where_below, unless_below}
 use Rattle.text_buffer.proofs.Laws.{said, followed, nothing}
 use Rattle.text_writer.specs.Texts.{line_text}

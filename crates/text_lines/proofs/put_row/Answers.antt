@@ -1,5 +1,4 @@
 -- The values, and what the next line asks for.
-use borrow.Author.Rules.{rules}
 use Rattle.text_writer.proofs.Parts.{where_is, unless_is}
 use Rattle.text_buffer.proofs.Laws.{said, followed, nothing}
 use Rattle.text_buffer.specs.Words.{bytes}

@@ -1,12 +1,9 @@
 -- A comma stands before each term but the first.
-use mathlib.Core.Path.{ap, ◌∙◌}
-use borrow.Author.Rules.{rules}
-use Rattle.text_writer.proofs.Parts.{where_is, unless_is}
+use mathlib.Core.Path.{ap}
+use Rattle.text_writer.proofs.Parts.{unless_is}
 use Rattle.text_buffer.proofs.Laws.{said, followed}
 use Rattle.list_laws.proofs.Words.{back}
 use Rattle.text_writer.specs.Texts.{term_bytes}
-use Rattle.text_buffer.specs.Words.{bytes}
-use mathlib.Core.List.{◌++◌}
 use Rattle.text_writer.proofs.put_next.Goals as goal
 
 pub returns : goal.returns

@@ -1,6 +1,5 @@
 -- A number that fits a field is a word.
-use borrow.Author.Rules.{rules}
-use Rattle.text_writer.proofs.Parts.{word_of, no_number}
+use Rattle.text_writer.proofs.Parts.{no_number}
 use Rattle.text_buffer.proofs.Laws.{nothing, said}
 use Rattle.text_writer.proofs.put_number.Goals as goal
 

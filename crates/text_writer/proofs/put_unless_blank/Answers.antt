@@ -1,5 +1,4 @@
 -- A blank is left out, any other byte is put.
-use borrow.Author.Rules.{rules}
 use Rattle.text_writer.proofs.Parts.{blank-gone, byte-kept}
 use Rattle.text_buffer.proofs.Laws.{nothing, said}
 use Rattle.text_writer.proofs.put_unless_blank.Goals as goal

@@ -1,6 +1,5 @@
 -- The field without its blanks.
 use mathlib.Core.Path.{ap, ◌∙◌}
-use borrow.Author.Rules.{rules}
 use Rattle.text_buffer.proofs.Laws.{said}
 use Rattle.text_writer.specs.Texts.{word_bytes, without_blanks}
 use Rattle.list_laws.proofs.Words.{back}
