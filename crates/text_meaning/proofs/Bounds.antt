@@ -1,10 +1,10 @@
 -- How large the numbers of marks and the kinds of lines are.
-use mathlib.Core.Path.{◌≡◌, refl, sym, ap, ◌∙◌}
+use mathlib.Core.Path.{◌≡◌, refl}
 use mathlib.Core.Bool.{Bool, true, false, cond, ◌&&◌, ◌||◌}
 use mathlib.Core.List.{List, [], ◌∷◌}
-use Prim.Native.Nat.{ℕ, suc, ◌+◌, ◌-◌, ◌≤◌, ◌<◌}
+use Prim.Native.Nat.{ℕ, suc, ◌+◌, ◌≤◌, ◌<◌}
 use native.Mathlib.Omega.{arith}
-use lib.Dec.{eqb, ltb, leb}
+use lib.Dec.{eqb, ltb}
 use lib.ListN.{length}
 use borrow.Author.Tests.{ltb-true}
 use Rattle.sheet_format.specs.Limits.{field_end}
@@ -13,8 +13,8 @@ use Rattle.text_begins.specs.Begins.{letter_of}
 use Rattle.text_meaning.specs.Names.{are_same_bytes, number_from, among, beyond, relation_named, token_mark}
 use Rattle.text_meaning.specs.Tokens.{token_kind}
 use Rattle.text_meaning.specs.Places.{next_block, start_at, comment_at, open_at, term_expected, is_counted, more_at, closed_by, close_at, first_at, row_end_at, next_at, colon_at, relation_at, atom_end_at, row_expected, any_rows_at, step_from, step}
-use Rattle.text_meaning.specs.declared.Control.{Control}
-use Rattle.text_meaning.specs.declared.Mark.{Mark}
+use Rattle.text_meaning.specs.Control.{Control}
+use Rattle.text_meaning.specs.Control.{Mark}
 
 -- either way of a test
 pub either : {A : Type 0} (P : A → Type 0) (t : Bool) {x y : A} → P x → P y → P (cond t x y)

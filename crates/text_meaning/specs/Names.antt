@@ -1,9 +1,9 @@
 -- Names and numbers: what a token stands for.
-use Rattle.std.specs.Prelude.{Bool, true, false, cond, ◌&&◌, List, [], ◌∷◌, ◌++◌, ℕ, zero, suc, ◌+◌, ◌-◌, ◌*◌, ◌/◌, min, eqb, ltb, leb, length}
+use Rattle.std.specs.Prelude.{Bool, true, false, cond, ◌&&◌, List, [], ◌∷◌, ◌++◌, ℕ, suc, ◌+◌, ◌-◌, ◌*◌, ◌/◌, min, eqb, ltb, leb, length}
 use Rattle.sheet_format.specs.Limits.{field_end, most_variables}
 use Rattle.text_writer.specs.Texts.{relation_names}
 use Rattle.text_meaning.specs.Tokens.{between, token_kind}
-use Rattle.text_meaning.specs.declared.Mark.{Mark}
+use Rattle.text_meaning.specs.Control.{Mark}
 
 unfoldable pub are_same_bytes : List ℕ → List ℕ → Bool
 are_same_bytes [] [] = true

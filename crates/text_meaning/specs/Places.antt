@@ -2,8 +2,8 @@
 use Rattle.std.specs.Prelude.{Bool, true, false, cond, ◌&&◌, ◌||◌, ℕ, ◌-◌, eqb, ltb, leb, pos}
 use Rattle.sheet_format.specs.Table.{columns_of, ten}
 use Rattle.text_begins.specs.Begins.{letter_of}
-use Rattle.text_meaning.specs.declared.Control.{Control}
-use Rattle.text_meaning.specs.declared.Mark.{Mark}
+use Rattle.text_meaning.specs.Control.{Control}
+use Rattle.text_meaning.specs.Control.{Mark}
 
 -- ---- the next place
 

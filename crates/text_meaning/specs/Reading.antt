@@ -1,12 +1,12 @@
 -- A text's meaning: reading its tokens one after the other, from the first to the last or to the first that does not fit.
-use Rattle.std.specs.Prelude.{Bool, true, false, cond, ◌&&◌, List, [], ◌∷◌, ◌++◌, reverse, ℕ, zero, suc, eqb, ltb, ℤ, pos, negsuc, get_or, take}
+use Rattle.std.specs.Prelude.{false, cond, ◌&&◌, List, [], ◌∷◌, ◌++◌, reverse, ℕ, zero, suc, eqb, ltb, ℤ, pos, negsuc, get_or, take}
 use Rattle.sheet_format.specs.Limits.{most_fields}
 use Rattle.sheet_format.specs.Line.{Line, words_of}
 use Rattle.text_meaning.specs.Tokens.{tokens}
 use Rattle.text_meaning.specs.Names.{place_in, noted, token_mark}
 use Rattle.text_meaning.specs.Places.{step}
-use Rattle.text_meaning.specs.declared.Control.{Control}
-use Rattle.text_meaning.specs.declared.Mark.{Mark}
+use Rattle.text_meaning.specs.Control.{Control}
+use Rattle.text_meaning.specs.Control.{Mark}
 
 -- where reading stands, and in which line of the text; the block's variables by first place; the lines of the number form so far, the last one
 -- first, and in which line of the text each begins

@@ -1,90 +1,112 @@
 // What the definition of a text's meaning (specs/) and its reader share: where reading stands, what is expected there, and a token's mark.
 #![tactic(auto)]
 
-// The places: at the start of a line; in a comment; before a head's or an atom's bracket; behind it, where a head or a row may close at once;
-// before a term; behind a term; behind a head; before a relation; behind an atom; behind "="; before a row; behind a row.
-pub const START: usize = 0;
+mod number;
 
-pub const COMMENT: usize = 1;
-
-pub const OPEN: usize = 2;
-
-pub const FIRST: usize = 3;
-
-pub const TERM: usize = 4;
-
-pub const NEXT: usize = 5;
-
-pub const COLON: usize = 6;
-
-pub const RELATION: usize = 7;
-
-pub const ATOM_END: usize = 8;
-
-pub const ROWS: usize = 9;
-
-pub const ROW: usize = 10;
-
-pub const ROW_END: usize = 11;
-
-// What is expected where a token does not fit; 1 to 3 are the kinds of blocks, and 0 is nothing.
-pub const EXPECT_OPEN: usize = 4;
-
-pub const EXPECT_FIRST: usize = 5;
-
-pub const EXPECT_TERM: usize = 6;
-
-pub const EXPECT_NEXT: usize = 7;
-
-pub const EXPECT_COLON: usize = 8;
-
-pub const EXPECT_RELATION: usize = 9;
-
-pub const EXPECT_COLUMNS: usize = 10;
-
-pub const EXPECT_FEWER: usize = 11;
-
-pub const EXPECT_ATOM_END: usize = 12;
-
-pub const EXPECT_ROWS: usize = 13;
-
-pub const EXPECT_FIRST_ROW: usize = 14;
-
-pub const EXPECT_ROW: usize = 15;
-
-pub const EXPECT_BARE: usize = 16;
-
-pub const EXPECT_ROW_END: usize = 17;
-
-pub const EXPECT_SHORTER: usize = 18;
-
-// The columns of a head, a row or an atom, at most.
+/// The columns of a head, a row or an atom, at most.
 pub const MOST_COLUMNS: usize = 4;
 
-// The relations that have names.
+/// The relations that have names.
 pub const NAMED_RELATIONS: usize = 10;
 
-// A token as the machine sees it: the kind of its first byte, that byte where the token has no other (else 0), and its number: a number's
-// value, or the relation that a word in capitals names, 0 where there is none.
-#[derive(Clone, Copy)]
+/// The place in a line of the text.
+#[derive(Clone, Copy, PartialEq, Eq, Debug)]
+pub enum Place {
+    /// At the start of a line.
+    Start,
+    /// In a comment.
+    Comment,
+    /// Before a head's or an atom's bracket.
+    Open,
+    /// Behind a bracket, where a head or a row may close at once.
+    First,
+    /// Before a term.
+    Term,
+    /// Behind a term.
+    Next,
+    /// Behind a head.
+    Colon,
+    /// Before a relation.
+    Relation,
+    /// Behind an atom.
+    AtomEnd,
+    /// Behind "=".
+    Rows,
+    /// Before a row.
+    Row,
+    /// Behind a row.
+    RowEnd,
+}
+
+/// What is expected where a token does not fit.
+#[derive(Clone, Copy, PartialEq, Eq, Debug)]
+pub enum Expected {
+    /// The question's letter.
+    Question = 1,
+    /// The letter of a saved list.
+    List = 2,
+    /// A view's letter, or behind a list that of one more.
+    View = 3,
+    /// "(".
+    Open = 4,
+    /// A term or ")".
+    First = 5,
+    /// A term.
+    Term = 6,
+    /// "," or ")".
+    Next = 7,
+    /// ":".
+    Colon = 8,
+    /// A relation.
+    Relation = 9,
+    /// As many columns as the relation has.
+    Columns = 10,
+    /// At most four columns.
+    Fewer = 11,
+    /// "," or the end of the line.
+    AtomEnd = 12,
+    /// "," or "=" and the rows.
+    Rows = 13,
+    /// A row or the end of the line.
+    FirstRow = 14,
+    /// A row.
+    Row = 15,
+    /// What may stand behind a row without brackets: ",", ";" or the end of the line.
+    Bare = 16,
+    /// ";" or the end of the line.
+    RowEnd = 17,
+    /// A text that is not too long.
+    Shorter = 18,
+}
+
+/// A token as the machine sees it.
+#[derive(Clone, Copy, PartialEq, Eq, Debug)]
 pub struct Mark {
+    /// The kind of its first byte.
     pub kind: u8,
-    pub letter: u8,
+    /// That byte, where the token has no other.
+    pub letter: Option<u8>,
+    /// A number's value, or the relation that a word in capitals names, 0 where there is none.
     pub value: usize,
 }
 
-// Where reading stands: the place; the kind of the block, and of the last line of the number form; that line's relation and how many columns
-// may still come; whether it is a row without brackets; what was expected, 0 where the last token fitted; and what that token did: it began a
-// line, and it put a field into it.
-#[derive(Clone, Copy)]
-pub struct Control {
-    pub place: usize,
+/// Where reading stands.
+#[derive(Clone, Copy, PartialEq, Eq, Debug)]
+pub struct Standing {
+    /// The place in the line.
+    pub place: Place,
+    /// The kind of the block, 0 before the first.
     pub block: usize,
+    /// The kind of the last line of the number form, 0 before the first.
     pub kind: usize,
+    /// That line's relation.
     pub relation: usize,
+    /// How many of its columns may still come.
     pub left: usize,
+    /// Whether it is a row without brackets.
     pub bare: bool,
-    pub expected: usize,
+    /// Whether the last token began that line.
     pub begins: bool,
+    /// Whether the last token put a field into it.
     pub puts: bool,
 }

@@ -1,5 +1,5 @@
--- The place that is stood at; the columns of a relation.
-use mathlib.Core.Path.{◌≡◌, sym, subst}
+-- The columns of a relation.
+use mathlib.Core.Path.{◌≡◌}
 use Prim.Native.Nat.{ℕ, ◌≤◌}
 use native.Mathlib.Omega.{arith}
 use lib.IntN.{pos}
@@ -7,12 +7,6 @@ use mir.Syntax.{w32}
 use mir.Val.{to_z}
 use mir.ValLaws.{to_z_pos}
 use Rattle.sheet_format.specs.Table.{Table, columns_of, ten}
-use Rattle.text_meaning.specs.Places.{step_from}
-use Rattle.text_meaning.specs.declared.Control.{Control}
-use Rattle.text_meaning.specs.declared.Mark.{Mark}
-
-pub at_place : {p q : ℕ} {r : Control} (c : Control) (m : Mark) → p ≡ q → r ≡ step_from q c m → r ≡ step_from p c m
-at_place {r = r} c m e h = subst (λ x. r ≡ step_from x c m) (sym e) h
 
 -- the columns of a relation that has a name
 pub named-columns : {n k : ℕ} {t : Table} → t ≡ ten → n ≤ 10 → k ≡ columns_of t (to_z w32 n) → k ≡ columns_of ten (pos n)

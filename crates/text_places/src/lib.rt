@@ -1,66 +1,44 @@
 // Where reading a text stands after a token: a machine over marks. Each place has its function, as its definition has.
 #![tactic(auto)]
 
-ghost use Rattle.std.specs.Prelude.{◌≡◌, ◌-◌};
-ghost use Rattle.text_meaning.specs.Places.{goes, fails, headed, atomed, rowed, bared, termed, after_list, next_block, headed_at, start_at, comment_at, open_at, term_expected, is_counted, columns_in, more_at, closed_by, close_at, first_at, row_end_at, next_at, colon_at, relation_at, atom_end_at, row_expected, any_rows_at, step};
+ghost use Rattle.std.specs.Prelude.{◌≡◌, ◌≤◌};
+ghost use Rattle.text_meaning.specs.Control.{Control};
+ghost use Rattle.text_meaning.specs.Numbers.{place_number, expected_number, letter_number, mark_of, control_of, stepped};
+ghost use Rattle.text_meaning.specs.Places.{goes, headed, atomed, rowed, bared, termed, after_list, next_block, headed_at, start_at, comment_at, open_at, term_expected, is_counted, columns_in, more_at, closed_by, close_at, first_at, row_end_at, next_at, colon_at, relation_at, atom_end_at, row_expected, any_rows_at, step};
 
 use sheet_format::{ATOM_KIND, QUESTION_KIND, ROW_KIND, SAVED_KIND, VIEW_KIND};
 use text_begins::letter;
-use text_meaning::{
-    ATOM_END, COLON, COMMENT, Control, EXPECT_ATOM_END, EXPECT_BARE, EXPECT_COLON, EXPECT_COLUMNS,
-    EXPECT_FEWER, EXPECT_FIRST, EXPECT_FIRST_ROW, EXPECT_NEXT, EXPECT_OPEN, EXPECT_RELATION,
-    EXPECT_ROW, EXPECT_ROW_END, EXPECT_ROWS, EXPECT_TERM, FIRST, MOST_COLUMNS, Mark,
-    NAMED_RELATIONS, NEXT, OPEN, RELATION, ROW, ROW_END, ROWS, START, TERM,
-};
+use text_meaning::{Expected, MOST_COLUMNS, Mark, NAMED_RELATIONS, Place, Standing};
 
-fn go(c: Control, place: usize) -> Control
-    ensures { result ≡ goes c place }
+// The same line of the number form, at another place.
+fn go(s: Standing, place: Place) -> Standing
+    ensures { control_of result ≡ goes (control_of s) (place_number place) }
 {
-    Control {
+    Standing {
         place,
-        block: c.block,
-        kind: c.kind,
-        relation: c.relation,
-        left: c.left,
-        bare: c.bare,
-        expected: 0,
         begins: false,
         puts: false,
+        ..s
     }
 }
 
-fn fail(c: Control, what: usize) -> Control
-    ensures { result ≡ fails c what }
+// A head begins.
+fn head(block: usize) -> Standing
+    ensures { (c : Control) → control_of result ≡ headed c block }
 {
-    Control {
-        place: c.place,
-        block: c.block,
-        kind: c.kind,
-        relation: c.relation,
-        left: c.left,
-        bare: c.bare,
-        expected: what,
-        begins: false,
-        puts: false,
-    }
-}
-
-fn head(c: Control, block: usize) -> Control
-    ensures { result ≡ headed c block }
-{
-    Control {
-        place: OPEN,
+    Standing {
+        place: Place::Open,
         block,
         kind: block,
         relation: 0,
         left: MOST_COLUMNS,
         bare: false,
-        expected: 0,
         begins: true,
         puts: false,
     }
 }
 
+// How many columns a relation may have.
 fn columns(relation: usize) -> usize
     ensures { result ≡ columns_in relation }
 {
@@ -71,92 +49,83 @@ fn columns(relation: usize) -> usize
     MOST_COLUMNS
 }
 
-fn atom(c: Control, relation: usize) -> Control
-    ensures { result ≡ atomed c relation }
+// An atom begins, with its relation.
+fn atom(s: Standing, relation: usize) -> Standing
+    ensures { control_of result ≡ atomed (control_of s) relation }
 {
-    Control {
-        place: OPEN,
-        block: c.block,
+    Standing {
+        place: Place::Open,
         kind: ATOM_KIND,
         relation,
         left: columns(relation),
         bare: false,
-        expected: 0,
         begins: true,
         puts: true,
+        ..s
     }
 }
 
-fn row_in_brackets(c: Control) -> Control
-    ensures { result ≡ rowed c }
+// A row begins, behind its bracket.
+fn row_in_brackets(s: Standing) -> Standing
+    ensures { control_of result ≡ rowed (control_of s) }
 {
-    Control {
-        place: FIRST,
-        block: c.block,
+    Standing {
+        place: Place::First,
         kind: ROW_KIND,
         relation: 0,
         left: MOST_COLUMNS,
         bare: false,
-        expected: 0,
         begins: true,
         puts: false,
+        ..s
     }
 }
 
-fn bare_row(c: Control) -> Control
-    ensures { result ≡ bared c }
+// A row without brackets begins, with its first value.
+fn bare_row(s: Standing) -> Standing
+    ensures { control_of result ≡ bared (control_of s) }
 {
-    Control {
-        place: NEXT,
-        block: c.block,
+    Standing {
+        place: Place::Next,
         kind: ROW_KIND,
         relation: 0,
         left: MOST_COLUMNS - 1,
         bare: true,
-        expected: 0,
         begins: true,
         puts: true,
+        ..s
     }
 }
 
-fn one_less(n: usize) -> usize
-    ensures { result ≡ n - 1 }
+// One term more.
+fn put_term(s: Standing) -> Standing
+    ensures { control_of result ≡ termed (control_of s) }
 {
-    if n == 0 {
-        return 0;
-    }
-    n - 1
-}
-
-fn put_term(c: Control) -> Control
-    ensures { result ≡ termed c }
-{
-    Control {
-        place: NEXT,
-        block: c.block,
-        kind: c.kind,
-        relation: c.relation,
-        left: one_less(c.left),
-        bare: c.bare,
-        expected: 0,
+    Standing {
+        place: Place::Next,
+        left: s.left.saturating_sub(1),
         begins: false,
         puts: true,
+        ..s
     }
 }
 
 // The kind of the block after a list, where its line begins with a letter: a list may follow a list.
-fn after_list(first: u8) -> usize
-    ensures { result ≡ after_list first }
+fn after_list(first: Option<u8>) -> usize
+    ensures is { result ≡ after_list (letter_number first) }
+    ensures block { (2 ≤ result) × (result ≤ 3) }
 {
-    if first == letter(SAVED_KIND) {
+    if first == Some(letter(SAVED_KIND)) {
         return SAVED_KIND;
     }
     VIEW_KIND
 }
 
 // The kind of the block after one of a kind.
-fn next_block(block: usize, first: u8) -> usize
-    ensures { result ≡ next_block block first }
+#[tactic(auto, unfolding(text_meaning::specs::Places::next_block))]
+fn next_block(block: usize, first: Option<u8>) -> usize
+    ensures is { result ≡ next_block block (letter_number first) }
+    ensures block { (1 ≤ result) × (result ≤ 3) }
 {
     match block {
         0 => QUESTION_KIND,
@@ -166,233 +135,249 @@ fn next_block(block: usize, first: u8) -> usize
     }
 }
 
-// A block's letter alone.
-fn block_head(c: Control, m: Mark, block: usize) -> Control
-    ensures { result ≡ headed_at c m block }
+// What is expected where a block of a kind is.
+fn expected_block(block: usize) -> Expected
+    requires { (1 ≤ block) × (block ≤ 3) }
+    ensures { expected_number result ≡ block }
 {
-    if m.letter == letter(block) {
-        return head(c, block);
+    match block {
+        QUESTION_KIND => Expected::Question,
+        SAVED_KIND => Expected::List,
+        _ => Expected::View,
     }
-    fail(c, block)
+}
+
+// A block's letter alone.
+fn block_head(s: Standing, m: Mark, block: usize) -> Result<Standing, Expected>
+    requires { (1 ≤ block) × (block ≤ 3) }
+    ensures { stepped s result ≡ headed_at (control_of s) (mark_of m) block }
+{
+    if m.letter == Some(letter(block)) {
+        return Ok(head(block));
+    }
+    Err(expected_block(block))
 }
 
 // At the start of a line: a block's letter; empty lines and comments are passed over.
-fn start(c: Control, m: Mark) -> Control
-    ensures { result ≡ start_at c m }
+#[tactic(auto, unfolding(text_meaning::specs::Places::start_at))]
+fn start(s: Standing, m: Mark) -> Result<Standing, Expected>
+    ensures { stepped s result ≡ start_at (control_of s) (mark_of m) }
 {
     if m.kind == b'\n' {
-        return go(c, START);
+        return Ok(go(s, Place::Start));
     }
     if m.kind == b'#' {
-        return go(c, COMMENT);
+        return Ok(go(s, Place::Comment));
     }
-    block_head(c, m, next_block(c.block, m.letter))
+    block_head(s, m, next_block(s.block, m.letter))
 }
 
-fn comment(c: Control, m: Mark) -> Control
-    ensures { result ≡ comment_at c m }
+#[tactic(auto, unfolding(text_meaning::specs::Places::comment_at))]
+fn comment(s: Standing, m: Mark) -> Result<Standing, Expected>
+    ensures { stepped s result ≡ comment_at (control_of s) (mark_of m) }
 {
     if m.kind == b'\n' {
-        return go(c, START);
+        return Ok(go(s, Place::Start));
     }
-    go(c, COMMENT)
+    Ok(go(s, Place::Comment))
 }
 
 // Before a bracket. An atom has terms; a head may have none.
-fn open(c: Control, m: Mark) -> Control
-    ensures { result ≡ open_at c m }
+#[tactic(auto, unfolding(text_meaning::specs::Places::open_at))]
+fn open(s: Standing, m: Mark) -> Result<Standing, Expected>
+    ensures { stepped s result ≡ open_at (control_of s) (mark_of m) }
 {
     if m.kind != b'(' {
-        return fail(c, EXPECT_OPEN);
+        return Err(Expected::Open);
     }
-    if c.kind == ATOM_KIND {
-        return go(c, TERM);
+    if s.kind == ATOM_KIND {
+        return Ok(go(s, Place::Term));
     }
-    go(c, FIRST)
+    Ok(go(s, Place::First))
 }
 
 // A term: a number or a variable.
-fn term(c: Control, m: Mark, what: usize) -> Control
-    ensures { result ≡ term_expected c m what }
+#[tactic(auto, unfolding(text_meaning::specs::Places::term_expected))]
+fn term(s: Standing, m: Mark, what: Expected) -> Result<Standing, Expected>
+    ensures { stepped s result ≡ term_expected (control_of s) (mark_of m) (expected_number what) }
 {
-    if m.kind == b'0' {
-        return put_term(c);
+    match m.kind {
+        b'0' | b'a' => Ok(put_term(s)),
+        _ => Err(what),
     }
-    if m.kind == b'a' {
-        return put_term(c);
-    }
-    fail(c, what)
 }
 
 // Whether the last line is an atom whose columns are known.
-fn is_counted(c: Control) -> bool
-    ensures { result ≡ is_counted c }
+fn is_counted(s: Standing) -> bool
+    ensures { result ≡ is_counted (control_of s) }
 {
-    if c.kind == ATOM_KIND {
-        return c.relation <= NAMED_RELATIONS;
-    }
-    false
+    s.kind == ATOM_KIND && s.relation <= NAMED_RELATIONS
 }
 
 // A comma behind a term: there may be one column more.
-fn more(c: Control) -> Control
-    ensures { result ≡ more_at c }
+#[tactic(auto, unfolding(text_meaning::specs::Places::more_at))]
+fn more(s: Standing) -> Result<Standing, Expected>
+    ensures { stepped s result ≡ more_at (control_of s) }
 {
-    if 0 < c.left {
-        return go(c, TERM);
+    if 0 < s.left {
+        return Ok(go(s, Place::Term));
     }
-    if is_counted(c) {
-        return fail(c, EXPECT_COLUMNS);
+    if is_counted(s) {
+        return Err(Expected::Columns);
     }
-    fail(c, EXPECT_FEWER)
+    Err(Expected::Fewer)
 }
 
 // Where a closing bracket of a line of a kind leads.
-fn close_kind(c: Control) -> Control
-    ensures { result ≡ closed_by c }
+#[tactic(auto, unfolding(text_meaning::specs::Places::closed_by))]
+fn close_kind(s: Standing) -> Result<Standing, Expected>
+    ensures { stepped s result ≡ closed_by (control_of s) }
 {
-    if c.kind == ATOM_KIND {
-        return go(c, ATOM_END);
+    if s.kind == ATOM_KIND {
+        return Ok(go(s, Place::AtomEnd));
     }
-    if c.kind == ROW_KIND {
-        return go(c, ROW_END);
+    if s.kind == ROW_KIND {
+        return Ok(go(s, Place::RowEnd));
     }
-    go(c, COLON)
+    Ok(go(s, Place::Colon))
 }
 
 // A closing bracket.
-fn close(c: Control) -> Control
-    ensures { result ≡ close_at c }
+#[tactic(auto, unfolding(text_meaning::specs::Places::close_at))]
+fn close(s: Standing) -> Result<Standing, Expected>
+    ensures { stepped s result ≡ close_at (control_of s) }
 {
-    if !is_counted(c) {
-        return close_kind(c);
+    if is_counted(s) && s.left != 0 {
+        return Err(Expected::Columns);
     }
-    if c.left == 0 {
-        return close_kind(c);
-    }
-    fail(c, EXPECT_COLUMNS)
+    close_kind(s)
 }
 
 // Behind a bracket that may close at once.
-fn first(c: Control, m: Mark) -> Control
-    ensures { result ≡ first_at c m }
+#[tactic(auto, unfolding(text_meaning::specs::Places::first_at))]
+fn first(s: Standing, m: Mark) -> Result<Standing, Expected>
+    ensures { stepped s result ≡ first_at (control_of s) (mark_of m) }
 {
     if m.kind == b')' {
-        return close(c);
+        return close(s);
     }
-    term(c, m, EXPECT_FIRST)
+    term(s, m, Expected::First)
 }
 
 // Behind a row.
-fn row_end(c: Control, m: Mark, what: usize) -> Control
-    ensures { result ≡ row_end_at c m what }
+#[tactic(auto, unfolding(text_meaning::specs::Places::row_end_at))]
+fn row_end(s: Standing, m: Mark, what: Expected) -> Result<Standing, Expected>
+    ensures { stepped s result ≡ row_end_at (control_of s) (mark_of m) (expected_number what) }
 {
     if m.kind == b';' {
-        return go(c, ROW);
+        return Ok(go(s, Place::Row));
     }
     if m.kind == b'\n' {
-        return go(c, START);
+        return Ok(go(s, Place::Start));
     }
-    fail(c, what)
+    Err(what)
 }
 
 // Behind a term.
-fn next(c: Control, m: Mark) -> Control
-    ensures { result ≡ next_at c m }
+#[tactic(auto, unfolding(text_meaning::specs::Places::next_at))]
+fn next(s: Standing, m: Mark) -> Result<Standing, Expected>
+    ensures { stepped s result ≡ next_at (control_of s) (mark_of m) }
 {
     if m.kind == b',' {
-        return more(c);
+        return more(s);
     }
-    if c.bare {
-        return row_end(c, m, EXPECT_BARE);
+    if s.bare {
+        return row_end(s, m, Expected::Bare);
     }
     if m.kind == b')' {
-        return close(c);
+        return close(s);
     }
-    fail(c, EXPECT_NEXT)
+    Err(Expected::Next)
 }
 
-fn colon(c: Control, m: Mark) -> Control
-    ensures { result ≡ colon_at c m }
+#[tactic(auto, unfolding(text_meaning::specs::Places::colon_at))]
+fn colon(s: Standing, m: Mark) -> Result<Standing, Expected>
+    ensures { stepped s result ≡ colon_at (control_of s) (mark_of m) }
 {
     if m.kind == b':' {
-        return go(c, RELATION);
+        return Ok(go(s, Place::Relation));
     }
-    fail(c, EXPECT_COLON)
+    Err(Expected::Colon)
 }
 
 // An atom's relation.
-fn relation(c: Control, m: Mark) -> Control
-    ensures { result ≡ relation_at c m }
+#[tactic(auto, unfolding(text_meaning::specs::Places::relation_at))]
+fn relation(s: Standing, m: Mark) -> Result<Standing, Expected>
+    ensures { stepped s result ≡ relation_at (control_of s) (mark_of m) }
 {
-    if m.kind != b'A' {
-        return fail(c, EXPECT_RELATION);
+    if m.kind != b'A' || m.value == 0 {
+        return Err(Expected::Relation);
     }
-    if m.value == 0 {
-        return fail(c, EXPECT_RELATION);
-    }
-    atom(c, m.value)
+    Ok(atom(s, m.value))
 }
 
 // Behind an atom: another; or the block's end, which in a view is "=" and the rows.
-fn atom_end(c: Control, m: Mark) -> Control
-    ensures { result ≡ atom_end_at c m }
+#[tactic(auto, unfolding(text_meaning::specs::Places::atom_end_at))]
+fn atom_end(s: Standing, m: Mark) -> Result<Standing, Expected>
+    ensures { stepped s result ≡ atom_end_at (control_of s) (mark_of m) }
 {
     if m.kind == b',' {
-        return go(c, RELATION);
+        return Ok(go(s, Place::Relation));
     }
-    if c.block == VIEW_KIND {
+    if s.block == VIEW_KIND {
         if m.kind == b'=' {
-            return go(c, ROWS);
+            return Ok(go(s, Place::Rows));
         }
-        return fail(c, EXPECT_ROWS);
+        return Err(Expected::Rows);
     }
     if m.kind == b'\n' {
-        return go(c, START);
+        return Ok(go(s, Place::Start));
     }
-    fail(c, EXPECT_ATOM_END)
+    Err(Expected::AtomEnd)
 }
 
 // A row, in brackets or bare.
-fn row(c: Control, m: Mark, what: usize) -> Control
-    ensures { result ≡ row_expected c m what }
+#[tactic(auto, unfolding(text_meaning::specs::Places::row_expected))]
+fn row(s: Standing, m: Mark, what: Expected) -> Result<Standing, Expected>
+    ensures { stepped s result ≡ row_expected (control_of s) (mark_of m) (expected_number what) }
 {
     if m.kind == b'(' {
-        return row_in_brackets(c);
+        return Ok(row_in_brackets(s));
     }
     if m.kind == b'0' {
-        return bare_row(c);
+        return Ok(bare_row(s));
     }
-    fail(c, what)
+    Err(what)
 }
 
 // Behind "=": a row, or none.
-fn rows(c: Control, m: Mark) -> Control
-    ensures { result ≡ any_rows_at c m }
+#[tactic(auto, unfolding(text_meaning::specs::Places::any_rows_at))]
+fn rows(s: Standing, m: Mark) -> Result<Standing, Expected>
+    ensures { stepped s result ≡ any_rows_at (control_of s) (mark_of m) }
 {
     if m.kind == b'\n' {
-        return go(c, START);
+        return Ok(go(s, Place::Start));
     }
-    row(c, m, EXPECT_FIRST_ROW)
+    row(s, m, Expected::FirstRow)
 }
 
-// One token more, by its mark.
-pub fn step(c: Control, m: Mark) -> Control
-    ensures { result ≡ step c m }
+/// One token more, by its mark: where reading stands behind it, or what is expected in its place.
+#[tactic(auto, unfolding(text_meaning::specs::Places::step, text_meaning::specs::Places::step_from))]
+pub fn step(s: Standing, m: Mark) -> Result<Standing, Expected>
+    ensures { stepped s result ≡ step (control_of s) (mark_of m) }
 {
-    let place = c.place;
-    match place {
-        START => start(c, m),
-        COMMENT => comment(c, m),
-        OPEN => open(c, m),
-        FIRST => first(c, m),
-        TERM => term(c, m, EXPECT_TERM),
-        NEXT => next(c, m),
-        COLON => colon(c, m),
-        RELATION => relation(c, m),
-        ATOM_END => atom_end(c, m),
-        ROWS => rows(c, m),
-        ROW => row(c, m, EXPECT_ROW),
-        _ => row_end(c, m, EXPECT_ROW_END),
+    match s.place {
+        Place::Start => start(s, m),
+        Place::Comment => comment(s, m),
+        Place::Open => open(s, m),
+        Place::First => first(s, m),
+        Place::Term => term(s, m, Expected::Term),
+        Place::Next => next(s, m),
+        Place::Colon => colon(s, m),
+        Place::Relation => relation(s, m),
+        Place::AtomEnd => atom_end(s, m),
+        Place::Rows => rows(s, m),
+        Place::Row => row(s, m, Expected::Row),
+        Place::RowEnd => row_end(s, m, Expected::RowEnd),
     }
 }

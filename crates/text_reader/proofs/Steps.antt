@@ -12,11 +12,18 @@ use Rattle.sheet_format.specs.Limits.{field_end}
 use Rattle.text_meaning.specs.Names.{noted, token_mark}
 use Rattle.text_meaning.specs.Places.{step}
 use Rattle.text_meaning.specs.Reading.{Reading, reading_after, read}
-use Rattle.text_meaning.specs.declared.Control.{Control}
-use Rattle.text_meaning.specs.declared.Mark.{Mark}
+use Rattle.text_meaning.specs.Control.{Control}
+use Rattle.text_meaning.specs.Control.{Mark}
 use Rattle.text_meaning.proofs.Bounds.{value-few, variable-some, kind-small}
+use lib.Dec.{eqb}
+use Rattle.text_meaning.specs.Numbers.{expected_number, control_of, stepped}
+use Rattle.text_meaning.proofs.Numbers.{expected-some}
+use Rattle.text_meaning.specs.declared.Expected.{Expected}
+use Rattle.text_meaning.specs.declared.Standing.{Standing}
 use Rattle.text_reader.specs.declared.Counts.{Counts}
-use Rattle.text_reader.specs.Held.{BegunLine, PutField, Noted, Held, WordAt, BlockBegun, PutBy, VariablePut, Marked, EndedBy, TakenBy}
+use Rattle.text_reader.specs.declared.ReadTo.{ReadTo}
+use Rattle.std.specs.Prelude.{Err}
+use Rattle.text_reader.specs.Held.{BegunLine, PutField, Noted, Held, WordAt, BlockBegun, PutBy, VariablePut, Marked, EndedBy, Taken, Misfits}
 use Rattle.text_reader.proofs.Lines.{begin-kept, put-kept}
 use Rattle.text_reader.proofs.Names.{note_held}
 
@@ -76,15 +83,12 @@ module _ (text : List ℕ) (at e : ℕ) (c : Control) (m : Mark) (n : Counts) wh
 
 -- ---- a line of the text ends
 
-module _ (c : Control) (m : Mark) (n : Counts) where
-  pub ended-none : (m.kind ≡ 10 → ⊥) → EndedBy c m n n
+module _ (s : Standing) (m : Mark) (n : Counts) where
+  pub ended-none : (m.kind ≡ 10 → ⊥) → EndedBy (control_of s) m n n
   ended-none k = record { held = λ h. record { line = rw (ne_eqb m.kind 10 k) h.line; noted = h.noted; kept = h.kept }; line = omega arith }
 
-  pub ended-failed : m.kind ≡ 10 → (c.expected ≡ 0 → ⊥) → EndedBy c m n n
-  ended-failed k f = record { held = λ h. record { line = rw (eq-eqb m.kind 10 k, ne_eqb c.expected 0 f) h.line; noted = h.noted; kept = h.kept }; line = omega arith }
-
-  pub ended : m.kind ≡ 10 → c.expected ≡ 0 → EndedBy c m n (record { line = n.line + 1; names = n.names; lines = n.lines; fields = n.fields })
-  ended k f = record { held = λ h. record { line = rw (eq-eqb m.kind 10 k, eq-eqb c.expected 0 f, add-one n.line) (ap suc h.line); noted = h.noted; kept = h.kept }; line = omega arith }
+  pub ended : m.kind ≡ 10 → EndedBy (control_of s) m n (record { line = n.line + 1; names = n.names; lines = n.lines; fields = n.fields })
+  ended k = record { held = λ h. record { line = rw (eq-eqb m.kind 10 k, add-one n.line) (ap suc h.line); noted = h.noted; kept = h.kept }; line = omega arith }
 
 -- ---- a token
 
@@ -98,20 +102,42 @@ word_some {text} {at} {e} w k =
 pub value-fits : {text : List ℕ} {at e : ℕ} {m : Mark} → Marked text at e m → m.value < field_end
 value-fits {text} {at} {e} w = rw (ap (λ m. m.value) w.is) (value-few (take (e - at) (drop at text)))
 
-pub taken : {text : List ℕ} {at e : ℕ} {c control : Control} {m : Mark} {old mid new : List ℤ} {begun begun-after names names-after : List ℕ} {n a b r : Counts}
-    → m ≡ token_mark (take (e - at) (drop at text)) → control ≡ step c m
-    → BlockBegun control old mid begun begun-after n a → PutBy text at e control m mid new names names-after a b → EndedBy control m b r
-    → TakenBy text at e c old new begun begun-after names names-after n (record { control = control; counts = r })
+moved : {c d : Control} {m : Mark} (w : List ℕ) → m ≡ token_mark w → d ≡ step c m → (p : Reading) → p.control ≡ c → step p.control (token_mark w) ≡ d
+moved {c} {d} {m} w mk ct p i = ap (λ x. step x (token_mark w)) i ∙ ap (step c) (sym mk) ∙ sym ct
+
+pub taken : {text : List ℕ} {at e : ℕ} {from : ReadTo} {m : Mark} {s : Standing} {old mid new : List ℤ} {begun begun-after names names-after : List ℕ} {a b r : Counts}
+    → m ≡ token_mark (take (e - at) (drop at text)) → control_of s ≡ step (control_of from.standing) m
+    → BlockBegun (control_of s) old mid begun begun-after from.counts a → PutBy text at e (control_of s) m mid new names names-after a b → EndedBy (control_of s) m b r
+    → Taken text at e from old new begun begun-after names names-after (record { standing = s; counts = r })
 unfolding read
-taken {text} {at} {e} {c} {control} {m} {old} {mid} {new} {begun} {begun-after} {names} {names-after} {n} {a} {b} {r} mk ct begins puts ends = record {
-  held = λ {p} i h. subst (λ x. Held text new begun-after names-after r (reading_after x (token_mark w) w p)) (sym (moved p i)) (subst (λ y. Held text new begun-after names-after r (reading_after control y w p)) mk (ends.held (puts.held (begins.held h))));
-  control = λ p i. moved p i;
-  small = λ h. rw ct (kind-small c m h);
+taken {text} {at} {e} {from} {m} {s} {old} {mid} {new} {begun} {begun-after} {names} {names-after} {a} {b} {r} mk ct begins puts ends = record {
+  held = λ {p} i h. subst (λ x. Held text new begun-after names-after r (reading_after x (token_mark w) w p)) (sym (moved (take (e - at) (drop at text)) mk ct p i)) (subst (λ y. Held text new begun-after names-after r (reading_after (control_of s) y w p)) mk (ends.held (puts.held (begins.held h))));
+  control = λ p i. moved (take (e - at) (drop at text)) mk ct p i;
+  small = λ h. subst (λ (c : Control). c.kind ≤ 5) (sym ct) (kind-small (control_of from.standing) m h);
   line = let l = ends.line in let k = puts.line in let j = begins.line in omega arith;
 }
   where
     w : List ℕ
     w = take (e - at) (drop at text)
 
-    moved : (p : Reading) → p.control ≡ c → step p.control (token_mark (take (e - at) (drop at text))) ≡ control
-    moved p i = ap (λ x. step x (token_mark (take (e - at) (drop at text)))) i ∙ ap (step c) (sym mk) ∙ sym ct
+-- ---- one that does not fit
+
+same_line : (t u : Bool) (n : ℕ) → u ≡ false → n ≡ cond (t && u) (suc n) n
+same_line true u n e = rw e
+same_line false u n e = refl
+
+pub misfits : {text : List ℕ} {at e : ℕ} {from : ReadTo} {m : Mark} {what : Expected} {old : List ℤ} {begun names : List ℕ}
+    → m ≡ token_mark (take (e - at) (drop at text)) → stepped from.standing (Err what) ≡ step (control_of from.standing) m
+    → Misfits text at e from old old begun begun names names (record { reached = from; what = what })
+unfolding read
+misfits {text} {at} {e} {from} {m} {what} {old} {begun} {names} mk ct = record {
+  held = λ {p} i h. subst (λ x. Held text old begun names from.counts (reading_after x (token_mark w) w p)) (sym (moved (take (e - at) (drop at text)) mk ct p i)) (record {
+    line = h.line ∙ same_line (eqb (token_mark w).kind 10) (eqb (expected_number what) 0) p.line (ne_eqb _ 0 (expected-some what));
+    noted = h.noted;
+    kept = h.kept;
+  });
+  control = λ p i. moved (take (e - at) (drop at text)) mk ct p i;
+}
+  where
+    w : List ℕ
+    w = take (e - at) (drop at text)

@@ -1,15 +1,17 @@
 -- What the reader holds of a reading: names by their places in the text, and lines of the number form in lent words.
-use Rattle.std.specs.Prelude.{◌≡◌, cond, List, [], ◌∷◌, ◌++◌, map, reverse, ℕ, ◌+◌, ◌-◌, ◌*◌, ◌≤◌, ◌<◌, min, eqb, ltb, leb, ℤ, pos, negsuc, length, get_or, take, drop, set, replicate}
+use Rattle.std.specs.Prelude.{◌≡◌, cond, List, [], ◌∷◌, ◌++◌, map, reverse, ℕ, ◌+◌, ◌-◌, ◌*◌, ◌≤◌, ◌<◌, min, eqb, ltb, leb, ℤ, pos, negsuc, length, get_or, take, drop, set, replicate, Result, Ok, Err}
 use Rattle.sheet_format.specs.Limits.{most_words, most_lines, line_word_count, most_fields, most_variables}
 use Rattle.sheet_format.specs.Line.{Line, words_of}
 use Rattle.text_meaning.specs.Tokens.{tokens}
 use Rattle.text_meaning.specs.Names.{place_in, token_mark}
 use Rattle.text_meaning.specs.Reading.{Reading, line_after, names_in, names_after, lines_in, lines_after, starts_after, field_for, read, reading_of}
-use Rattle.text_meaning.specs.declared.Control.{Control}
-use Rattle.text_meaning.specs.declared.Mark.{Mark}
+use Rattle.text_meaning.specs.Control.{Control}
+use Rattle.text_meaning.specs.Control.{Mark}
 use Rattle.text_tokens.specs.Ends.{TokenBegins}
 use Rattle.text_reader.specs.declared.Counts.{Counts}
+use Rattle.text_meaning.specs.Numbers.{control_of, stepped}
 use Rattle.text_reader.specs.declared.ReadTo.{ReadTo}
+use Rattle.text_reader.specs.declared.Misfit.{Misfit}
 
 -- ---- names
 
@@ -131,14 +133,29 @@ pub record EndedBy (c : Control) (m : Mark) (n r : Counts) : Type 0 where
   pub held : {text : List ℕ} {words : List ℤ} {begun names : List ℕ} {p : Reading} → Held text words begun names n p → Held text words begun names r (ended_by c m p)
   pub line : r.line ≤ n.line + 1
 
-pub record TakenBy (text : List ℕ) (at e : ℕ) (c : Control) (old new : List ℤ) (begun begun-after names names-after : List ℕ) (n : Counts) (r : ReadTo) : Type 0 where
-  pub held : {p : Reading} → p.control ≡ c → Held text old begun names n p → Held text new begun-after names-after r.counts (read p (take (e - at) (drop at text)))
-  pub control : (p : Reading) → p.control ≡ c → (read p (take (e - at) (drop at text))).control ≡ r.control
-  pub small : c.kind ≤ 5 → r.control.kind ≤ 5
-  pub line : r.counts.line ≤ n.line + 1
+-- a token that fits, after some reading: what reading gives is held
+pub record Taken (text : List ℕ) (at e : ℕ) (from : ReadTo) (old new : List ℤ) (begun begun-after names names-after : List ℕ) (r : ReadTo) : Type 0 where
+  pub held : {p : Reading} → p.control ≡ control_of from.standing → Held text old begun names from.counts p → Held text new begun-after names-after r.counts (read p (take (e - at) (drop at text)))
+  pub control : (p : Reading) → p.control ≡ control_of from.standing → (read p (take (e - at) (drop at text))).control ≡ control_of r.standing
+  pub small : from.standing.kind ≤ 5 → r.standing.kind ≤ 5
+  pub line : r.counts.line ≤ from.counts.line + 1
+
+-- one that does not fit: something else was expected, and all is as it was
+pub record Misfits (text : List ℕ) (at e : ℕ) (from : ReadTo) (old new : List ℤ) (begun begun-after names names-after : List ℕ) (f : Misfit) : Type 0 where
+  pub held : {p : Reading} → p.control ≡ control_of from.standing → Held text old begun names from.counts p → Held text new begun-after names-after f.reached.counts (read p (take (e - at) (drop at text)))
+  pub control : (p : Reading) → p.control ≡ control_of from.standing → (read p (take (e - at) (drop at text))).control ≡ stepped f.reached.standing (Err f.what)
+
+abbrev pub TakenBy : List ℕ → ℕ → ℕ → ReadTo → List ℤ → List ℤ → List ℕ → List ℕ → List ℕ → List ℕ → Result ReadTo Misfit → Type 0
+TakenBy text at e from old new begun begun-after names names-after (Ok r) = Taken text at e from old new begun begun-after names names-after r
+TakenBy text at e from old new begun begun-after names names-after (Err f) = Misfits text at e from old new begun begun-after names names-after f
 
 -- the text was read: where reading stands, in which line, and the lines of its number form
-pub record ReadAs (text : List ℕ) (words : List ℤ) (begun : List ℕ) (r : ReadTo) : Type 0 where
-  pub control : (reading_of text).control ≡ r.control
-  pub line : r.counts.line ≡ (reading_of text).line
-  pub kept : LinesKept words begun r.counts.lines r.counts.fields (reading_of text).lines (reading_of text).starts
+pub record ReadUp (text : List ℕ) (words : List ℤ) (begun : List ℕ) (c : Control) (n : Counts) : Type 0 where
+  pub control : (reading_of text).control ≡ c
+  pub line : n.line ≡ (reading_of text).line
+  pub kept : LinesKept words begun n.lines n.fields (reading_of text).lines (reading_of text).starts
+
+-- to its end, or to the first token that does not fit
+abbrev pub ReadAs : List ℕ → List ℤ → List ℕ → Result ReadTo Misfit → Type 0
+ReadAs text words begun (Ok r) = ReadUp text words begun (control_of r.standing) r.counts
+ReadAs text words begun (Err f) = ReadUp text words begun (stepped f.reached.standing (Err f.what)) f.reached.counts

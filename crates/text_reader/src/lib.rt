@@ -4,33 +4,45 @@
 ghost use Rattle.std.specs.Prelude.{◌≡◌, ◌+◌, ◌≤◌, ◌<◌, length, replicate, pos, negsuc};
 ghost use Rattle.text_begins.specs.Begins.{most_text};
 ghost use Rattle.text_meaning.specs.Names.{are_same_bytes, place_in};
+ghost use Rattle.text_meaning.specs.Numbers.{control_of, mark_of};
 ghost use Rattle.sheet_format.specs.Limits.{most_words, most_lines, most_variables};
 ghost use Rattle.text_tokens.specs.Ends.{TokenBegins};
 ghost use Rattle.text_reader.specs.Held.{name_at, names_at, NamesBegin, ReaderRoom, BegunLine, PutField, WordAt, BlockBegun, PutBy, NotedBy, VariablePut, Marked, HeldSome, EndedBy, TakenBy, ReadAs};
+ghost use Rattle.text_meaning.specs.declared.Standing.{Standing};
 
 use sheet_format::{ATOM_KIND, LINE_WORDS, MOST_FIELDS, MOST_LINES, VARIABLES};
-use text_meaning::{Control, Mark, START};
+use text_meaning::{Expected, Mark, Place, Standing};
 use text_places::step;
 use text_tokens::{are_equal, mark, skip, token_end};
 
 // The variables of a block that have names: one more is a variable too many, whatever its name.
 const NAMED: usize = VARIABLES as usize;
 
-// How much was read: the line of the text; the block's variables; the lines of the number form, one more than a sheet can have standing for any
-// more, and the fields of the last.
-#[derive(Clone, Copy)]
+/// How much was read.
+#[derive(Clone, Copy, PartialEq, Eq, Debug)]
 pub struct Counts {
+    /// The line of the text.
     pub line: usize,
+    /// The block's variables.
     pub names: usize,
+    /// The lines of the number form, one more than a sheet can have standing for any more.
     pub lines: usize,
+    /// The fields of the last.
     pub fields: usize,
 }
 
-// Where reading stands.
-#[derive(Clone, Copy)]
+/// Where reading stands, and how much was read.
+#[derive(Clone, Copy, PartialEq, Eq, Debug)]
 pub struct ReadTo {
-    pub control: Control,
+    pub standing: Standing,
     pub counts: Counts,
+}
+
+/// A token does not fit: where reading stood before it, and what was expected there.
+#[derive(Clone, Copy, PartialEq, Eq, Debug)]
+pub struct Misfit {
+    pub reached: ReadTo,
+    pub what: Expected,
 }
 
 // One line more in the number form, of a kind; it begins in a line of the text.
@@ -59,10 +71,7 @@ fn put_field(words: &mut [i32], lines: usize, fields: usize, w: i32) -> usize
     requires { length words.old ≡ most_words }
     ensures { PutField words.old words.new lines fields w result }
 {
-    if lines == 0 {
-        return fields;
-    }
-    if MOST_FIELDS <= fields {
+    if lines == 0 || MOST_FIELDS <= fields {
         return fields;
     }
     if MOST_LINES < lines {
@@ -88,38 +97,35 @@ fn place(text: &[u8], word: &[u8], names: &[usize], count: usize) -> usize
     requires { (count ≤ length names.now) × NamesBegin text.now names.now count }
     ensures { (result ≡ place_in word.now (names_at text.now names.now count)) × (result ≤ count) }
 {
-    let mut i = 0;
-    while i < count {
+    for i in 0..count {
         if is_same(text, names[i], word) {
             return i;
         }
-        i += 1;
     }
-    i
+    count
 }
 
 // A line of the number form begins where the token began one; a block's variables are its own.
-fn begin(c: Control, n: Counts, words: &mut [i32], begun: &mut [usize]) -> Counts
-    requires { ReaderRoom words.old begun.old × (c.kind ≤ 5) }
-    ensures { BlockBegun c words.old words.new begun.old begun.new n result }
+fn begin(s: Standing, n: Counts, words: &mut [i32], begun: &mut [usize]) -> Counts
+    requires { ReaderRoom words.old begun.old × (s.kind ≤ 5) }
+    ensures { BlockBegun (control_of s) words.old words.new begun.old begun.new n result }
 {
-    if !c.begins {
+    if !s.begins {
         return n;
     }
-    let lines = begin_line(words, begun, n.lines, c.kind, n.line);
-    if c.kind < ATOM_KIND {
+    let lines = begin_line(words, begun, n.lines, s.kind, n.line);
+    if s.kind < ATOM_KIND {
         return Counts {
-            line: n.line,
             names: 0,
             lines,
             fields: 1,
+            ..n
         };
     }
     Counts {
-        line: n.line,
-        names: n.names,
         lines,
         fields: 1,
+        ..n
     }
 }
 
@@ -136,10 +142,7 @@ fn note(names: &mut [usize], count: usize, place: usize, at: usize) -> usize
     requires { length names.old ≡ most_variables }
     ensures { NotedBy names.old names.new count place at result }
 {
-    if place < count {
-        return count;
-    }
-    if NAMED <= count {
+    if place < count || NAMED <= count {
         return count;
     }
     names[count] = at;
@@ -163,10 +166,9 @@ fn put_variable(
     let i = place(text, &text[at..e], names, count);
     let fields = put_field(words, n.lines, n.fields, term_at(i));
     Counts {
-        line: n.line,
         names: note(names, count, i, at),
-        lines: n.lines,
         fields,
+        ..n
     }
 }
 
@@ -175,47 +177,37 @@ fn put(
     text: &[u8],
     at: usize,
     e: usize,
-    c: Control,
+    s: Standing,
     m: Mark,
     n: Counts,
     words: &mut [i32],
     names: &mut [usize],
 ) -> Counts
-    requires word_at { WordAt text.now at e × Marked text.now at e m }
+    requires word_at { WordAt text.now at e × Marked text.now at e (mark_of m) }
     requires words_len { (length words.old ≡ most_words) × (length names.old ≡ most_variables) × (n.names ≤ most_variables) × NamesBegin text.now names.old n.names }
-    ensures { PutBy text.now at e c m words.old words.new names.old names.new n result }
+    ensures { PutBy text.now at e (control_of s) (mark_of m) words.old words.new names.old names.new n result }
 {
-    if !c.puts {
+    if !s.puts {
         return n;
     }
     if m.kind == b'a' {
         return put_variable(text, at, e, n, words, names);
     }
     let fields = put_field(words, n.lines, n.fields, m.value as i32);
-    Counts {
-        line: n.line,
-        names: n.names,
-        lines: n.lines,
-        fields,
-    }
+    Counts { fields, ..n }
 }
 
 // Counts the line of the text that a token ends.
-fn end_line(c: Control, m: Mark, n: Counts) -> Counts
+fn end_line(m: Mark, n: Counts) -> Counts
     requires { n.line ≤ most_text + 1 }
-    ensures { EndedBy c m n result }
+    ensures { (s : Standing) → EndedBy (control_of s) (mark_of m) n result }
 {
     if m.kind != b'\n' {
         return n;
     }
-    if c.expected != 0 {
-        return n;
-    }
     Counts {
         line: n.line + 1,
-        names: n.names,
-        lines: n.lines,
-        fields: n.fields,
+        ..n
     }
 }
 
@@ -224,62 +216,61 @@ fn take(
     text: &[u8],
     at: usize,
     e: usize,
-    c: Control,
-    n: Counts,
+    from: ReadTo,
     words: &mut [i32],
     begun: &mut [usize],
     names: &mut [usize],
-) -> ReadTo
-    requires word_at { WordAt text.now at e × HeldSome text.now words.old begun.old names.old n }
-    requires kind_bound { (c.kind ≤ 5) × (n.line ≤ most_text + 1) }
-    ensures { TakenBy text.now at e c words.old words.new begun.old begun.new names.old names.new n result }
+) -> Result<ReadTo, Misfit>
+    requires word_at { WordAt text.now at e × HeldSome text.now words.old begun.old names.old from.counts }
+    requires kind_bound { (from.standing.kind ≤ 5) × (from.counts.line ≤ most_text + 1) }
+    ensures { TakenBy text.now at e from words.old words.new begun.old begun.new names.old names.new result }
 {
     let m = mark(&text[at..e]);
-    let control = step(c, m);
-    let a = begin(control, n, words, begun);
-    let b = put(text, at, e, control, m, a, words, names);
-    ReadTo {
-        control,
-        counts: end_line(control, m, b),
-    }
+    let s = match step(from.standing, m) {
+        Ok(s) => s,
+        Err(what) => {
+            return Err(Misfit {
+                reached: from,
+                what,
+            });
+        }
+    };
+    let a = begin(s, from.counts, words, begun);
+    let b = put(text, at, e, s, m, a, words, names);
+    Ok(ReadTo {
+        standing: s,
+        counts: end_line(m, b),
+    })
 }
 
-// Reads a text to its end, or to the first token that does not fit: the lines of its number form, and the lines of the text that they begin in.
-pub fn run(text: &[u8], words: &mut [i32], begun: &mut [usize]) -> ReadTo
+/// Reads a text to its end, or to the first token that does not fit: the lines of its number form, and the lines of the text that they begin in.
+pub fn run(text: &[u8], words: &mut [i32], begun: &mut [usize]) -> Result<ReadTo, Misfit>
     requires { (length text.now ≤ most_text) × (words.old ≡ replicate most_words (pos 0)) × (begun.old ≡ replicate most_lines 0) }
     ensures { ReadAs text.now words.new begun.new result }
 {
     let mut names = [0usize; NAMED];
-    let mut c = Control {
-        place: START,
+    let standing = Standing {
+        place: Place::Start,
         block: 0,
         kind: 0,
         relation: 0,
         left: 0,
         bare: false,
-        expected: 0,
         begins: false,
         puts: false,
     };
-    let mut n = Counts {
+    let counts = Counts {
         line: 1,
         names: 0,
         lines: 0,
         fields: 0,
     };
+    let mut reached = ReadTo { standing, counts };
     let mut at = skip(text, 0);
     while at < text.len() {
         let e = token_end(text, at);
-        let t = take(text, at, e, c, n, words, begun, &mut names);
-        c = t.control;
-        n = t.counts;
-        if c.expected != 0 {
-            return ReadTo {
-                control: c,
-                counts: n,
-            };
-        }
+        reached = take(text, at, e, reached, words, begun, &mut names)?;
         at = skip(text, e);
     }
-    take(text, at, at, c, n, words, begun, &mut names)
+    take(text, at, at, reached, words, begun, &mut names)
 }

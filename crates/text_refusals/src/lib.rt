@@ -3,10 +3,12 @@
 
 ghost use Rattle.std.specs.Prelude.{◌++◌};
 ghost use Rattle.text_buffer.specs.Puts.{Put};
+ghost use Rattle.text_meaning.specs.Numbers.{expected_number};
 ghost use Rattle.text_writer.specs.Texts.{unless0, number_bytes, place_bytes, refusal_bytes, expected_bytes};
 
 use text_buffer::{put, put_byte};
-use text_causes::put_cause;
+use text_causes::cause_text;
+use text_meaning::Expected;
 use text_words::put_what;
 use text_writer::put_number;
 
@@ -41,19 +43,26 @@ fn put_place(out: &mut [u8], at: usize, number: usize, line: usize, text_line: u
     put_after_one(out, c, b" of the text", text_line)
 }
 
+/// Puts a refusal's line.
 pub fn put_refusal(out: &mut [u8], at: usize, number: usize, line: usize, text_line: usize) -> usize
     ensures { Put out.old out.new at (refusal_bytes number line text_line) result }
 {
     let a = put(out, at, b"refused: ");
     let b = put_place(out, a, number, line, text_line);
     let c = put(out, b, b": ");
-    let d = put_cause(out, c, number);
+    let d = put(out, c, cause_text(number));
     put_byte(out, d, b'\n')
 }
 
-// What was expected in a line.
-pub fn put_expected(out: &mut [u8], at: usize, line: usize, what: usize, relation: usize) -> usize
-    ensures { Put out.old out.new at (expected_bytes line what relation) result }
+/// Puts what was expected in a line.
+pub fn put_expected(
+    out: &mut [u8],
+    at: usize,
+    line: usize,
+    what: Expected,
+    relation: usize,
+) -> usize
+    ensures { Put out.old out.new at (expected_bytes line (expected_number what) relation) result }
 {
     let a = put(out, at, b"line ");
     let b = put_number(out, a, line);

@@ -1,10 +1,9 @@
 -- Laws of tokens: where one begins, goes on and ends, and that blanks before it do not count.
-use mathlib.Core.Path.{◌≡◌, refl, sym, ap, ◌∙◌}
-use mathlib.Core.Bool.{Bool, true, false, cond}
+use mathlib.Core.Path.{◌≡◌, refl, ap, ◌∙◌}
+use mathlib.Core.Bool.{Bool, true, false}
 use mathlib.Core.List.{List, [], ◌∷◌, ◌++◌}
 use Prim.Native.Nat.{ℕ, suc, ◌+◌, ◌-◌, ◌≤◌, ◌<◌}
 use native.Mathlib.Omega.{arith}
-use native.Mathlib.Numerals.{add-one}
 use lib.ListN.{length, get_or, take, drop, length-drop, drop_of_length-le}
 use lib.Seq.{take_all, take-suc, get_or-drop, drop-drop}
 use Rattle.list_laws.proofs.Lists.{drop-next}
@@ -62,6 +61,10 @@ module _ (s : List ℕ) (at : ℕ) where
     pub token-last : e ≤ length s → length s ≤ e → behind (part at e s) (drop e s) ≡ part at e s ∷ tokens (drop e s)
     unfolding behind
     token-last l k = rw (part-first at e s h (omega arith), drop_of_length-le s k)
+
+-- a token that goes on to the end of the text
+pub TokenEnds-all : (s : List ℕ) (at e : ℕ) → at < e → e ≤ length s → tokens (drop at s) ≡ behind (part at e s) (drop e s) → length s ≤ e → TokenEnds s at e
+TokenEnds-all s at e h l t k = record { after = h; inside = l; token = t ∙ token-last s at e h l k }
 
 -- ---- blanks
 

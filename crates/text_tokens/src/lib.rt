@@ -1,97 +1,75 @@
 // A text's tokens one after the other, and what each stands for.
 #![tactic(auto)]
 
-ghost use Rattle.std.specs.Prelude.{◌≡◌, ◌≤◌, length, drop};
-ghost use Rattle.text_writer.specs.Texts.{relation_bytes, relation_names};
+ghost use Rattle.std.specs.Prelude.{◌≡◌, ◌≤◌, ◌<◌, length, IfSome, unwrap_or};
+ghost use Rattle.text_writer.specs.Texts.{relation_names};
 ghost use Rattle.sheet_format.specs.Limits.{field_end};
 ghost use Rattle.text_tokens.specs.Ends.{TokenBegins, TokenEnds, Skipped};
-ghost use Rattle.text_meaning.specs.Tokens.{between, token_kind, is_letter, is_in_word, joins};
+ghost use Rattle.text_meaning.specs.Tokens.{token_kind, is_letter, is_in_word, joins};
 ghost use Rattle.text_meaning.specs.Names.{are_same_bytes, number_longer, number_from, number_named, among, beyond, relation_named, token_value, letter_in, token_mark};
+ghost use Rattle.text_meaning.specs.Numbers.{letter_number, mark_of};
 
 use sheet_format::FIELD_END;
 use text_begins::blanks;
 use text_meaning::{Mark, NAMED_RELATIONS};
-use text_writer::{NAME, put_relation};
+use text_writer::name;
 
 // What may have one digit more lies below this.
 const SHORTER: usize = FIELD_END as usize / 10;
 
-// Whether a byte lies between two others, which count too.
-fn is_between(from: u8, to: u8, b: u8) -> bool
-    ensures { result ≡ between from to b }
-{
-    if b < from {
-        return false;
-    }
-    b <= to
-}
-
 // The kind of the token that begins with a byte: "a" for a word, "A" for a relation, "0" for a number, any other byte for itself.
+#[tactic(auto, unfolding(text_meaning::specs::Tokens::token_kind))]
 fn kind_of(b: u8) -> u8
     ensures { result ≡ token_kind b }
 {
-    if is_between(b'a', b'z', b) {
-        return b'a';
+    match b {
+        b'a'..=b'z' => b'a',
+        b'A'..=b'Z' => b'A',
+        b'0'..=b'9' => b'0',
+        _ => b,
     }
-    if is_between(b'A', b'Z', b) {
-        return b'A';
-    }
-    if is_between(b'0', b'9', b) {
-        return b'0';
-    }
-    b
 }
 
 // Whether a byte of a kind goes on with a token of another.
+#[tactic(auto, unfolding(text_meaning::specs::Tokens::joins))]
 fn joins(kind: u8, next: u8) -> bool
     ensures { result ≡ joins kind next }
 {
     if is_letter(kind) {
         return is_in_word(next);
     }
-    if kind == b'0' {
-        return next == b'0';
-    }
-    false
+    kind == b'0' && next == b'0'
 }
 
 // Whether a byte of a kind goes on with a word.
 fn is_in_word(kind: u8) -> bool
     ensures { result ≡ is_in_word kind }
 {
-    if is_letter(kind) {
-        return true;
-    }
-    kind == b'0'
+    is_letter(kind) || kind == b'0'
 }
 
 // Whether a kind is that of letters.
 fn is_letter(kind: u8) -> bool
     ensures { result ≡ is_letter kind }
 {
-    if kind == b'a' {
-        return true;
-    }
-    kind == b'A'
+    kind == b'a' || kind == b'A'
 }
 
-// Where the token at a place ends.
+/// Where the token at a place ends.
 pub fn token_end(text: &[u8], at: usize) -> usize
     requires { TokenBegins text.now at }
     ensures { TokenEnds text.now at result }
 {
     let kind = kind_of(text[at]);
-    let mut e = at + 1;
-    while e < text.len() {
+    for e in at + 1..text.len() {
         if !joins(kind, kind_of(text[e])) {
             return e;
         }
-        e += 1;
     }
-    e
+    text.len()
 }
 
-// The first place from `at` on that has no blank.
+/// The first place from `at` on that has no blank.
 pub fn skip(text: &[u8], at: usize) -> usize
     requires { at ≤ length text.now }
     ensures { Skipped text.now at result }
@@ -99,46 +77,32 @@ pub fn skip(text: &[u8], at: usize) -> usize
     at + blanks(&text[at..])
 }
 
-// Whether two words are the same.
+/// Whether two words are the same.
+#[tactic(auto, using(crate::proofs::Names::same_bytes))]
 pub fn are_equal(a: &[u8], b: &[u8]) -> bool
     ensures { result ≡ are_same_bytes a.now b.now }
 {
-    if a.len() != b.len() {
-        return false;
-    }
-    let mut i = 0;
-    while i < a.len() {
-        if a[i] != b[i] {
-            return false;
-        }
-        i += 1;
-    }
-    true
+    a == b
 }
 
 // A number and one digit more.
+#[tactic(auto, unfolding(text_meaning::specs::Names::number_longer))]
 fn longer(n: usize, b: u8) -> usize
     ensures { (result ≡ number_longer n b) × (result ≤ field_end) }
 {
-    if !is_between(b'0', b'9', b) {
-        return FIELD_END as usize;
+    match b {
+        b'0'..=b'9' if n < SHORTER => n * 10 + (b - b'0') as usize,
+        _ => FIELD_END as usize,
     }
-    if n < SHORTER {
-        return n * 10 + (b - b'0') as usize;
-    }
-    FIELD_END as usize
 }
 
-// The number of the digits from a place on; one that no field holds where they are none, or too many.
-fn number_from(digits: &[u8], from: usize) -> usize
-    requires { from ≤ length digits.now }
-    ensures { (result ≡ number_from 0 (drop from digits.now)) × (result ≤ field_end) }
+// The number of digits; one that no field holds where there are too many, or others.
+fn number_from(digits: &[u8]) -> usize
+    ensures { (result ≡ number_from 0 digits.now) × (result ≤ field_end) }
 {
     let mut n = 0;
-    let mut i = from;
-    while i < digits.len() {
-        n = longer(n, digits[i]);
-        i += 1;
+    for b in digits {
+        n = longer(n, *b);
     }
     n
 }
@@ -147,103 +111,77 @@ fn number_from(digits: &[u8], from: usize) -> usize
 fn number(digits: &[u8]) -> usize
     ensures { result ≡ number_named digits.now }
 {
-    let n = number_from(digits, 0);
-    if n < FIELD_END as usize {
-        return n;
-    }
-    FIELD_END as usize - 1
+    number_from(digits).min(FIELD_END as usize - 1)
 }
 
-// Whether a word is the name of one of the ten relations.
-fn is_named(word: &[u8], relation: usize) -> bool
-    requires { relation ≤ 10 }
-    ensures { result ≡ are_same_bytes word.now (relation_bytes relation) }
+// Which of the ten relations a word is the name of.
+fn named(word: &[u8]) -> Option<usize>
+    ensures number { unwrap_or result 0 ≡ among word.now 1 relation_names }
+    ensures counted { IfSome result (λ r. 0 < r) }
 {
-    let mut name = [0u8; NAME];
-    let n = put_relation(&mut name, 0, relation);
-    are_equal(word, &name[0..n])
-}
-
-// The relation that a word is the name of; 0 where there is none.
-fn named(word: &[u8]) -> usize
-    ensures { result ≡ among word.now 1 relation_names }
-{
-    let mut r = 1;
-    while r <= NAMED_RELATIONS {
-        if is_named(word, r) {
-            return r;
+    for r in 1..=NAMED_RELATIONS {
+        if are_equal(word, name(r)) {
+            return Some(r);
         }
-        r += 1;
     }
-    0
+    None
 }
 
-// The relation beyond the ten that a word has the number of; 0 where there is none.
-fn beyond(word: &[u8]) -> usize
-    ensures { result ≡ beyond word.now }
+// The relation beyond the ten that a word has the number of.
+fn beyond(word: &[u8]) -> Option<usize>
+    ensures { unwrap_or result 0 ≡ beyond word.now }
 {
-    if word.len() == 0 {
-        return 0;
+    let [b'R', digits @ ..] = word else {
+        return None;
+    };
+    let n = number_from(digits);
+    if NAMED_RELATIONS < n && n < FIELD_END as usize {
+        return Some(n);
     }
-    if word[0] != b'R' {
-        return 0;
-    }
-    let n = number_from(word, 1);
-    if n <= NAMED_RELATIONS {
-        return 0;
-    }
-    if n < FIELD_END as usize {
-        return n;
-    }
-    0
+    None
 }
 
-// The relation that a word names; 0 where there is none.
-fn relation(word: &[u8]) -> usize
-    ensures { result ≡ relation_named word.now }
+// The relation that a word names.
+#[tactic(auto, unfolding(text_meaning::specs::Names::relation_named))]
+fn relation(word: &[u8]) -> Option<usize>
+    ensures { unwrap_or result 0 ≡ relation_named word.now }
 {
-    let r = named(word);
-    if r == 0 {
-        return beyond(word);
-    }
-    r
+    named(word).or_else(|| beyond(word))
 }
 
 // The number of a token of a kind.
 fn value(kind: u8, token: &[u8]) -> usize
     ensures { result ≡ token_value kind token.now }
 {
-    if kind == b'0' {
-        return number(token);
+    match kind {
+        b'0' => number(token),
+        b'A' => relation(token).unwrap_or(0),
+        _ => 0,
     }
-    if kind == b'A' {
-        return relation(token);
-    }
-    0
 }
 
-// The byte of a token that has no other; else 0.
-fn letter(token: &[u8]) -> u8
-    ensures { result ≡ letter_in token.now }
+// The byte of a token that has no other.
+fn letter(token: &[u8]) -> Option<u8>
+    ensures { letter_number result ≡ letter_in token.now }
 {
-    if token.len() == 1 {
-        return token[0];
+    match token {
+        [b] => Some(*b),
+        _ => None,
     }
-    0
 }
 
-// A token's mark; one without bytes is the end of a line.
+/// A token's mark; one without bytes is the end of a line.
 pub fn mark(token: &[u8]) -> Mark
-    ensures { result ≡ token_mark token.now }
+    ensures { mark_of result ≡ token_mark token.now }
 {
-    if token.len() == 0 {
+    let [first, ..] = token else {
         return Mark {
             kind: b'\n',
-            letter: 0,
+            letter: None,
             value: 0,
         };
-    }
-    let kind = kind_of(token[0]);
+    };
+    let kind = kind_of(*first);
     Mark {
         kind,
         letter: letter(token),

@@ -1,22 +1,25 @@
 // What was expected, in words, put at a place of a buffer.
 #![tactic(auto)]
 
+ghost use Rattle.std.specs.Prelude.{◌≡◌};
 ghost use Rattle.text_buffer.specs.Puts.{Put};
+ghost use Rattle.text_meaning.specs.Numbers.{expected_number};
 ghost use Rattle.text_writer.specs.Texts.{count_bytes, columns_bytes, length_bytes, what_bytes};
 
 use text_begins::MOST_TEXT;
 use text_buffer::put;
+use text_meaning::Expected;
 use text_writer::{put_number, put_relation};
 
 // How many columns a relation has.
-fn put_count(out: &mut [u8], at: usize, columns: usize) -> usize
-    ensures { Put out.old out.new at (count_bytes columns) result }
+fn count(columns: usize) -> &'static [u8]
+    ensures { result.now ≡ count_bytes columns }
 {
     match columns {
-        1 => put(out, at, b"one column in "),
-        2 => put(out, at, b"two columns in "),
-        3 => put(out, at, b"three columns in "),
-        _ => put(out, at, b"four columns in "),
+        1 => b"one column in ",
+        2 => b"two columns in ",
+        3 => b"three columns in ",
+        _ => b"four columns in ",
     }
 }
 
@@ -28,7 +31,8 @@ fn put_columns(out: &mut [u8], at: usize, relation: usize) -> usize
         return at;
     }
     let table = sheet_terms::own_table();
-    let n = put_count(out, at, sheet_terms::columns(&table, relation as i32));
+    let columns = sheet_terms::columns(&table, relation as i32);
+    let n = put(out, at, count(columns));
     put_relation(out, n, relation)
 }
 
@@ -41,32 +45,32 @@ fn put_length(out: &mut [u8], at: usize) -> usize
     put(out, b, b" bytes")
 }
 
-// What was expected, by text_meaning's numbers for it.
-pub fn put_what(out: &mut [u8], at: usize, what: usize, relation: usize) -> usize
-    ensures { Put out.old out.new at (what_bytes what relation) result }
+/// Puts what was expected, and where it is a relation's columns how many.
+pub fn put_what(out: &mut [u8], at: usize, what: Expected, relation: usize) -> usize
+    ensures { Put out.old out.new at (what_bytes (expected_number what) relation) result }
 {
     match what {
-        1 => put(out, at, b"q, the question"),
-        2 => put(out, at, b"l, a saved list"),
-        3 => put(out, at, b"v, a view, or behind a list l, one more list"),
-        4 => put(out, at, b"("),
-        5 => put(out, at, b"a variable, a number or )"),
-        6 => put(out, at, b"a variable or a number"),
-        7 => put(out, at, b", or )"),
-        8 => put(out, at, b":"),
-        9 => put(
+        Expected::Question => put(out, at, b"q, the question"),
+        Expected::List => put(out, at, b"l, a saved list"),
+        Expected::View => put(out, at, b"v, a view, or behind a list l, one more list"),
+        Expected::Open => put(out, at, b"("),
+        Expected::First => put(out, at, b"a variable, a number or )"),
+        Expected::Term => put(out, at, b"a variable or a number"),
+        Expected::Next => put(out, at, b", or )"),
+        Expected::Colon => put(out, at, b":"),
+        Expected::Relation => put(
             out,
             at,
             b"a relation: Rower, Strap, Worn, Sig, Beat, Noise, Pulse, Coach, Seat or Pause",
         ),
-        10 => put_columns(out, at, relation),
-        11 => put(out, at, b"at most four columns"),
-        12 => put(out, at, b", or the end of the line"),
-        13 => put(out, at, b", or = and the rows"),
-        14 => put(out, at, b"a row or the end of the line"),
-        15 => put(out, at, b"a row"),
-        16 => put(out, at, b", or ; or the end of the line"),
-        17 => put(out, at, b"; or the end of the line"),
-        _ => put_length(out, at),
+        Expected::Columns => put_columns(out, at, relation),
+        Expected::Fewer => put(out, at, b"at most four columns"),
+        Expected::AtomEnd => put(out, at, b", or the end of the line"),
+        Expected::Rows => put(out, at, b", or = and the rows"),
+        Expected::FirstRow => put(out, at, b"a row or the end of the line"),
+        Expected::Row => put(out, at, b"a row"),
+        Expected::Bare => put(out, at, b", or ; or the end of the line"),
+        Expected::RowEnd => put(out, at, b"; or the end of the line"),
+        Expected::Shorter => put_length(out, at),
     }
 }

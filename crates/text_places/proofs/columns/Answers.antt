@@ -1,4 +1,3 @@
-use borrow.Author.Rules.{rules}
 use borrow.Author.Tests.{le-leb, lt-leb}
 use Rattle.text_meaning.specs.Places.{columns_in}
 use Rattle.text_meaning.proofs.Tests.{so}

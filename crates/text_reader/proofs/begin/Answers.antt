@@ -3,8 +3,8 @@ use borrow.Author.Tests.{not-true, not-false}
 use Rattle.text_reader.proofs.Steps.{begun-none, begun-head, begun-other}
 use Rattle.text_reader.proofs.begin.Goals as goal
 
-pub returns-then-c-lt-ATOM_KIND : goal.returns-then-c-lt-ATOM_KIND
-returns-then-c-lt-ATOM_KIND c = begun-head _ _ (not-false _ c.if-not-c.false) c.begin_line-lines.ensures c.if-c-lt-ATOM_KIND.true
+pub returns-then-s-lt-ATOM_KIND : goal.returns-then-s-lt-ATOM_KIND
+returns-then-s-lt-ATOM_KIND c = begun-head _ _ (not-false _ c.if-not-s.false) c.begin_line-lines.ensures c.if-s-lt-ATOM_KIND.true
 
 pub returns : goal.returns
-returns c = begun-other _ _ (not-false _ c.if-not-c.false) c.begin_line-lines.ensures c.if-c-lt-ATOM_KIND.false
+returns c = begun-other _ _ (not-false _ c.if-not-s.false) c.begin_line-lines.ensures c.if-s-lt-ATOM_KIND.false

@@ -11,13 +11,13 @@ use Rattle.text_reader.proofs.place.Goals as goal
 pub returns-then-is_same : goal.returns-then-is_same
 returns-then-is_same c = let a = c.args in
     let i = c.loop-i.invariant in
-    (found a.text.now a.names.now a.count c.requires.0 a.word.now c.loop-i.i i.1 (omega arith) (sym c.is_same.ensures ∙ c.if-is_same.true), omega arith)
+    (found a.text.now a.names.now a.count c.requires.0 a.word.now c.loop-i.i i (omega arith) (sym c.is_same.ensures ∙ c.if-is_same.true), omega arith)
 
 pub loop-i-preserved : goal.loop-i-preserved
 loop-i-preserved c = let a = c.args in
-    let i = c.loop-i.invariant in
-    (omega arith, another a.text.now a.names.now a.count c.requires.0 a.word.now c.loop-i.i i.1 (omega arith) (sym c.is_same.ensures ∙ c.if-is_same.false))
+    another a.text.now a.names.now a.count c.requires.0 a.word.now c.loop-i.i c.loop-i.invariant (omega arith) (sym c.is_same.ensures ∙ c.if-is_same.false)
 
 pub returns : goal.returns
 returns c = let a = c.args in
-    (not_found a.text.now a.names.now a.count c.requires.0 a.word.now c.loop-i.i c.loop-i.invariant.1 (omega arith), omega arith)
+    let e : c.loop-i.i ≡ a.count = omega arith in
+    (rw e at (not_found a.text.now a.names.now a.count c.requires.0 a.word.now c.loop-i.i c.loop-i.invariant (omega arith)), omega arith)

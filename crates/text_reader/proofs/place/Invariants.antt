@@ -9,7 +9,4 @@ use Rattle.text_reader.proofs.Names.{another, found, not_found}
 use Rattle.text_reader.proofs.place.Given as goal
 
 abbrev pub invariant-loop-i : goal.invariant-loop-i
-invariant-loop-i l = (l.i ≤ l.count) × (place_in l.word (names_at l.text l.names l.count) ≡ l.i + place_in l.word (drop l.i (names_at l.text l.names l.count)))
-
-abbrev pub decreases-loop-i : goal.decreases-loop-i
-decreases-loop-i l = l.count - l.i
+invariant-loop-i l = place_in l.word (names_at l.text l.names l.count) ≡ l.i + place_in l.word (drop l.i (names_at l.text l.names l.count))

@@ -9,7 +9,7 @@ use Rattle.text_reader.proofs.Going.{Going, going_start, going_some, going_begin
 use Rattle.text_reader.proofs.run.Given as goal
 
 abbrev pub invariant-loop-at : goal.invariant-loop-at
-invariant-loop-at l = Going l.text l.words l.begun l.names l.c l.n l.at
+invariant-loop-at l = Going l.text l.words l.begun l.names l.reached l.at
 
 abbrev pub decreases-loop-at : goal.decreases-loop-at
 decreases-loop-at l = length l.text - l.at

@@ -1,4 +1,3 @@
-use borrow.Author.Rules.{rules}
 use Rattle.text_tokens.proofs.Tokens.{skipped}
 use Rattle.text_tokens.proofs.skip.Goals as goal
 

@@ -1,12 +1,10 @@
-use mathlib.Core.Path.{◌≡◌, refl, sym, ap, ◌∙◌}
-use Prim.Native.Nat.{◌+◌, ◌-◌, ◌≤◌, ◌<◌}
+use mathlib.Core.Path.{◌≡◌, sym, ◌∙◌}
 use native.Mathlib.Omega.{arith}
-use borrow.Author.Rules.{rules}
-use lib.ListN.{length, drop, get_or}
+use lib.ListN.{length, get_or}
 use mathlib.Core.Bool.{true, false}
 use borrow.Author.Tests.{not-true, not-false}
-use Rattle.text_meaning.specs.Tokens.{token_kind, joins, behind, tokens}
-use Rattle.text_tokens.proofs.Tokens.{part, token-first, token-grows, token-ends, token-last}
+use Rattle.text_meaning.specs.Tokens.{token_kind, joins}
+use Rattle.text_tokens.proofs.Tokens.{token-first, token-grows, token-ends, TokenEnds-all}
 use Rattle.text_tokens.proofs.token_end.Goals as goal
 
 pub loop-e-init : goal.loop-e-init
@@ -27,4 +25,6 @@ loop-e-preserved c = let a = c.args in
 pub returns : goal.returns
 returns c = let a = c.args in
     let i = c.loop-e.invariant in
-    record { after = i.0; inside = i.1; token = i.2 ∙ token-last a.text.now a.at c.loop-e.e i.0 i.1 (omega arith) }
+    let h = c.requires.inside in
+    let k : c.loop-e.e ≡ length a.text.now = omega arith in
+    rw k at (TokenEnds-all a.text.now a.at c.loop-e.e i.0 i.1 i.2 (omega arith))
