@@ -1,6 +1,6 @@
 -- What became of a text, as it is handed to C.
-use Rattle.text_to_sheet.specs.declared.Made.{Made}
-use Rattle.text_to_sheet.specs.declared.Made.TheVariants.{Sheet, Expected, Refused}
+use Rattle.text_to_sheet.specs.Outcome.{Made}
+use Rattle.text_to_sheet.specs.Outcome.Made.{Sheet, Expected, Refused}
 use Rattle.c_texts.specs.declared.TextOutcome.{TextOutcome}
 
 -- the bytes of its sheet; or what was expected, in which relation and line; or the sheet's refusal

@@ -2,9 +2,10 @@
 #![tactic(auto)]
 
 ghost use Rattle.std.specs.Prelude.{◌≡◌};
+ghost use Rattle.text_to_sheet.specs.Outcome.{made_from_result};
 ghost use Rattle.c_texts.specs.Passed.{text_outcome_of};
 
-use text_to_sheet::Made;
+use text_to_sheet::NotMade;
 
 // What became of a text: how many bytes its sheet has; or what was expected, in which relation and in which line of the text; or the sheet's refusal, its
 // number and line, and the line of the text.
@@ -20,11 +21,11 @@ pub struct TextOutcome {
 }
 
 // What became of a text as C has it.
-pub fn passed_text(m: Made) -> TextOutcome
-    ensures { result ≡ text_outcome_of m }
+pub fn passed_text(made: Result<usize, NotMade>) -> TextOutcome
+    ensures { result ≡ text_outcome_of (made_from_result made) }
 {
-    match m {
-        Made::Sheet(bytes) => TextOutcome {
+    match made {
+        Ok(bytes) => TextOutcome {
             expected: 0,
             relation: 0,
             number: 0,
@@ -32,20 +33,24 @@ pub fn passed_text(m: Made) -> TextOutcome
             begun: 0,
             bytes,
         },
-        Made::Expected(begun, expected, relation) => TextOutcome {
-            expected,
+        Err(NotMade::Expected {
+            line,
+            what,
+            relation,
+        }) => TextOutcome {
+            expected: what.number(),
             relation,
             number: 0,
             line: 0,
-            begun,
+            begun: line,
             bytes: 0,
         },
-        Made::Refused(number, line, begun) => TextOutcome {
+        Err(NotMade::Refused { refusal, text_line }) => TextOutcome {
             expected: 0,
             relation: 0,
-            number,
-            line,
-            begun,
+            number: refusal.cause.number(),
+            line: refusal.line,
+            begun: text_line,
             bytes: 0,
         },
     }

@@ -20,7 +20,7 @@ use std::env::Env;
 use std::io;
 use std::rt::Files;
 use text_begins::MOST_TEXT;
-use text_to_sheet::Made;
+use text_to_sheet::NotMade;
 use text_writer::TEXT_ROOM;
 
 // What is read of a file: one byte more than a text may have, so that a longer one is refused.
@@ -162,13 +162,13 @@ fn put_given(
         return put_front(bytes, at, given);
     }
     let mut sheet = [0u8; MOST_BYTES];
-    let made = text_to_sheet::sheet_of_by_table(table, given, &mut sheet);
-    let Made::Sheet(n) = made else {
-        complain(errors, name, made);
-        return put_front(bytes, at, given);
-    };
-    let some = least(n, MOST_BYTES);
-    put_front(bytes, at, &sheet[0..some])
+    match text_to_sheet::sheet_of_by_table(table, given, &mut sheet) {
+        Ok(n) => put_front(bytes, at, &sheet[0..least(n, MOST_BYTES)]),
+        Err(reason) => {
+            complain(errors, name, reason);
+            put_front(bytes, at, given)
+        }
+    }
 }
 
 // Puts as many bytes as are kept of a file.
@@ -178,9 +178,9 @@ fn put_front(bytes: &mut [u8], at: usize, s: &[u8]) -> usize {
 }
 
 // Says by the file's name why its text has no sheet, as far as it can be said.
-fn complain(errors: &impl Print, name: &[u8], made: Made) {
+fn complain(errors: &impl Print, name: &[u8], reason: NotMade) {
     let mut words = [0u8; TEXT_ROOM];
-    let n = text_message::message(made, &mut words);
+    let n = text_message::message(reason, &mut words);
     let _ = errors.write_all(name);
     let _ = errors.write_all(b": ");
     if n <= words.len() {

@@ -14,7 +14,7 @@ ghost use Rattle.judge_result.specs.Judged.{Judged, JudgedBy};
 ghost use Rattle.judge_ends.specs.Sets.{SetJudged};
 ghost use Rattle.judge_day.specs.Days.{DayJudged};
 ghost use Rattle.c_results.specs.Passed.{returned_of, judgement_of, set_judgement_of, day_judgement_of};
-ghost use Rattle.text_to_sheet.specs.declared.Made.{Made};
+ghost use Rattle.text_to_sheet.specs.Outcome.{Made};
 ghost use Rattle.text_to_sheet.specs.Texts.{MadeAs, MadeByTable};
 ghost use Rattle.text_from_sheet.specs.Shown.{text_ending, text_lent, text_ending_by, text_lent_by};
 ghost use Rattle.text_answer.specs.Answered.{Answered, AnsweredBy};

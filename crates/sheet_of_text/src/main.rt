@@ -4,7 +4,7 @@
 use sheet_format::MOST_BYTES;
 use std::io;
 use text_begins::MOST_TEXT;
-use text_to_sheet::Made;
+use text_to_sheet::NotMade;
 use text_writer::TEXT_ROOM;
 
 // What is read: one byte more than a text may have, so that a longer one is refused.
@@ -18,19 +18,20 @@ fn main(rt: HostRuntime) -> io::Result<()> {
 
 fn print(rt: &impl Print, errors: &impl Print, given: &[u8]) -> io::Result<()> {
     let mut sheet = [0u8; MOST_BYTES];
-    let made = text_to_sheet::sheet_of(given, &mut sheet);
-    let Made::Sheet(n) = made else {
-        return complain(errors, made);
-    };
-    if n <= sheet.len() {
-        rt.write_all(&sheet[0..n])?;
+    match text_to_sheet::sheet_of(given, &mut sheet) {
+        Ok(n) => {
+            if n <= sheet.len() {
+                rt.write_all(&sheet[0..n])?;
+            }
+            Ok(())
+        }
+        Err(reason) => complain(errors, reason),
     }
-    Ok(())
 }
 
-fn complain(errors: &impl Print, made: Made) -> io::Result<()> {
+fn complain(errors: &impl Print, reason: NotMade) -> io::Result<()> {
     let mut words = [0u8; TEXT_ROOM];
-    let n = text_message::message(made, &mut words);
+    let n = text_message::message(reason, &mut words);
     if n <= words.len() {
         errors.write_all(&words[0..n])?;
     }

@@ -6,7 +6,6 @@
 // where the sheet of that text is the same sheet, and "!" where it is not.
 use crate::LINE;
 use sheet_format::MOST_BYTES;
-use text_to_sheet::Made;
 use text_writer::TEXT_ROOM;
 
 // Runs with the bytes that the text stands for.
@@ -44,7 +43,7 @@ fn run_given(given: &[u8], out: &mut [u8], at: usize) -> usize {
 // The sheet of a text, if it has one, and back.
 fn run_sheet(given: &[u8], out: &mut [u8], at: usize) -> usize {
     let mut sheet = [0u8; MOST_BYTES];
-    let Made::Sheet(n) = text_to_sheet::sheet_of(given, &mut sheet) else {
+    let Ok(n) = text_to_sheet::sheet_of(given, &mut sheet) else {
         return at;
     };
     if n <= sheet.len() {
@@ -68,7 +67,7 @@ fn run_back(sheet: &[u8], out: &mut [u8], at: usize) -> usize {
 
 fn run_again(sheet: &[u8], back: &[u8], out: &mut [u8], at: usize) -> usize {
     let mut again = [0u8; MOST_BYTES];
-    let Made::Sheet(n) = text_to_sheet::sheet_of(back, &mut again) else {
+    let Ok(n) = text_to_sheet::sheet_of(back, &mut again) else {
         return text_buffer::put(out, at, b"!\n");
     };
     if n <= again.len() {

@@ -20,8 +20,11 @@ use Rattle.text_begins.specs.Begins.{is_text_bytes}
 use Rattle.text_writer.specs.Texts.{refusal_bytes}
 use Rattle.text_writer.specs.Says.{SaysWords}
 use Rattle.text_to_sheet.specs.Texts.{made_of, sheet_bytes, MadeAs}
-use Rattle.text_to_sheet.specs.declared.Made.{Made}
-use Rattle.text_to_sheet.specs.declared.Made.TheVariants.{Sheet, Expected, Refused}
+use Rattle.std.specs.Prelude.{Err}
+use Rattle.text_to_sheet.specs.Outcome.{Made, made_from_result}
+use Rattle.text_to_sheet.specs.Outcome.Made.{Sheet, Expected, Refused}
+use Rattle.text_to_sheet.specs.declared.NotMade.{NotMade}
+use Rattle.text_to_sheet.specs.declared.NotMade.TheVariants as reason
 use Rattle.text_to_sheet.proofs.Calls.{made_bytes, made-sheet}
 use Rattle.text_message.specs.Message.{message_bytes}
 use Rattle.text_judgement.specs.Verdict.{Verdict}
@@ -40,11 +43,9 @@ module _ (table : Table) (given : List ℕ) (is : is_text_bytes given ≡ true) 
       let b = ap (λ k. take k sheet) z ∙ made_bytes (subst (MadeAs table given lent sheet) e made) in
       replied (subst (λ x. Replied table x given old new r) (sym e) (subst (λ s. Verdict table s old new r) b v))
 
-  pub expected : (l w k : ℕ) → m ≡ Expected l w k → SaysWords (message_bytes m) old new r → Answered table given old new r
-  expected l w k e d = replied (subst (λ x. Replied table x given old new r) (sym e) (subst (λ x. SaysWords (message_bytes x) old new r) e d))
-
-  pub refused : (c l t : ℕ) → m ≡ Refused c l t → SaysWords (message_bytes m) old new r → Answered table given old new r
-  refused c l t e d = replied (subst (λ x. Replied table x given old new r) (sym e) (subst (λ x. SaysWords (message_bytes x) old new r) e d))
+  pub not_made : (x : NotMade) → m ≡ made_from_result (Err x) → SaysWords (message_bytes (made_from_result (Err x))) old new r → Answered table given old new r
+  not_made (reason.Expected l w k) e d = replied (subst (λ x. Replied table x given old new r) (sym e) d)
+  not_made (reason.Refused f t) e d = replied (subst (λ x. Replied table x given old new r) (sym e) d)
 
 -- ---- by a table that was read
 

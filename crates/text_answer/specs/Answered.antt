@@ -7,8 +7,8 @@ use Rattle.text_begins.specs.Begins.{is_text_bytes}
 use Rattle.text_writer.specs.Texts.{refusal_bytes}
 use Rattle.text_writer.specs.Says.{SaysWords}
 use Rattle.text_to_sheet.specs.Texts.{made_of, sheet_bytes}
-use Rattle.text_to_sheet.specs.declared.Made.{Made}
-use Rattle.text_to_sheet.specs.declared.Made.TheVariants.{Sheet, Expected, Refused}
+use Rattle.text_to_sheet.specs.Outcome.{Made}
+use Rattle.text_to_sheet.specs.Outcome.Made.{Sheet, Expected, Refused}
 use Rattle.text_message.specs.Message.{message_bytes}
 use Rattle.text_judgement.specs.Verdict.{Verdict}
 

@@ -9,10 +9,10 @@ ghost use Rattle.text_judgement.specs.Verdict.{Verdict};
 ghost use Rattle.text_answer.specs.Answered.{Answered, AnsweredBy};
 
 use judge_result::LEAST_ROOM;
-use sheet_format::{MOST_BYTES, Refusal, TABLE_NUMBERS};
+use sheet_format::{MOST_BYTES, TABLE_NUMBERS};
 use text_judgement::{columns, put_judgement};
 use text_message::message;
-use text_to_sheet::{Made, sheet_by_numbers};
+use text_to_sheet::{NotMade, sheet_by_numbers};
 use text_writer::TEXT_ROOM;
 
 // Judges a sheet by a table that is right, and says the verdict in words.
@@ -35,27 +35,31 @@ fn reply(table: &[usize; TABLE_NUMBERS], given: &[u8], out: &mut [u8]) -> usize
         return verdict(table, given, out);
     }
     let mut sheet = [0u8; MOST_BYTES];
-    let made = sheet_by_numbers(table, given, &mut sheet);
-    match made {
-        Made::Sheet(n) => verdict(table, &sheet[0..n], out),
-        Made::Expected(_, _, _) => message(made, out),
-        Made::Refused(_, _, _) => message(made, out),
+    match sheet_by_numbers(table, given, &mut sheet) {
+        Ok(n) => verdict(table, &sheet[0..n], out),
+        Err(reason) => message(reason, out),
     }
 }
 
-// Says in words what comes of a sheet or a text by the library's own table.
+/// Says in words what comes of a sheet or a text by the library's own table.
 pub fn answer(given: &[u8], out: &mut [u8]) -> usize
     ensures { Answered ten given.now out.old out.new result }
 {
     reply(&sheet_terms::own_table(), given, out)
 }
 
-// The same by the table of these bytes, which is looked at first.
+/// The same by the table of these bytes, which is looked at first.
 pub fn answer_by_table(table: &[u8], given: &[u8], out: &mut [u8]) -> usize
     ensures { AnsweredBy table.now given.now out.old out.new result }
 {
     match sheet_table::load(table) {
         Ok(numbers) => reply(&numbers, given, out),
-        Err(Refusal { cause, line }) => message(Made::Refused(cause.number(), line, 0), out),
+        Err(refusal) => {
+            let reason = NotMade::Refused {
+                refusal,
+                text_line: 0,
+            };
+            message(reason, out)
+        }
     }
 }

@@ -1,7 +1,7 @@
 // Judgements in words, by a table of relations in plain numbers.
 #![tactic(auto)]
 
-ghost use Rattle.std.specs.Prelude.{◌≡◌, ◌-◌, ◌/◌, min, length};
+ghost use Rattle.std.specs.Prelude.{◌≡◌, ◌-◌, ◌/◌, length};
 ghost use Rattle.sheet_format.specs.Limits.{field_byte_count};
 ghost use Rattle.sheet_format.specs.Table.{table_in};
 ghost use Rattle.sheet_format.specs.Line.{line_at};
@@ -18,21 +18,12 @@ use text_writer::put_terms;
 // The columns of a missing answer, at most.
 const COLUMNS: usize = MOST_HEAD_FIELDS - 1;
 
-fn least(a: usize, b: usize) -> usize
-    ensures { result ≡ min a b }
-{
-    if a < b { a } else { b }
-}
-
-// The columns of the question's head, which is the sheet's first line.
+/// The columns of the question's head, which is the sheet's first line.
 pub fn columns(sheet: &[u8]) -> usize
     ensures { result ≡ length (line_at sheet.now 1) / field_byte_count - 1 }
 {
     let fields = sheet::line(sheet, 1).len() / FIELD_BYTES;
-    if fields < 1 {
-        return 0;
-    }
-    fields - 1
+    fields.saturating_sub(1)
 }
 
 // A value of a missing answer as a word.
@@ -55,7 +46,7 @@ fn put_missing(out: &mut [u8], at: usize, columns: usize, missing: [usize; COLUM
         word(missing[2]),
         word(missing[3]),
     ];
-    let some = least(columns, COLUMNS);
+    let some = columns.min(COLUMNS);
     put_terms(out, at, &row[0..some])
 }
 
@@ -77,7 +68,7 @@ fn put_case(
     put(out, d, b"\n")
 }
 
-// A judgement. `columns` are those of the question, and `facts` begin with the case.
+/// Puts a judgement. `columns` are those of the question, and `facts` begin with the case.
 pub fn put_judgement(
     table: &[usize; TABLE_NUMBERS],
     out: &mut [u8],

@@ -25,7 +25,7 @@ use Rattle.text_meaning.specs.Tokens.{token_kind, is_in_word, joins, word_goes_o
 use Rattle.text_meaning.specs.Names.{token_mark, relation_named}
 use Rattle.text_meaning.specs.Places.{columns_in, next_block, start_at, open_at, term_expected, first_at, closed_by, close_at, colon_at, relation_at, atom_end_at, row_expected, any_rows_at, row_end_at, next_at, step_from, step}
 use Rattle.text_meaning.specs.Reading.{Reading, field_for, grown, read, read_all}
-use Rattle.text_meaning.specs.declared.Control.{Control}
+use Rattle.text_meaning.specs.Control.{Control}
 use Rattle.text_laws.specs.Numbered.{numbered_term, numbered_terms, known_behind}
 use Rattle.text_laws.proofs.Written.{GoOn, digits_in_word, number_shows, far-back, relation-back}
 use Rattle.text_laws.proofs.Terms.{reads, word_on, sign-on, ended, letters, Below, term_kind, term-token}

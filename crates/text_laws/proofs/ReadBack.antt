@@ -23,7 +23,7 @@ use Rattle.text_meaning.specs.Tokens.{token_kind, behind}
 use Rattle.text_meaning.specs.Names.{token_mark}
 use Rattle.text_meaning.specs.Places.{columns_in, next_block, start_at, step_from, step}
 use Rattle.text_meaning.specs.Reading.{Reading, read, read_all, unread}
-use Rattle.text_meaning.specs.declared.Control.{Control}
+use Rattle.text_meaning.specs.Control.{Control}
 use Rattle.text_laws.specs.Named.{Named}
 use Rattle.text_laws.specs.Numbered.{numbered_terms, known_behind, terms_in, known_in, numbered_lines}
 use Rattle.text_laws.proofs.Terms.{reads, letters, Below, terms-below}

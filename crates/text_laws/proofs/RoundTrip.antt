@@ -19,7 +19,7 @@ use Rattle.text_begins.specs.Begins.{most_text}
 use Rattle.text_from_sheet.specs.Shown.{text_of}
 use Rattle.text_from_sheet.proofs.Calls.{text-fits}
 use Rattle.text_to_sheet.specs.Texts.{made_by_writing, made_of, sheet_bytes}
-use Rattle.text_to_sheet.specs.declared.Made.TheVariants as made
+use Rattle.text_to_sheet.specs.Outcome.{Made as made}
 use Rattle.text_meaning.specs.Reading.{reading_of, form_of}
 use Rattle.text_laws.specs.Named.{Named}
 use Rattle.text_laws.specs.Numbered.{numbered_lines, ByFirstPlace}

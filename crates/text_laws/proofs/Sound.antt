@@ -18,8 +18,8 @@ use Rattle.text_meaning.specs.Tokens.{tokens}
 use Rattle.text_meaning.specs.Names.{are_same_bytes, place_in, noted, token_mark}
 use Rattle.text_meaning.specs.Places.{step}
 use Rattle.text_meaning.specs.Reading.{Reading, field_for, grown, lines_in, names_in, reading_after, read, read_all, unread, reading_of, form_of}
-use Rattle.text_meaning.specs.declared.Control.{Control}
-use Rattle.text_meaning.specs.declared.Mark.{Mark}
+use Rattle.text_meaning.specs.Control.{Control}
+use Rattle.text_meaning.specs.Control.{Mark}
 use Rattle.text_meaning.proofs.Bounds.{either, value-few, kind-small}
 
 -- ---- fields that fit

@@ -17,8 +17,8 @@ use Rattle.text_meaning.specs.Names.{token_mark}
 use Rattle.text_meaning.specs.Places.{goes, fails, columns_in, next_block, start_at, comment_at, open_at, term_expected, is_counted, more_at, closed_by, close_at, first_at, row_end_at, next_at, colon_at, relation_at, atom_end_at, row_expected, any_rows_at, step_from, step}
 use Rattle.text_meaning.specs.Tokens.{tokens}
 use Rattle.text_meaning.specs.Reading.{Reading, field_for, names_in, lines_in, grown, read, read_all, unread, reading_of}
-use Rattle.text_meaning.specs.declared.Control.{Control}
-use Rattle.text_meaning.specs.declared.Mark.{Mark}
+use Rattle.text_meaning.specs.Control.{Control}
+use Rattle.text_meaning.specs.Control.{Mark}
 use Rattle.text_meaning.proofs.Bounds.{either}
 
 -- either way of a test, which is known on it

@@ -1,8 +1,8 @@
 -- Why a text has no sheet, in words.
 use Rattle.std.specs.Prelude.{List, [], ℕ}
 use Rattle.text_writer.specs.Texts.{refusal_bytes, expected_bytes}
-use Rattle.text_to_sheet.specs.declared.Made.{Made}
-use Rattle.text_to_sheet.specs.declared.Made.TheVariants.{Sheet, Expected, Refused}
+use Rattle.text_to_sheet.specs.Outcome.{Made}
+use Rattle.text_to_sheet.specs.Outcome.Made.{Sheet, Expected, Refused}
 
 -- nothing where the sheet was made; else what was expected, or the refusal
 abbrev pub message_bytes : Made → List ℕ

@@ -3,7 +3,7 @@
 
 use sheet_format::{MOST_SHEET_BYTES, Refusal};
 use std::io;
-use text_to_sheet::Made;
+use text_to_sheet::NotMade;
 use text_writer::TEXT_ROOM;
 
 // What is read: one byte more than a sheet may have, so that a longer one is refused.
@@ -30,7 +30,11 @@ fn print(rt: &impl Print, errors: &impl Print, given: &[u8]) -> io::Result<()> {
 
 fn complain(errors: &impl Print, refusal: Refusal) -> io::Result<()> {
     let mut words = [0u8; TEXT_ROOM];
-    let n = text_message::message(Made::Refused(refusal.cause.number(), refusal.line, 0), &mut words);
+    let reason = NotMade::Refused {
+        refusal,
+        text_line: 0,
+    };
+    let n = text_message::message(reason, &mut words);
     if n <= words.len() {
         errors.write_all(&words[0..n])?;
     }

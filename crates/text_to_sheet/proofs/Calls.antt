@@ -27,12 +27,13 @@ use Rattle.sheet_own_table.specs.Own.{own_bytes}
 use Rattle.sheet.proofs.ByTable.{refused, taken, own}
 use Rattle.sheet.proofs.Calls.{clean-sheet}
 use Rattle.text_meaning.specs.Reading.{Reading, reading_of, form_of, text_line}
-use Rattle.text_reader.specs.Held.{ReadAs, Stored}
-use Rattle.text_reader.specs.declared.ReadTo.{ReadTo}
+use Rattle.text_meaning.specs.Control.{Control}
+use Rattle.text_reader.specs.Held.{ReadUp, Stored}
+use Rattle.text_reader.specs.declared.Counts.{Counts}
 use Rattle.text_reader.proofs.Lines.{form-length}
 use Rattle.text_to_sheet.specs.Texts.{made_by_writing, made_from, made_of, made_of_by, sheet_bytes, lent_for, MadeAs, MadeByTable, begun_line, Sheets, Written}
-use Rattle.text_to_sheet.specs.declared.Made.{Made}
-use Rattle.text_to_sheet.specs.declared.Made.TheVariants as made
+use Rattle.text_to_sheet.specs.Outcome.{Made}
+use Rattle.text_to_sheet.specs.Outcome.{Made as made}
 
 -- ---- the line of the text
 
@@ -53,26 +54,26 @@ pub too_long : {table : Table} {t out : List ℕ} → most_text < length t → M
 unfolding made_of
 too_long {t} h = record { result = rw (lt-ltb most_text (length t) h); lent = refl }
 
-module _ (table : Table) (t out : List ℕ) (few : length t ≤ most_text) {w : List ℤ} {b : List ℕ} {r : ReadTo} (k : ReadAs t w b r) where
+module _ (table : Table) (t out : List ℕ) (few : length t ≤ most_text) {w : List ℤ} {b : List ℕ} {d : Control} {n : Counts} (k : ReadUp t w b d n) where
   read_made : (m : Made) → m ≡ made_from table (reading_of t) (length out) → m ≡ made_of table t (length out)
   unfolding made_of
   read_made m e = rw (le-ltb most_text (length t) few) e
 
-  pub expected-made : (r.control.expected ≡ 0 → ⊥) → MadeAs table t out out (made.Expected r.counts.line r.control.expected r.control.relation)
+  pub expected-made : (d.expected ≡ 0 → ⊥) → MadeAs table t out out (made.Expected n.line d.expected d.relation)
   expected-made f =
-      let x : eqb (reading_of t).control.expected 0 ≡ eqb r.control.expected 0 = ap (λ c. eqb c.expected 0) k.control in
+      let x : eqb (reading_of t).control.expected 0 ≡ eqb d.expected 0 = ap (λ (c : Control). eqb c.expected 0) k.control in
       record {
-        result = read_made (made.Expected r.counts.line r.control.expected r.control.relation) (rw (x, ne_eqb r.control.expected 0 f, k.line, k.control));
+        result = read_made (made.Expected n.line d.expected d.relation) (rw (x, ne_eqb d.expected 0 f, k.line, k.control));
         lent = refl;
       }
 
-  module _ (f : r.control.expected ≡ 0) where
+  module _ (f : d.expected ≡ 0) where
     fitted : (m : Made) → m ≡ made_by_writing (reading_of t) (write_ending table (form_of (reading_of t)) (length out)) → m ≡ made_of table t (length out)
     fitted m e =
-        let x : eqb (reading_of t).control.expected 0 ≡ eqb r.control.expected 0 = ap (λ c. eqb c.expected 0) k.control in
-        read_made m (rw (x, eq-eqb r.control.expected 0 f) e)
+        let x : eqb (reading_of t).control.expected 0 ≡ eqb d.expected 0 = ap (λ (c : Control). eqb c.expected 0) k.control in
+        read_made m (rw (x, eq-eqb d.expected 0 f) e)
 
-    pub many-made : most_lines < r.counts.lines → MadeAs table t out out (made.Refused 1 0 0)
+    pub many-made : most_lines < n.lines → MadeAs table t out out (made.Refused 1 0 0)
     unfolding write_ending words_refusal form_of
     many-made h =
         let ls = (reading_of t).lines in
@@ -83,24 +84,24 @@ module _ (table : Table) (t out : List ℕ) (few : length t ≤ most_text) {w : 
           lent = refl;
         }
 
-    module _ (h : r.counts.lines ≤ most_lines) where
+    module _ (h : n.lines ≤ most_lines) where
       stored : Stored w b (reading_of t).lines (reading_of t).starts
       stored = let c = k.kept.count in k.kept.stored (omega arith)
 
-      words_are : take (r.counts.lines * 7 - 0) w ≡ form_of (reading_of t)
+      words_are : take (n.lines * 7 - 0) w ≡ form_of (reading_of t)
       unfolding form_of
       words_are =
           let ls = (reading_of t).lines in
           let c = k.kept.count in
           let s = stored in
           let l = form-length ls k.kept.fit in
-          ap (take (r.counts.lines * 7 - 0)) s.form ∙ take_at (form_of (reading_of t)) (replicate (most_words - length ls * 7) (pos 0)) (r.counts.lines * 7 - 0) (omega arith)
+          ap (take (n.lines * 7 - 0)) s.form ∙ take_at (form_of (reading_of t)) (replicate (most_words - length ls * 7) (pos 0)) (n.lines * 7 - 0) (omega arith)
 
       line-is : (l : ℕ) → begun_line b l ≡ text_line (reading_of t) l
       line-is zero = refl
-      line-is (suc n) = let s = stored in ap (λ x. get_or x n 0) s.places ∙ padded_get 0 (reverse (reading_of t).starts) (most_lines - length (reading_of t).lines) n
+      line-is (suc i) = let s = stored in ap (λ x. get_or x i 0) s.places ∙ padded_get 0 (reverse (reading_of t).starts) (most_lines - length (reading_of t).lines) i
 
-      module _ (new : List ℕ) (x : Ending) (e : x ≡ write_ending table (take (r.counts.lines * 7 - 0) w) (length out)) (y : new ≡ write_bytes table (take (r.counts.lines * 7 - 0) w) out) where
+      module _ (new : List ℕ) (x : Ending) (e : x ≡ write_ending table (take (n.lines * 7 - 0) w) (length out)) (y : new ≡ write_bytes table (take (n.lines * 7 - 0) w) out) where
         ends : x ≡ write_ending table (form_of (reading_of t)) (length out)
         ends = e ∙ ap (λ ws. write_ending table ws (length out)) words_are
 
@@ -108,16 +109,16 @@ module _ (table : Table) (t out : List ℕ) (few : length t ≤ most_text) {w : 
         unfolding write_bytes sheet_bytes
         bytes = y ∙ ap (λ ws. lent_by (write_ending table ws (length out)) (bytes_of (word_lines ws)) out) words_are ∙ ap (λ z. lent_by z (sheet_bytes t) out) (sym ends)
 
-        pub sheet-made : (n : ℕ) → x ≡ Done n → MadeAs table t out new (made.Sheet n)
-        sheet-made n d = record {
-          result = fitted (made.Sheet n) (ap (made_by_writing (reading_of t)) (sym d ∙ ends));
-          lent = bytes ∙ ap (λ z. lent_by z (sheet_bytes t) out) d;
+        pub sheet-made : (j : ℕ) → x ≡ Done j → MadeAs table t out new (made.Sheet j)
+        sheet-made j q = record {
+          result = fitted (made.Sheet j) (ap (made_by_writing (reading_of t)) (sym q ∙ ends));
+          lent = bytes ∙ ap (λ z. lent_by z (sheet_bytes t) out) q;
         }
 
         pub refused-made : (c l v : ℕ) → x ≡ Refused c l → v ≡ begun_line b l → MadeAs table t out new (made.Refused c l v)
-        refused-made c l v d i = record {
-          result = fitted (made.Refused c l v) (ap (λ z. made.Refused c l z) (i ∙ line-is l) ∙ ap (made_by_writing (reading_of t)) (sym d ∙ ends));
-          lent = bytes ∙ ap (λ z. lent_by z (sheet_bytes t) out) d;
+        refused-made c l v q i = record {
+          result = fitted (made.Refused c l v) (ap (λ z. made.Refused c l z) (i ∙ line-is l) ∙ ap (made_by_writing (reading_of t)) (sym q ∙ ends));
+          lent = bytes ∙ ap (λ z. lent_by z (sheet_bytes t) out) q;
         }
 
 -- ---- a sheet that is made

@@ -10,8 +10,8 @@ use Rattle.sheet_table.specs.Tables.{table_refusal, table_of}
 use Rattle.sheet.specs.ByTable.{if_refused}
 use Rattle.text_begins.specs.Begins.{most_text}
 use Rattle.text_meaning.specs.Reading.{Reading, reading_of, form_of, text_line}
-use Rattle.text_to_sheet.specs.declared.Made.{Made}
-use Rattle.text_to_sheet.specs.declared.Made.TheVariants as made
+use Rattle.text_to_sheet.specs.Outcome.{Made}
+use Rattle.text_to_sheet.specs.Outcome.{Made as made}
 
 -- ---- what comes of a text
 

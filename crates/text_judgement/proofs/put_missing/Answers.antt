@@ -10,7 +10,7 @@ pub returns : goal.returns
 returns c =
     said
     (ap terms_bytes
-    (some-values c.args.columns c.least-some.result c.args.missing (search rules) c.least-some.ensures
+    (some-values c.args.columns c.min-some.result c.args.missing (search rules) c.min-some.ensures
     (back {w = w32} (record { sfits = c.word.type_inv }) ∙ c.word.ensures)
     (back {w = w32} (record { sfits = c.word-2.type_inv }) ∙ c.word-2.ensures)
     (back {w = w32} (record { sfits = c.word-3.type_inv }) ∙ c.word-3.ensures)

@@ -1,27 +1,28 @@
-use mathlib.Core.Path.{ap}
-use borrow.Author.Rules.{rules}
+use mathlib.Core.Path.{refl, ap}
 use Rattle.sheet_format.specs.Returns.{cause_number, ending_of}
 use Rattle.sheet_format.specs.Table.{table_in}
+use Rattle.text_meaning.proofs.Numbers.{expected-some}
 use Rattle.text_to_sheet.proofs.Calls.{too_long, expected-made, many-made, sheet-made, refused-made}
 use Rattle.text_to_sheet.proofs.sheet_by_numbers.Goals as goal
 
 pub returns-then-text-gt-MOST_TEXT : goal.returns-then-text-gt-MOST_TEXT
 returns-then-text-gt-MOST_TEXT c = too_long c.if-text-gt-MOST_TEXT.true
 
-pub returns-then-c-ne0 : goal.returns-then-c-ne0
-returns-then-c-ne0 c = let a = c.args in
-    expected-made (table_in a.table.now) a.text.now a.out.now c.if-text-gt-MOST_TEXT.false c.run-reached.ensures c.if-c-ne0.true
+pub returns-in-Err : goal.returns-in-Err
+returns-in-Err c = let a = c.args in
+    expected-made (table_in a.table.now) a.text.now a.out.now c.if-text-gt-MOST_TEXT.false c.in-Err.ensures (expected-some c.in-Err.misfit.what)
 
 pub returns-then-lines-gt-MOST_LINES : goal.returns-then-lines-gt-MOST_LINES
 returns-then-lines-gt-MOST_LINES c = let a = c.args in
-    many-made (table_in a.table.now) a.text.now a.out.now c.if-text-gt-MOST_TEXT.false c.run-reached.ensures c.if-c-ne0.false c.if-lines-gt-MOST_LINES.true
+    many-made (table_in a.table.now) a.text.now a.out.now c.if-text-gt-MOST_TEXT.false c.in-Ok.ensures refl c.if-lines-gt-MOST_LINES.true
 
-pub returns-in-Ok : goal.returns-in-Ok
-returns-in-Ok c = let w = c.write in
+pub returns-in-Ok-2 : goal.returns-in-Ok-2
+returns-in-Ok-2 c = let w = c.write in
     let a = c.args in
-    sheet-made (table_in a.table.now) a.text.now a.out.now c.if-text-gt-MOST_TEXT.false c.run-reached.ensures c.if-c-ne0.false c.if-lines-gt-MOST_LINES.false w.new.out (ending_of w.result) w.ensures.0 w.ensures.1 c.in-Ok.n (ap ending_of c.in-Ok.is)
+    sheet-made (table_in a.table.now) a.text.now a.out.now c.if-text-gt-MOST_TEXT.false c.in-Ok.ensures refl c.if-lines-gt-MOST_LINES.false w.new.out (ending_of w.result) w.ensures.0 w.ensures.1 c.in-Ok-2.n (ap ending_of c.in-Ok-2.is)
 
-pub returns-in-Err : goal.returns-in-Err
-returns-in-Err c = let w = c.write in
+pub returns-in-Err-2 : goal.returns-in-Err-2
+returns-in-Err-2 c = let w = c.write in
     let a = c.args in
-    refused-made (table_in a.table.now) a.text.now a.out.now c.if-text-gt-MOST_TEXT.false c.run-reached.ensures c.if-c-ne0.false c.if-lines-gt-MOST_LINES.false w.new.out (ending_of w.result) w.ensures.0 w.ensures.1 (cause_number c.in-Err.cause) c.in-Err.line c.text_line.result (ap ending_of c.in-Err.is) c.text_line.ensures
+    let r = c.in-Err-2.refusal in
+    refused-made (table_in a.table.now) a.text.now a.out.now c.if-text-gt-MOST_TEXT.false c.in-Ok.ensures refl c.if-lines-gt-MOST_LINES.false w.new.out (ending_of w.result) w.ensures.0 w.ensures.1 (cause_number r.cause) r.line c.text_line.result (ap ending_of c.in-Err-2.is) c.text_line.ensures

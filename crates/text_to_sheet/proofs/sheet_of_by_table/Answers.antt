@@ -9,8 +9,8 @@ use Rattle.text_to_sheet.proofs.sheet_of_by_table.Goals as goal
 pub returns-in-Ok : goal.returns-in-Ok
 returns-in-Ok c = let made = c.sheet_by_numbers in
     let a = c.args in
-    table_taken a.table.now (loaded_of (Ok c.in-Ok.numbers)) (subst (λ t. Loads a.table.now (loaded_of t)) c.in-Ok.is c.load.ensures) a.text.now a.out.now refl made.new.out made.result made.ensures
+    table_taken a.table.now (loaded_of (Ok c.in-Ok.numbers)) (subst (λ t. Loads a.table.now (loaded_of t)) c.in-Ok.is c.load.ensures) a.text.now a.out.now refl made.new.out _ made.ensures
 
 pub returns-in-Err : goal.returns-in-Err
 returns-in-Err c = let a = c.args in
-    let h = table-refused a.table.now (loaded_of (Err (record { cause = c.in-Err.cause; line = c.in-Err.line }))) (subst (λ t. Loads a.table.now (loaded_of t)) c.in-Err.is c.load.ensures) a.text.now a.out.now (named c.in-Err.cause) in search rules
+    table-refused a.table.now (loaded_of (Err c.in-Err.refusal)) (subst (λ t. Loads a.table.now (loaded_of t)) c.in-Err.is c.load.ensures) a.text.now a.out.now (named c.in-Err.refusal.cause)
