@@ -14,8 +14,8 @@ ghost use Rattle.search_node.specs.Node.{Wordly, OpenState};
 ghost use Rattle.search_step.specs.Run.{Remembers, SearchBegun, FoundOrLost, Advanced, Behind, LookedInto, LearntAhead, JudgedState, LookedBy, FoundBy};
 ghost use Rattle.search_task.specs.declared.Goal.{Goal};
 
-use search_advice::STAND;
-use search_board::{Advice, BITS, BOARD, ROW_FAILS};
+use search_advice::Standing;
+use search_board::{Advice, Board};
 use search_node::NODE_NUMBERS;
 use search_nogoods::{MEMORY_NUMBERS, MEMORY_WORDS};
 use search_slots::SET_WORDS;
@@ -34,12 +34,11 @@ fn go_back(
     p: &[usize; PLAN_NUMBERS],
     ws: &[usize; SLOTS],
     goal: Goal,
-    stand: &[u64; STAND],
-    bd: &mut [u32; BOARD],
-    bits: &mut [u64; BITS],
+    stand: &Standing,
+    board: &mut Board,
 ) {
-    search_advice::failed(bd);
-    search_advice::back(p, ws, search_task::start(p, goal), stand, bd, bits);
+    search_advice::failed(board);
+    search_advice::back(board, p, ws, search_task::start(p, goal), stand);
 }
 
 // Goes on to the next alternative. The one of the turn before i, if there is one, has failed by the slots `below`: it is taken back. Then i is the turn
@@ -50,13 +49,12 @@ fn advance(
     goal: Goal,
     node: &[usize; NODE_NUMBERS],
     i: &mut usize,
-    stand: &[u64; STAND],
+    stand: &Standing,
     below: &mut [u64; SET_WORDS],
     set: &mut [u64; SET_WORDS],
     sl: &mut [usize; MEMORY_NUMBERS],
     sm: &mut [u64; MEMORY_WORDS],
-    bd: &mut [u32; BOARD],
-    bits: &mut [u64; BITS],
+    board: &mut Board,
 )
     requires { (length below.old ≡ set_words) × (length sl.old ≡ memory_numbers) × (length sm.old ≡ memory_words) }
     ensures advanced { (x : Sheet) → ReadyPlan p.now x → (old : List ℕ) → Wordly x (sheet_by goal x) old → Behind p.now x (Good (sheet_by goal x)) old set.old node.now i.old ws.old below.old sl.old sm.old → Advanced p.now x (Good (sheet_by goal x)) old set.new node.now i.new ws.new sl.new sm.new }
@@ -70,7 +68,7 @@ fn advance(
     }
     let k = search_step::turn(search_node::alternatives(p, node), from - 1);
     let jump = search_step::leave(p, ws, node, k, below, set, sl, sm);
-    go_back(p, ws, goal, stand, bd, bits);
+    go_back(p, ws, goal, stand, board);
     if jump {
         *i = 0;
         return;
@@ -127,6 +125,7 @@ fn learn_ahead(
     ws: &mut [usize; SLOTS],
     goal: Goal,
     a: Advice,
+    k: usize,
     why: Advice,
     set: &mut [u64; SET_WORDS],
     sl: &mut [usize; MEMORY_NUMBERS],
@@ -140,7 +139,6 @@ fn learn_ahead(
     if !search_node::show_node(p, ws, goal, a, set, &mut node) {
         return false;
     }
-    let k = a.hint as usize;
     if search_node::alternatives(p, &node) <= k {
         return false;
     }
@@ -167,8 +165,7 @@ fn judge_state(
     set: &mut [u64; SET_WORDS],
     sl: &mut [usize; MEMORY_NUMBERS],
     sm: &mut [u64; MEMORY_WORDS],
-    bd: &mut [u32; BOARD],
-    bits: &mut [u64; BITS],
+    board: &mut Board,
     node: &mut [usize; NODE_NUMBERS],
     out: &mut [usize; SLOTS],
 ) -> bool
@@ -178,21 +175,21 @@ fn judge_state(
 {
     let asked = search_task::asks(goal);
     let from = search_task::start(p, goal);
-    let mut a = search_advice::advise(p, ws, asked, from, sl, bd, bits);
+    let mut a = search_advice::advise(board, p, ws, asked, from, sl);
     let mut left = LESSONS;
     while 0 < left {
         left -= 1;
-        if a.kind != ROW_FAILS {
-            return search_node::judge_by(p, ws, goal, a, set, bd, bits, node, out);
-        }
-        let why = search_advice::reason(bd);
-        if learn_ahead(p, ws, goal, a, why, set, sl, sm) {
+        let Advice::RowFails { row, .. } = a else {
+            return search_node::judge_by(p, ws, goal, a, set, board, node, out);
+        };
+        let why = search_advice::reason(board);
+        if learn_ahead(p, ws, goal, a, usize::from(row), why, set, sl, sm) {
             search_node::refute(node);
             return false;
         }
-        a = search_advice::advise_on(p, ws, asked, sl, bd, bits);
+        a = search_advice::advise_on(board, p, ws, asked, sl);
     }
-    search_node::judge_by(p, ws, goal, a, set, bd, bits, node, out)
+    search_node::judge_by(p, ws, goal, a, set, board, node, out)
 }
 
 // Looks for a good state below the words, where one of a node's alternatives has to hold, at most so many steps deep. True: its values stand in `out`.
@@ -207,8 +204,7 @@ fn seek(
     set: &mut [u64; SET_WORDS],
     sl: &mut [usize; MEMORY_NUMBERS],
     sm: &mut [u64; MEMORY_WORDS],
-    bd: &mut [u32; BOARD],
-    bits: &mut [u64; BITS],
+    board: &mut Board,
     out: &mut [usize; SLOTS],
 ) -> bool
     requires { (length ws.old ≡ slot_end) × (length sl.old ≡ memory_numbers) × (length sm.old ≡ memory_words) × (length out.old ≡ slot_end) × (length set.old ≡ set_words) }
@@ -218,15 +214,15 @@ fn seek(
     if left == 0 {
         return false;
     }
-    let stand = search_advice::standing(bd, bits);
+    let stand = search_advice::standing_of(board);
     let mut below = search_slots::none();
     let mut child = [0; NODE_NUMBERS];
     let mut i = 0;
     advance(
-        p, ws, goal, node, &mut i, &stand, &mut below, set, sl, sm, bd, bits,
+        p, ws, goal, node, &mut i, &stand, &mut below, set, sl, sm, board,
     );
     while 0 < i {
-        if judge_state(p, ws, goal, &mut below, sl, sm, bd, bits, &mut child, out) {
+        if judge_state(p, ws, goal, &mut below, sl, sm, board, &mut child, out) {
             return true;
         }
         if seek(
@@ -238,14 +234,13 @@ fn seek(
             &mut below,
             sl,
             sm,
-            bd,
-            bits,
+            board,
             out,
         ) {
             return true;
         }
         advance(
-            p, ws, goal, node, &mut i, &stand, &mut below, set, sl, sm, bd, bits,
+            p, ws, goal, node, &mut i, &stand, &mut below, set, sl, sm, board,
         );
     }
     false
@@ -264,18 +259,17 @@ fn look(
 {
     let mut sl = [0; MEMORY_NUMBERS];
     let mut sm = [0u64; MEMORY_WORDS];
-    let mut bd = [0u32; BOARD];
-    let mut bits = [0u64; BITS];
+    let mut board = Board::new();
     let mut node = [0; NODE_NUMBERS];
     let mut set = search_slots::none();
-    search_advice::begin(p, search_task::start(p, goal), &mut bd, &mut bits);
+    search_advice::begin(&mut board, p, search_task::start(p, goal));
     if judge_state(
-        p, ws, goal, &mut set, &mut sl, &mut sm, &mut bd, &mut bits, &mut node, out,
+        p, ws, goal, &mut set, &mut sl, &mut sm, &mut board, &mut node, out,
     ) {
         return true;
     }
     seek(
-        p, ws, goal, &node, DEPTH, &mut set, &mut sl, &mut sm, &mut bd, &mut bits, out,
+        p, ws, goal, &node, DEPTH, &mut set, &mut sl, &mut sm, &mut board, out,
     )
 }
 

@@ -23,7 +23,7 @@ ghost use Rattle.search_node.specs.Node.{Standing, Wordly, WordOf, TermAt, Table
 ghost use Rattle.search_task.specs.declared.Goal.{Goal};
 
 use query_layout::{COLUMNS, FACT_NUMBERS, MADE_UP};
-use search_board::{Advice, BITS, BOARD, KEY_BROKEN, LIST_GIVEN, NOTHING};
+use search_board::{Advice, Board, list_block};
 use search_keys::Clash;
 use search_slots::SET_WORDS;
 use search_task::Goal;
@@ -496,15 +496,14 @@ fn is_resolved(
     p: &[usize; PLAN_NUMBERS],
     ws: &[usize; SLOTS],
     goal: Goal,
-    bd: &[u32; BOARD],
-    bits: &[u64; BITS],
+    board: &Board,
     out: &mut [usize; SLOTS],
 ) -> bool
     ensures state_found { (x : Sheet) → ReadyPlan p.now x → Wordly x (sheet_by goal x) ws.now → length out.old ≡ slot_end → result ≡ true → StateFound x (sheet_by goal x) out.new }
     ensures out_len_unchanged { length out.new ≡ length out.old }
 {
     let mut values = [0usize; SLOTS];
-    search_fold::resolve(p, ws, bd, bits, &mut values);
+    search_fold::resolve(board, p, ws, &mut values);
     if !take_values(p, ws, &values, out) {
         return false;
     }
@@ -569,14 +568,24 @@ pub fn show_node(
     ensures set_len_unchanged { length set.new ≡ length set.old }
 {
     search_slots::clear(set);
-    let at = a.at;
-    if a.kind == LIST_GIVEN {
-        return list_node(p, ws, goal, a.block, &at, set, node);
+    match a {
+        Advice::Nothing => false,
+        Advice::ListGiven { list, at } => {
+            let atoms = at.map(|i| usize::from(i));
+            list_node(p, ws, goal, list_block(list), &atoms, set, node)
+        }
+        Advice::RowGiven { kept, first } => {
+            let atoms = kept.atoms();
+            view_node(p, ws, goal, kept.block(), &atoms, first.digits(), set, node)
+        }
+        Advice::RowFails { kept, row } => {
+            let atoms = kept.atoms();
+            view_node(p, ws, goal, kept.block(), &atoms, u64::from(row), set, node)
+        }
+        Advice::KeyBroken(i, k) => {
+            clash_node(p, ws, goal, usize::from(i), usize::from(k), set, node)
+        }
     }
-    if a.kind == KEY_BROKEN {
-        return clash_node(p, ws, goal, at[0], at[1], set, node);
-    }
-    view_node(p, ws, goal, a.block, &at, a.hint, set, node)
 }
 
 // The state where nothing is said to be left.
@@ -584,8 +593,7 @@ fn by_values(
     p: &[usize; PLAN_NUMBERS],
     ws: &[usize; SLOTS],
     goal: Goal,
-    bd: &[u32; BOARD],
-    bits: &[u64; BITS],
+    board: &Board,
     set: &mut [u64; SET_WORDS],
     node: &mut [usize; NODE_NUMBERS],
     out: &mut [usize; SLOTS],
@@ -593,7 +601,7 @@ fn by_values(
     ensures node_by { (x : Sheet) → ReadyPlan p.now x → Wordly x (sheet_by goal x) ws.now → length out.old ≡ slot_end → NodeBy result p.now x (sheet_by goal x) ws.now set.new node.new out.new }
     ensures set_len_unchanged { (length set.new ≡ length set.old) × (length out.new ≡ length out.old) }
 {
-    if is_resolved(p, ws, goal, bd, bits, out) {
+    if is_resolved(p, ws, goal, board, out) {
         return true;
     }
     by_walk(p, ws, goal, set, node, out)
@@ -607,16 +615,15 @@ pub fn judge_by(
     goal: Goal,
     a: Advice,
     set: &mut [u64; SET_WORDS],
-    bd: &[u32; BOARD],
-    bits: &[u64; BITS],
+    board: &Board,
     node: &mut [usize; NODE_NUMBERS],
     out: &mut [usize; SLOTS],
 ) -> bool
     ensures node_by { (x : Sheet) → ReadyPlan p.now x → Wordly x (sheet_by goal x) ws.now → length out.old ≡ slot_end → NodeBy result p.now x (sheet_by goal x) ws.now set.new node.new out.new }
     ensures set_len_unchanged { (length set.new ≡ length set.old) × (length out.new ≡ length out.old) }
 {
-    if a.kind == NOTHING {
-        return by_values(p, ws, goal, bd, bits, set, node, out);
+    if a == Advice::Nothing {
+        return by_values(p, ws, goal, board, set, node, out);
     }
     if show_node(p, ws, goal, a, set, node) {
         return false;

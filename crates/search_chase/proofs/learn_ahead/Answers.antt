@@ -12,7 +12,7 @@ returns-then-not-take-clause-learnt_ahead c = let a = c.args in
     let t = c.take in
     let s = c.show_node in
     let node = s.new.node in
-    let k = a.a.hint in λ x r w m.
+    let k = a.k in λ x r w m.
     let many = c.alternatives.ensures.exact (many-few node a.p.now r.plan.rows_few) in
     let few = c.alternatives.ensures.limited in
     let in-many = c.if-alternatives-k.false in
@@ -30,7 +30,7 @@ returns-then-is_ended-clause-learnt_ahead c = let d = c.leave in
     let s = c.show_node in
     let node = s.new.node in
     let set = s.new.set in
-    let k = a.a.hint in
+    let k = a.k in
     let on = not-false t.result c.if-not-take.false-raw in λ x r w m.
     let many = c.alternatives.ensures.exact (many-few node a.p.now r.plan.rows_few) in
     let few = c.alternatives.ensures.limited in
@@ -53,7 +53,7 @@ returns-clause-learnt_ahead c = let u = c.untake in
     let s = c.show_node in
     let node = s.new.node in
     let set = s.new.set in
-    let k = a.a.hint in
+    let k = a.k in
     let on = not-false t.result c.if-not-take.false-raw in λ x r w m.
     let many = c.alternatives.ensures.exact (many-few node a.p.now r.plan.rows_few) in
     let few = c.alternatives.ensures.limited in
