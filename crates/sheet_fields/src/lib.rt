@@ -15,13 +15,10 @@ fn digit(neg: bool, v: usize, b: u8) -> Digits
     requires { v < field_end }
     ensures { result ≡ digit neg v b }
 {
-    if b < 48 {
+    if b < b'0' || b'9' < b {
         return Digits::Broken;
     }
-    if 57 < b {
-        return Digits::Broken;
-    }
-    Digits::Run(neg, v * 10 + (b as usize - 48))
+    Digits::Run(neg, v * 10 + usize::from(b - b'0'))
 }
 
 // One byte more.
@@ -29,29 +26,13 @@ fn byte(d: Digits, b: u8) -> Digits
     requires { DigitsBelow field_end d }
     ensures { result ≡ byte d b }
 {
-    match d {
-        Digits::Blank => {
-            if b == 32 {
-                return Digits::Blank;
-            }
-            if b == 45 {
-                return Digits::Minus;
-            }
-            digit(false, 0, b)
-        }
-        Digits::Minus => {
-            if b == 48 {
-                return Digits::Broken;
-            }
-            digit(true, 0, b)
-        }
-        Digits::Run(neg, v) => {
-            if v == 0 {
-                return Digits::Broken;
-            }
-            digit(neg, v, b)
-        }
-        Digits::Broken => Digits::Broken,
+    match (d, b) {
+        (Digits::Blank, b' ') => Digits::Blank,
+        (Digits::Blank, b'-') => Digits::Minus,
+        (Digits::Blank, _) => digit(false, 0, b),
+        (Digits::Minus, b'0') | (Digits::Run(_, 0), _) | (Digits::Broken, _) => Digits::Broken,
+        (Digits::Minus, _) => digit(true, 0, b),
+        (Digits::Run(neg, v), _) => digit(neg, v, b),
     }
 }
 
@@ -74,10 +55,7 @@ fn signed(neg: bool, v: usize) -> i32
     requires { v < field_end }
     ensures { result ≡ signed neg v }
 {
-    if neg {
-        return -(v as i32);
-    }
-    v as i32
+    if neg { -(v as i32) } else { v as i32 }
 }
 
 // What the bytes came to.
@@ -107,10 +85,8 @@ fn sign(b: [u8; 8], k: usize, neg: bool) -> [u8; 8]
     ensures { result ≡ lead k neg ++ drop k b }
 {
     let mut r = b;
-    if neg {
-        if 0 < k {
-            r[k - 1] = 45;
-        }
+    if neg && 0 < k {
+        r[k - 1] = b'-';
     }
     r
 }
@@ -137,18 +113,12 @@ fn decimal(neg: bool, n: usize) -> [u8; 8]
 fn magnitude(z: i32) -> usize
     ensures { result ≡ nat_abs z }
 {
-    if z < 0 {
-        return (-(z + 1)) as usize + 1;
-    }
-    z as usize
+    z.unsigned_abs() as usize
 }
 
-// A number's eight bytes.
+/// A number's eight bytes: blanks, the sign of one below 0, its digits.
 pub fn field_bytes(z: i32) -> [u8; 8]
     ensures { result ≡ field_bytes z }
 {
-    if z < 0 {
-        return decimal(true, magnitude(z));
-    }
-    decimal(false, magnitude(z))
+    decimal(z < 0, magnitude(z))
 }

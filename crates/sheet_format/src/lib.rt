@@ -4,83 +4,99 @@
 ghost use Rattle.std.specs.Prelude.{◌≡◌};
 ghost use Rattle.sheet_format.specs.Returns.{cause_number};
 
-// A sheet's bytes, at most.
+/// A sheet's bytes, at most.
 pub const MOST_SHEET_BYTES: usize = 8192;
 
-// The number form's words, at most, and the room that reading wants.
+/// The number form's words, at most, and the room that reading wants.
 pub const MOST_WORDS: usize = 749;
 
-// The room that writing wants.
+/// The bytes that writing wants lent.
 pub const MOST_BYTES: usize = 5243;
 
-// The bytes of a field, and the words of a line: the field count, then the fields.
+/// The bytes of a field.
 pub const FIELD_BYTES: usize = 8;
 
+/// The words of a line in the number form: the field count, then the fields, unused ones 0.
 pub const LINE_WORDS: usize = 7;
 
+/// The most fields of a line.
 pub const MOST_FIELDS: usize = 6;
 
-// What fits a field lies between these: a minus and seven digits, or eight digits.
+/// What fits a field is above this, a minus and seven digits,
 pub const FIELD_MINUS_END: i32 = -10_000_000;
 
+/// and below this, eight digits.
 pub const FIELD_END: i32 = 100_000_000;
 
-// The most fields of a head or a row, and the least of an atom.
+/// The most fields of a head or a row.
 pub const MOST_HEAD_FIELDS: usize = 5;
 
+/// The least fields of an atom.
 pub const LEAST_ATOM_FIELDS: usize = 3;
 
-// Constants are 0 and up, below this; variables are -1 down to minus VARIABLES.
+/// Constants are 0 and up, below this.
 pub const CONSTANT_END: i32 = 10_000_000;
 
+/// Variables are -1 down to minus this.
 pub const VARIABLES: i32 = 12;
 
-// The library's own relations.
+/// How many relations the library's own table has.
 pub const OWN_RELATIONS: usize = 10;
 
-// The most atoms of the question or a list, and of a view; the most lists; the most views; the most rows, of all views together.
+/// The most atoms of the question or a list.
 pub const MOST_ATOMS: usize = 6;
 
+/// The most atoms of a view.
 pub const MOST_VIEW_ATOMS: usize = 3;
 
+/// The most lists.
 pub const MOST_LISTS: usize = 4;
 
+/// The most views.
 pub const MOST_VIEWS: usize = 8;
 
+/// The most rows, of all views together.
 pub const MOST_ROWS: usize = 40;
 
-// The most lines of a table of relations, the fields of each, and the most columns of a relation.
+/// The most lines of a table of relations.
 pub const MOST_RELATIONS: usize = 32;
 
+/// The fields of each of them: number, columns, key, parent.
 pub const TABLE_FIELDS: usize = 4;
 
+/// The most columns of a relation.
 pub const MOST_COLUMNS: usize = 4;
 
-// A relation as plain numbers: its columns, key and parent; and those of a table.
+/// A relation as plain numbers: its columns, key and parent.
 pub const RELATION_NUMBERS: usize = 3;
 
+/// The plain numbers of a table, 0 past its last relation.
 pub const TABLE_NUMBERS: usize = MOST_RELATIONS * RELATION_NUMBERS;
 
-// The library's own table: Rower, Strap, Worn, Sig, Beat, Noise, Pulse, Coach, Seat, Pause. In a log that counts, rows alike in a relation's key are alike in all
-// columns, and a relation's parent has each of its rows: a strap has one rower in a session and one rate at a tick, and beats and noise are signals.
+/// The library's own table: Rower, Strap, Worn, Sig, Beat, Noise, Pulse, Coach, Seat, Pause. In a log that counts, rows alike in a relation's key are alike in all
+/// columns, and a relation's parent has each of its rows: a strap has one rower in a session and one rate at a tick, and beats and noise are signals.
 pub const OWN_TABLE: [usize; TABLE_NUMBERS] = [
     2, 0, 0, 1, 0, 0, 3, 2, 0, 2, 0, 0, 2, 0, 4, 2, 0, 4, 3, 2, 0, 2, 0, 0, 4, 0, 0, 1, 0, 0, 0, 0,
     0, 0, 0, 0, 0, 0, 0, 0, 0, 0, 0, 0, 0, 0, 0, 0, 0, 0, 0, 0, 0, 0, 0, 0, 0, 0, 0, 0, 0, 0, 0, 0,
     0, 0, 0, 0, 0, 0, 0, 0, 0, 0, 0, 0, 0, 0, 0, 0, 0, 0, 0, 0, 0, 0, 0, 0, 0, 0, 0, 0, 0, 0, 0, 0,
 ];
 
-// The lines of an accepted sheet, at most: this follows from the limits above.
+/// The lines of an accepted sheet, at most: this follows from the limits above.
 pub const MOST_LINES: usize = 107;
 
-// The kinds of a line, and of a block by its head, as words have them: the numbers of `Kind`.
+/// The kinds of a line, and of a block by its head, as words have them: the numbers of `Kind`.
 pub const QUESTION_KIND: usize = 1;
 
+/// A list's head.
 pub const SAVED_KIND: usize = 2;
 
+/// A view's head.
 pub const VIEW_KIND: usize = 3;
 
+/// An atom.
 pub const ATOM_KIND: usize = 4;
 
+/// A listed row.
 pub const ROW_KIND: usize = 5;
 
 /// The kind of a line, and of a block by its head.

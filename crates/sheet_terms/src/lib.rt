@@ -38,10 +38,7 @@ fn number_in(table: &[usize], n: usize, j: usize) -> usize
         return 0;
     }
     let at = n * RELATION_NUMBERS;
-    if table.len() <= at {
-        return 0;
-    }
-    if table.len() - at <= j {
+    if table.len() <= at || table.len() - at <= j {
         return 0;
     }
     table[at + j]
@@ -51,13 +48,10 @@ fn number_in(table: &[usize], n: usize, j: usize) -> usize
 fn cut(n: usize) -> usize
     ensures { result ≡ min most_columns n }
 {
-    if MOST_COLUMNS < n {
-        return MOST_COLUMNS;
-    }
-    n
+    n.min(MOST_COLUMNS)
 }
 
-// The columns of a relation in a table, 0 where there is no such relation.
+/// The columns of a relation in a table, 0 where there is no such relation.
 pub fn columns(table: &[usize], relation: i32) -> usize
     ensures { result ≡ columns_of (table_in table.now) relation }
 {
@@ -68,7 +62,7 @@ pub fn columns(table: &[usize], relation: i32) -> usize
     cut(number_in(table, n - 1, 0))
 }
 
-// How many of a relation's columns settle the others, 0 where it has no key.
+/// How many of a relation's columns settle the others, 0 where it has no key.
 pub fn key(table: &[usize], number: usize) -> usize
     ensures { (result ≡ (relation (table_in table.now) number).key) × (result ≤ most_columns) }
 {
@@ -78,7 +72,7 @@ pub fn key(table: &[usize], number: usize) -> usize
     cut(number_in(table, number - 1, 1))
 }
 
-// The relation that has each row of a relation, 0 where there is none.
+/// The relation that has each row of a relation, 0 where there is none.
 pub fn parent(table: &[usize], number: usize) -> usize
     ensures { result ≡ (relation (table_in table.now) number).parent }
 {
@@ -88,19 +82,16 @@ pub fn parent(table: &[usize], number: usize) -> usize
     number_in(table, number - 1, 2)
 }
 
-// The library's own table in plain numbers.
+/// The library's own table in plain numbers.
 pub fn own_table() -> [usize; TABLE_NUMBERS]
     ensures { table_in result ≡ ten }
 {
     OWN_TABLE
 }
 
-// A word as a plain number; a negative one as 0.
+/// A word as a plain number; a negative one as 0.
 pub fn number(word: i32) -> usize
     ensures { result ≡ natural word }
 {
-    if word < 0 {
-        return 0;
-    }
-    word as usize
+    word.max(0) as usize
 }
