@@ -47,11 +47,7 @@ fn copy(bytes: &[u8], out: &mut [u8])
     requires { length bytes.now ≤ length out.old }
     ensures { Wrote out.old out.new 0 (length bytes.now) bytes.now }
 {
-    let mut i = 0;
-    while i < bytes.len() {
-        out[i] = bytes[i];
-        i += 1;
-    }
+    out[..bytes.len()].copy_from_slice(bytes);
 }
 
 /// The bytes of the library's own table in the lent bytes: how many they are.

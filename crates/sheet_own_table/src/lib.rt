@@ -13,6 +13,7 @@ const LINE_END: usize = TABLE_FIELDS * FIELD_BYTES;
 
 const LINE_BYTES: usize = LINE_END + 1;
 
+/// The own table's bytes, a line for each relation.
 pub const OWN_TABLE_BYTES: usize = OWN_RELATIONS * LINE_BYTES;
 
 // A field of the line at a place, both from 0.
@@ -36,21 +37,19 @@ fn own_byte(i: usize) -> u8
 {
     let k = i % LINE_BYTES;
     if k == LINE_END {
-        return 10;
+        return b'\n';
     }
     let b = sheet_fields::field_bytes(own_field(i / LINE_BYTES, k / FIELD_BYTES) as i32);
     b[k % FIELD_BYTES]
 }
 
-// The own table's bytes.
+/// The own table's bytes.
 pub fn own_table() -> [u8; OWN_TABLE_BYTES]
     ensures { result ≡ own_bytes }
 {
     let mut bytes = [0u8; OWN_TABLE_BYTES];
-    let mut i = 0;
-    while i < OWN_TABLE_BYTES {
+    for i in 0..OWN_TABLE_BYTES {
         bytes[i] = own_byte(i);
-        i += 1;
     }
     bytes
 }

@@ -60,10 +60,8 @@ fn put_line(ws: &mut [i32], n: usize, l: [i32; LINE_WORDS])
     ensures { Wrote ws.old ws.new (n * 7) (n * 7 + 7) l }
 {
     let at = n * LINE_WORDS;
-    let mut j = 0;
-    while j < LINE_WORDS {
+    for j in 0..LINE_WORDS {
         ws[at + j] = l[j];
-        j += 1;
     }
 }
 
@@ -94,16 +92,12 @@ fn parse(s: &[u8], ws: &mut [i32]) -> usize
     n
 }
 
-// The first n words to the output.
+/// The first n words to the output.
 pub fn copy(ws: &[i32], n: usize, out: &mut [i32])
     requires { (n ≤ length ws.now) × (n ≤ length out.old) }
     ensures { Wrote out.old out.new 0 n (take n ws.now) }
 {
-    let mut i = 0;
-    while i < n {
-        out[i] = ws[i];
-        i += 1;
-    }
+    out[..n].copy_from_slice(&ws[..n]);
 }
 
 /// A sheet's bytes to its number form in the lent words, by a table in plain numbers: how many lines it has.

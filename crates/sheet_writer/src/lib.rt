@@ -18,10 +18,8 @@ fn put_eight(out: &mut [u8], at: usize, b: [u8; FIELD_BYTES])
     requires { at + 8 ≤ length out.old }
     ensures { Wrote out.old out.new at (at + 8) b }
 {
-    let mut j = 0;
-    while j < FIELD_BYTES {
+    for j in 0..FIELD_BYTES {
         out[at + j] = b[j];
-        j += 1;
     }
 }
 
@@ -40,11 +38,9 @@ fn put_bytes(words: &[i32], i: usize, out: &mut [u8], at: usize) -> usize
 {
     let n = words[i * LINE_WORDS] as usize;
     let mut to = at;
-    let mut j = 0;
-    while j < n {
+    for j in 0..n {
         put_field(out, to, words[i * LINE_WORDS + 1 + j]);
         to += FIELD_BYTES;
-        j += 1;
     }
     out[to] = 10;
     to + 1
@@ -57,10 +53,8 @@ fn put_lines(words: &[i32], out: &mut [u8]) -> usize
 {
     let n = words.len() / LINE_WORDS;
     let mut at = 0;
-    let mut i = 0;
-    while i < n {
+    for i in 0..n {
         at = put_bytes(words, i, out, at);
-        i += 1;
     }
     at
 }

@@ -9,6 +9,3 @@ use Rattle.sheet_line_ends.proofs.line_end.Given as goal
 
 abbrev pub invariant-loop-e : goal.invariant-loop-e
 invariant-loop-e l = l.e + before_end (drop l.e l.s) ≡ l.at + before_end (drop l.at l.s)
-
-abbrev pub decreases-loop-e : goal.decreases-loop-e
-decreases-loop-e l = length l.s - l.e

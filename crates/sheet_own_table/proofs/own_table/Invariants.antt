@@ -11,6 +11,3 @@ use Rattle.sheet_own_table.proofs.own_table.Given as goal
 
 abbrev pub invariant-loop-i : goal.invariant-loop-i
 invariant-loop-i l = (l.i ≤ own_table_bytes) × (length l.initial.bytes ≡ own_table_bytes) × Wrote l.initial.bytes l.bytes 0 l.i (take l.i own_bytes)
-
-abbrev pub decreases-loop-i : goal.decreases-loop-i
-decreases-loop-i l = own_table_bytes - l.i

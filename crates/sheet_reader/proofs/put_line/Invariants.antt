@@ -11,6 +11,3 @@ use Rattle.sheet_reader.proofs.put_line.Given as goal
 
 abbrev pub invariant-loop-j : goal.invariant-loop-j
 invariant-loop-j l = (l.j ≤ 7) × (length l.l ≡ 7) × Wrote l.initial.ws l.ws l.at (l.at + l.j) (take l.j l.l)
-
-abbrev pub decreases-loop-j : goal.decreases-loop-j
-decreases-loop-j l = 7 - l.j

@@ -16,6 +16,3 @@ use Rattle.sheet_writer.proofs.put_bytes.Given as goal
 
 abbrev pub invariant-loop-j : goal.invariant-loop-j
 invariant-loop-j l = (l.j ≤ l.n) × (l.n ≤ 6) × (l.n ≡ length (word_line (seven_at l.words l.i))) × (l.to ≡ l.at + l.j * 8) × (length l.out ≡ length l.initial.out) × Wrote l.initial.out l.out l.at l.to (gather field_bytes (take l.j (word_line (seven_at l.words l.i))))
-
-abbrev pub decreases-loop-j : goal.decreases-loop-j
-decreases-loop-j l = l.n - l.j

@@ -9,6 +9,3 @@ use Rattle.sheet_writer.proofs.put_eight.Given as goal
 
 abbrev pub invariant-loop-j : goal.invariant-loop-j
 invariant-loop-j l = (l.j ≤ 8) × (length l.b ≡ 8) × Wrote l.initial.out l.out l.at (l.at + l.j) (take l.j l.b)
-
-abbrev pub decreases-loop-j : goal.decreases-loop-j
-decreases-loop-j l = 8 - l.j

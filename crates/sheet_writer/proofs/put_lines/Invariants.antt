@@ -11,6 +11,3 @@ use Rattle.sheet_writer.proofs.put_lines.Given as goal
 
 abbrev pub invariant-loop-i : goal.invariant-loop-i
 invariant-loop-i l = (l.i ≤ length l.words / 7) × (length l.out ≡ length l.initial.out) × Wrote l.initial.out l.out 0 l.at (bytes_of (take l.i (word_lines l.words)))
-
-abbrev pub decreases-loop-i : goal.decreases-loop-i
-decreases-loop-i l = length l.words / 7 - l.i
