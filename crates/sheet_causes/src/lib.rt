@@ -18,10 +18,8 @@ fn line_at(ws: &[i32], i: usize) -> [i32; LINE_WORDS]
 {
     let at = LINE_WORDS * i;
     let mut l = [0; LINE_WORDS];
-    let mut j = 0;
-    while j < LINE_WORDS {
+    for j in 0..LINE_WORDS {
         l[j] = ws[at + j];
-        j += 1;
     }
     l
 }
@@ -66,12 +64,10 @@ fn occurs_in(l: [i32; LINE_WORDS], z: i32) -> bool
     ensures { result ≡ occurs z (terms (word_line l)) }
 {
     let n = count(l);
-    let mut j = 2;
-    while j < n {
+    for j in 2..n {
         if l[j + 1] == z {
             return true;
         }
-        j += 1;
     }
     false
 }
@@ -82,8 +78,7 @@ fn in_atoms(ws: &[i32], i: usize, z: i32) -> bool
     ensures { result ≡ not (all (λ a. not (occurs z (terms a))) (atoms (drop i (word_lines ws.now)))) }
 {
     let n = ws.len() / LINE_WORDS;
-    let mut j = i;
-    while j < n {
+    for j in i..n {
         let l = line_at(ws, j);
         if !is_atom(l) {
             return false;
@@ -91,7 +86,6 @@ fn in_atoms(ws: &[i32], i: usize, z: i32) -> bool
         if occurs_in(l, z) {
             return true;
         }
-        j += 1;
     }
     false
 }
@@ -115,12 +109,10 @@ fn all_bound(ws: &[i32], i: usize) -> bool
 {
     let l = line_at(ws, i);
     let n = count(l);
-    let mut j = 1;
-    while j < n {
+    for j in 1..n {
         if !is_bound(ws, i + 1, l[j + 1]) {
             return false;
         }
-        j += 1;
     }
     true
 }

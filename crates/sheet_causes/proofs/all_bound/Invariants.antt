@@ -16,6 +16,3 @@ use Rattle.sheet_causes.proofs.all_bound.Given as goal
 
 abbrev pub invariant-loop-j : goal.invariant-loop-j
 invariant-loop-j l = (1 ≤ l.j) × (all (bound (atoms (drop (l.i + 1) (word_lines l.ws)))) (drop l.j (word_line l.l)) ≡ all (bound (atoms (drop (l.i + 1) (word_lines l.ws)))) (rest (word_line l.l)))
-
-abbrev pub decreases-loop-j : goal.decreases-loop-j
-decreases-loop-j l = l.n - l.j

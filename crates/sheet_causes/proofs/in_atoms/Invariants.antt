@@ -17,6 +17,3 @@ use Rattle.sheet_causes.proofs.in_atoms.Given as goal
 
 abbrev pub invariant-loop-j : goal.invariant-loop-j
 invariant-loop-j l = has l.z (atoms (drop l.j (word_lines l.ws))) ≡ has l.z (atoms (drop l.i (word_lines l.ws)))
-
-abbrev pub decreases-loop-j : goal.decreases-loop-j
-decreases-loop-j l = l.n - l.j

@@ -13,6 +13,3 @@ use Rattle.sheet_causes.proofs.line_at.Given as goal
 
 abbrev pub invariant-loop-j : goal.invariant-loop-j
 invariant-loop-j l = (length l.l ≡ 7) × (l.j ≤ 7) × (take l.j l.l ≡ take l.j (drop l.at l.ws))
-
-abbrev pub decreases-loop-j : goal.decreases-loop-j
-decreases-loop-j l = 7 - l.j

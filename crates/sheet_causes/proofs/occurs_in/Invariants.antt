@@ -16,6 +16,3 @@ use Rattle.sheet_causes.proofs.occurs_in.Given as goal
 
 abbrev pub invariant-loop-j : goal.invariant-loop-j
 invariant-loop-j l = (2 ≤ l.j) × (occurs l.z (drop l.j (word_line l.l)) ≡ occurs l.z (terms (word_line l.l)))
-
-abbrev pub decreases-loop-j : goal.decreases-loop-j
-decreases-loop-j l = l.n - l.j
