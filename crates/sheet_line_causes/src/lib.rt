@@ -185,8 +185,7 @@ fn is_above(before: &[i32], m: usize, words: &[i32], n: usize) -> bool
     requires { (m ≤ length before.now) × (n ≤ length words.now) }
     ensures { result ≡ above (slice 2 m before.now) (slice 2 n words.now) }
 {
-    let mut i = 2;
-    while i < m {
+    for i in 2..m {
         if n <= i {
             return false;
         }
@@ -198,7 +197,6 @@ fn is_above(before: &[i32], m: usize, words: &[i32], n: usize) -> bool
         if y < x {
             return false;
         }
-        i += 1;
     }
     false
 }

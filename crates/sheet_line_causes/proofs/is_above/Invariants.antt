@@ -16,6 +16,3 @@ use Rattle.sheet_line_causes.proofs.is_above.Given as goal
 
 abbrev pub invariant-loop-i : goal.invariant-loop-i
 invariant-loop-i l = (2 ≤ l.i) × (above (slice 2 l.m l.before) (slice 2 l.n l.words) ≡ above (slice l.i l.m l.before) (slice l.i l.n l.words))
-
-abbrev pub decreases-loop-i : goal.decreases-loop-i
-decreases-loop-i l = l.m - l.i
