@@ -2,7 +2,12 @@
 use sheet_format::Refusal;
 
 // Number, line and count, then whether what comes after the count is as it was lent.
-pub(crate) fn put_answer(out: &mut [u8], at: usize, a: Result<usize, Refusal>, kept: bool) -> usize {
+pub(crate) fn put_answer(
+    out: &mut [u8],
+    at: usize,
+    a: Result<usize, Refusal>,
+    kept: bool,
+) -> usize {
     let i = test_results::put_number(out, at, cause(a), b' ');
     let j = test_results::put_number(out, i, line(a), b' ');
     let k = test_results::put_number(out, j, count(a), b' ');

@@ -10,7 +10,11 @@ use sheet_format::{Cause, LINE_WORDS, MOST_WORDS, Refusal, TABLE_NUMBERS};
 use text_writer::TEXT_ROOM;
 
 // A sheet as a text in the lent bytes, by a table in plain numbers.
-fn text_by_numbers(table: &[usize; TABLE_NUMBERS], sheet: &[u8], out: &mut [u8]) -> Result<usize, Refusal>
+fn text_by_numbers(
+    table: &[usize; TABLE_NUMBERS],
+    sheet: &[u8],
+    out: &mut [u8],
+) -> Result<usize, Refusal>
     ensures { (ending_of result ≡ text_ending (table_in table.now) sheet.now (length out.old)) × (out.new ≡ text_lent (table_in table.now) sheet.now out.old) }
 {
     let mut words = [0i32; MOST_WORDS];
