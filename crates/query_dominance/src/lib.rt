@@ -37,12 +37,10 @@ fn is_lone(blk: &[usize; BLOCK_NUMBERS], at: usize) -> bool
     if NAMES <= blk[at] {
         return false;
     }
-    let mut k = 0;
-    while k < BLOCK_NUMBERS {
+    for k in 0..BLOCK_NUMBERS {
         if stands_at(blk, at, k) {
             return false;
         }
-        k += 1;
     }
     true
 }
@@ -53,10 +51,8 @@ fn lone_columns(blk: &[usize; BLOCK_NUMBERS], j: usize) -> [bool; 4]
     ensures { LoneColumns blk.now j result }
 {
     let mut free = [false; 4];
-    let mut c = 0;
-    while c < COLUMNS {
+    for c in 0..COLUMNS {
         free[c] = is_lone(blk, j * FACT_NUMBERS + 1 + c);
-        c += 1;
     }
     free
 }
@@ -92,15 +88,13 @@ fn replaces(
     if facts[g * FACT_NUMBERS] != facts[i * FACT_NUMBERS] {
         return false;
     }
-    let mut c = 0;
-    while c < COLUMNS {
+    for c in 0..COLUMNS {
         let t = blk[j * FACT_NUMBERS + 1 + c];
         let old = facts[i * FACT_NUMBERS + 1 + c];
         let new = facts[g * FACT_NUMBERS + 1 + c];
         if !column_follows(free[c], t, y, b, old, new) {
             return false;
         }
-        c += 1;
     }
     true
 }
@@ -119,13 +113,10 @@ fn is_replaced(
     requires lone_columns { LoneColumns blk.now j free }
     ensures { result ≡ true → Replaced blk.now facts.now j y b i }
 {
-    let m = facts.len() / FACT_NUMBERS;
-    let mut g = 0;
-    while g < m {
+    for g in 0..facts.len() / FACT_NUMBERS {
         if replaces(blk, j, facts, i, g, y, b, free) {
             return true;
         }
-        g += 1;
     }
     false
 }
@@ -135,12 +126,10 @@ fn has(blk: &[usize; BLOCK_NUMBERS], j: usize, y: usize) -> bool
     requires { j < most_atoms }
     ensures { result ≡ false → Without blk.now j y }
 {
-    let mut c = 0;
-    while c < COLUMNS {
+    for c in 0..COLUMNS {
         if blk[j * FACT_NUMBERS + 1 + c] == y {
             return true;
         }
-        c += 1;
     }
     false
 }
@@ -208,7 +197,7 @@ fn is_once(blk: &[usize; BLOCK_NUMBERS], p: usize) -> bool
     true
 }
 
-// Whether b dominates a in column p of the rows, by a look at each atom alone.
+/// Whether b dominates a in column p of the rows, by a look at each atom alone.
 pub fn dominates(
     blk: &[usize; BLOCK_NUMBERS],
     n: usize,

@@ -8,7 +8,4 @@ use borrow.Author.Rules.{rules}
 use Rattle.query_dominance.proofs.has.Given as goal
 
 abbrev pub invariant-loop-c : goal.invariant-loop-c
-invariant-loop-c l = (l.c ≤ 4) × ((e : ℕ) → e < l.c → column_term l.blk l.j e ≡ l.y → ⊥)
-
-abbrev pub decreases-loop-c : goal.decreases-loop-c
-decreases-loop-c l = 4 - l.c
+invariant-loop-c l = ((e : ℕ) → e < l.c → column_term l.blk l.j e ≡ l.y → ⊥)

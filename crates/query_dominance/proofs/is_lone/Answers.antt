@@ -13,4 +13,4 @@ use Rattle.query_dominance.proofs.is_lone.Goals as goal
 pub loop-k-preserved : goal.loop-k-preserved
 loop-k-preserved c = let l = c.loop-k in
     let a = c.args in
-    (omega arith, below_more (OtherTerm a.blk.now a.at) l.k l.invariant.1 (c.stands_at.ensures c.if-stands_at.false))
+    below_more (OtherTerm a.blk.now a.at) l.k l.invariant (c.stands_at.ensures c.if-stands_at.false)

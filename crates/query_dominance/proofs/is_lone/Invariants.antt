@@ -11,7 +11,4 @@ use borrow.Author.Rules.{rules}
 use Rattle.query_dominance.proofs.is_lone.Given as goal
 
 abbrev pub invariant-loop-k : goal.invariant-loop-k
-invariant-loop-k state = (state.k ≤ block_width) × ((l : ℕ) → l < state.k → OtherTerm state.blk state.at l)
-
-abbrev pub decreases-loop-k : goal.decreases-loop-k
-decreases-loop-k l = block_width - l.k
+invariant-loop-k state = ((l : ℕ) → l < state.k → OtherTerm state.blk state.at l)

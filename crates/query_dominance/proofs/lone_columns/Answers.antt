@@ -11,4 +11,4 @@ use Rattle.query_dominance.proofs.lone_columns.Goals as goal
 pub loop-c-preserved : goal.loop-c-preserved
 loop-c-preserved c = let l = c.loop-c in
     let a = c.args in
-    (simp length-set l.invariant.0, omega arith, lone-more a.blk.now a.j l.c l.free c.is_lone.result (omega arith) l.invariant.2 c.is_lone.ensures)
+    (simp length-set l.invariant.0, lone-more a.blk.now a.j l.c l.free c.is_lone.result (omega arith) l.invariant.1 c.is_lone.ensures)

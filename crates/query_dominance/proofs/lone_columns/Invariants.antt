@@ -9,7 +9,4 @@ use borrow.Author.Rules.{rules}
 use Rattle.query_dominance.proofs.lone_columns.Given as goal
 
 abbrev pub invariant-loop-c : goal.invariant-loop-c
-invariant-loop-c l = (length l.free ≡ 4) × (l.c ≤ 4) × ((e : ℕ) → e < l.c → get_or l.free e false ≡ true → Lone l.blk (l.j * 5 + 1 + e))
-
-abbrev pub decreases-loop-c : goal.decreases-loop-c
-decreases-loop-c l = 4 - l.c
+invariant-loop-c l = (length l.free ≡ 4) × ((e : ℕ) → e < l.c → get_or l.free e false ≡ true → Lone l.blk (l.j * 5 + 1 + e))

@@ -15,7 +15,4 @@ use borrow.Author.Rules.{rules}
 use Rattle.query_dominance.proofs.replaces.Given as goal
 
 abbrev pub invariant-loop-c : goal.invariant-loop-c
-invariant-loop-c l = (l.c ≤ 4) × ((e : ℕ) → e < l.c → Lone l.blk (l.j * 5 + 1 + e) ⊎ ColumnFollows (column_term l.blk l.j e) l.y l.b (column_value l.facts l.i e) (column_value l.facts l.g e))
-
-abbrev pub decreases-loop-c : goal.decreases-loop-c
-decreases-loop-c l = 4 - l.c
+invariant-loop-c l = ((e : ℕ) → e < l.c → Lone l.blk (l.j * 5 + 1 + e) ⊎ ColumnFollows (column_term l.blk l.j e) l.y l.b (column_value l.facts l.i e) (column_value l.facts l.g e))
