@@ -33,11 +33,13 @@ pub fn passed_text(made: Result<usize, NotMade>) -> TextOutcome
             begun: 0,
             bytes,
         },
-        Err(NotMade::Expected {
-            line,
-            what,
-            relation,
-        }) => TextOutcome {
+        Err(
+            NotMade::Expected {
+                line,
+                what,
+                relation,
+            },
+        ) => TextOutcome {
             expected: what.number(),
             relation,
             number: 0,

@@ -21,7 +21,10 @@ pub enum NotMade {
         relation: usize,
     },
     /// Its number form is refused; the line that is named begins in this line of the text, 0 where none is.
-    Refused { refusal: Refusal, text_line: usize },
+    Refused {
+        refusal: Refusal,
+        text_line: usize,
+    },
 }
 
 // The line of the text in which a line of its number form begins; 0 where none is named.

@@ -16,13 +16,13 @@ pub returns-then-lines-gt-MOST_LINES : goal.returns-then-lines-gt-MOST_LINES
 returns-then-lines-gt-MOST_LINES c = let a = c.args in
     many-made (table_in a.table.now) a.text.now a.out.now c.if-text-gt-MOST_TEXT.false c.in-Ok.ensures refl c.if-lines-gt-MOST_LINES.true
 
-pub returns-in-Ok-2 : goal.returns-in-Ok-2
-returns-in-Ok-2 c = let w = c.write in
+pub returns-in-Ok-write : goal.returns-in-Ok-write
+returns-in-Ok-write c = let w = c.write in
     let a = c.args in
-    sheet-made (table_in a.table.now) a.text.now a.out.now c.if-text-gt-MOST_TEXT.false c.in-Ok.ensures refl c.if-lines-gt-MOST_LINES.false w.new.out (ending_of w.result) w.ensures.0 w.ensures.1 c.in-Ok-2.n (ap ending_of c.in-Ok-2.is)
+    sheet-made (table_in a.table.now) a.text.now a.out.now c.if-text-gt-MOST_TEXT.false c.in-Ok.ensures refl c.if-lines-gt-MOST_LINES.false w.new.out (ending_of w.result) w.ensures.0 w.ensures.1 c.in-Ok-write.n (ap ending_of c.in-Ok-write.is)
 
-pub returns-in-Err-2 : goal.returns-in-Err-2
-returns-in-Err-2 c = let w = c.write in
+pub returns-in-Err-write : goal.returns-in-Err-write
+returns-in-Err-write c = let w = c.write in
     let a = c.args in
-    let r = c.in-Err-2.refusal in
-    refused-made (table_in a.table.now) a.text.now a.out.now c.if-text-gt-MOST_TEXT.false c.in-Ok.ensures refl c.if-lines-gt-MOST_LINES.false w.new.out (ending_of w.result) w.ensures.0 w.ensures.1 (cause_number r.cause) r.line c.text_line.result (ap ending_of c.in-Err-2.is) c.text_line.ensures
+    let r = c.in-Err-write.refusal in
+    refused-made (table_in a.table.now) a.text.now a.out.now c.if-text-gt-MOST_TEXT.false c.in-Ok.ensures refl c.if-lines-gt-MOST_LINES.false w.new.out (ending_of w.result) w.ensures.0 w.ensures.1 (cause_number r.cause) r.line c.text_line.result (ap ending_of c.in-Err-write.is) c.text_line.ensures
