@@ -72,7 +72,7 @@ abbrev pub Below : List ℕ → Type 0
 Below ks = Different most_variables ks
 
 letter_is : (v : ℕ) → v < most_variables → variable_letter (suc v) ≡ 97 + v
-letter_is v h = sym (letter_at {i = suc v} (omega arith) (omega arith)) ∙ omega arith
+letter_is v h = sym (letter_at (suc v)) ∙ omega arith
 
 same_letter : (v k : ℕ) → v < most_variables → k < most_variables → are_same_bytes (letter_for v) (letter_for k) ≡ eqb v k
 unfolding are_same_bytes
