@@ -213,12 +213,21 @@ pub fn moved(row: &Row, to: &Row, v: u32) -> u32 {
 
 /// A row's values where the row u becomes the other.
 pub fn moved_row(u: &Row, to: &Row, row: &Row) -> Row {
-    row.map(|v| moved(u, to, v))
+    let mut new = *row;
+    for v in &mut new {
+        *v = moved(u, to, *v);
+    }
+    new
 }
 
 // The values that atom i of the tableau has.
 fn atom_row(p: &Plan, ws: &Words, i: usize) -> Row {
-    tableau_parts::tableau_terms(p, i).map(|t| narrow(search_links::place_value(ws, t)))
+    let terms = tableau_parts::tableau_terms(p, i);
+    let mut row = [0; COLUMNS];
+    for (v, t) in row.iter_mut().zip(&terms) {
+        *v = narrow(search_links::place_value(ws, *t));
+    }
+    row
 }
 
 // The value at a term of a block's head, where its names are slots of the question.
@@ -361,17 +370,6 @@ impl Board {
         self.by_value[c % COLUMNS].facts[value as usize % SHARES]
     }
 
-    /// Those of the facts in the set that may have these values, as far as one is given for a column.
-    pub fn narrowed(&self, set: FactSet, values: &[Option<u32>; COLUMNS]) -> FactSet {
-        let mut narrow = set;
-        for (c, value) in values.iter().enumerate() {
-            if let Some(value) = value {
-                narrow = narrow.and(&self.sharing(c, *value));
-            }
-        }
-        narrow
-    }
-
     /// The facts of a relation that count.
     pub fn alive_of(&self, relation: usize) -> FactSet {
         if RELATIONS <= relation {
@@ -455,7 +453,10 @@ impl Board {
     // Whether another fact of its relation that counts has the values of fact i.
     fn is_twice(&self, i: u8) -> bool {
         let row = self.row(i);
-        let set = self.narrowed(self.alive_of(self.relation(i)), &row.map(Some));
+        let mut set = self.alive_of(self.relation(i));
+        for (c, v) in row.iter().enumerate() {
+            set = set.and(&self.sharing(c, *v));
+        }
         for k in set.iter() {
             if k != i && self.row(k) == row {
                 return true;
@@ -554,7 +555,11 @@ impl Board {
         if MOST_VIEWS <= view {
             return [0; COLUMNS];
         }
-        self.heads[view].columns.map(|way| self.value_by(kept, way))
+        let mut row = [0; COLUMNS];
+        for (v, way) in row.iter_mut().zip(&self.heads[view].columns) {
+            *v = self.value_by(kept, *way);
+        }
+        row
     }
 
     // ---- the start

@@ -76,8 +76,8 @@ fn note_row(listed: &mut ListedRows, v: usize, row: &Row, i: u8) {
     }
     let rows = &mut listed.views[v % MOST_VIEWS];
     rows.all.insert(i);
-    for (twins, (x, y)) in rows.twins.iter_mut().zip(pairs(row)) {
-        if x == y {
+    for (twins, (x, y)) in rows.twins.iter_mut().zip(&pairs(row)) {
+        if *x == *y {
             twins.insert(i);
         }
     }
@@ -146,12 +146,9 @@ fn by_column(board: &Board, sl: &Memory, v: usize, c: usize, x: u32, set: RowSet
 // Those of the listed rows of view v in the set in which made-up values of a row that are one stay so.
 fn by_pairs(board: &Board, v: usize, row: &Row, set: RowSet) -> RowSet {
     let mut left = set;
-    for (twins, (x, y)) in board.listed.views[v % MOST_VIEWS]
-        .twins
-        .iter()
-        .zip(pairs(row))
-    {
-        if x == y && FIRST_MADE_UP <= x {
+    let rows = &board.listed.views[v % MOST_VIEWS];
+    for (twins, (x, y)) in rows.twins.iter().zip(&pairs(row)) {
+        if *x == *y && FIRST_MADE_UP <= *x {
             left = left.and(*twins);
         }
     }
