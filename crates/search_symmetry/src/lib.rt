@@ -2,7 +2,7 @@
 // rests on.
 #![tactic(auto)]
 
-ghost use Rattle.std.specs.Prelude.{◌≡◌, true, false, ◌<◌, ◌≤◌, ◌*◌, ◌+◌, IfSome};
+ghost use Rattle.std.specs.Prelude.{◌≡◌, true, false, ◌<◌, ◌≤◌, ◌*◌, ◌+◌, length, IfSome};
 ghost use Rattle.query_layout.specs.Layout.{block_width, names};
 ghost use Rattle.sheet_format.specs.Limits.{most_rows, most_views};
 ghost use Rattle.tableau_layout.specs.Layout.{most_copies, slot_end, most_blocks};
@@ -185,14 +185,14 @@ fn is_unmoved(to: &[usize; MOST_ROWS], u: &[usize; 4]) -> bool
 
 // Whether slot n has its own value; or a constant, and then the slot that it becomes is in the set and has what the constant becomes.
 fn is_slot_turned(
-    ws: &[usize; SLOTS],
-    set: &[u64; SET_WORDS],
+    ws: &[usize],
+    set: &[u64],
     a: &[usize; 4],
     b: &[usize; 4],
     to: &[usize; MOST_ROWS],
     n: usize,
 ) -> bool
-    requires { (n < slot_end) × ComeBack to.now most_rows }
+    requires { (n < slot_end) × (length ws.now ≡ slot_end) × ComeBack to.now most_rows }
     ensures { result ≡ true → SlotTurned ws.now set.now a.now b.now to.now n }
 {
     let v = ws[n];
@@ -205,13 +205,13 @@ fn is_slot_turned(
 
 // Whether it is so with every slot of the set.
 fn are_slots_turned(
-    ws: &[usize; SLOTS],
-    set: &[u64; SET_WORDS],
+    ws: &[usize],
+    set: &[u64],
     a: &[usize; 4],
     b: &[usize; 4],
     to: &[usize; MOST_ROWS],
 ) -> bool
-    requires { ComeBack to.now most_rows }
+    requires { (length ws.now ≡ slot_end) × ComeBack to.now most_rows }
     ensures { result ≡ true → SlotsTurned ws.now set.now a.now b.now to.now slot_end }
 {
     (0..SLOTS).all(|n| !search_slots::has(set, n) || is_slot_turned(ws, set, a, b, to, n))
@@ -251,8 +251,8 @@ fn are_listed(p: &[usize; PLAN_NUMBERS], one: usize, other: usize) -> bool
 /// is written to the lent numbers.
 pub fn are_alike(
     p: &[usize; PLAN_NUMBERS],
-    ws: &[usize; SLOTS],
-    set: &[u64; SET_WORDS],
+    ws: &[usize],
+    set: &[u64],
     u: &[usize; 4],
     one: usize,
     other: usize,
@@ -260,6 +260,9 @@ pub fn are_alike(
 ) -> bool
     ensures { result ≡ true → Alike p.now ws.now set.now u.now one other }
 {
+    if ws.len() != SLOTS || set.len() != SET_WORDS {
+        return false;
+    }
     if !are_listed(p, one, other) {
         return false;
     }
