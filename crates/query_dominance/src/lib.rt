@@ -149,15 +149,12 @@ fn all_replaced(
     let free = lone_columns(blk, j);
     let set = query_join::only(y);
     let vals = [a; NAMES];
-    let m = facts.len() / FACT_NUMBERS;
-    let mut i = 0;
-    while i < m {
+    for i in 0..facts.len() / FACT_NUMBERS {
         if query_join::fit_of(blk, j, facts, i, &set, &vals, &set) == query_join::FIT {
             if !is_replaced(blk, j, facts, i, y, b, free) {
                 return false;
             }
         }
-        i += 1;
     }
     true
 }
@@ -185,14 +182,12 @@ fn is_once(blk: &[usize; BLOCK_NUMBERS], p: usize) -> bool
     requires { p < 4 }
     ensures { result ≡ true → HeadOnce blk.now p }
 {
-    let mut q = 0;
-    while q < COLUMNS {
+    for q in 0..COLUMNS {
         if q != p {
             if blk[HEAD_AT + q] == blk[HEAD_AT + p] {
                 return false;
             }
         }
-        q += 1;
     }
     true
 }
@@ -219,12 +214,10 @@ pub fn dominates(
         return false;
     }
     let few = query_join::few_atoms(n);
-    let mut j = 0;
-    while j < few {
+    for j in 0..few {
         if !atom_dominates(blk, j, facts, y, a, b) {
             return false;
         }
-        j += 1;
     }
     true
 }

@@ -19,7 +19,7 @@ loop-j-preserved c = let l = c.loop-j in
     let a = c.args in
     let y = get_or a.blk.now (block_head + a.p) 0 in
     let d = c.atom_dominates in
-    (omega arith, below_more (λ k. AtomDominates a.blk.now a.facts.now k y a.a a.b) l.j l.invariant.1 (d.ensures (not-false d.result c.if-not-atom_dominates.false-raw)))
+    below_more (λ k. AtomDominates a.blk.now a.facts.now k y a.a a.b) l.j l.invariant (d.ensures (not-false d.result c.if-not-atom_dominates.false-raw))
 
 pub returns : goal.returns
 returns c = let l = c.loop-j in
@@ -30,4 +30,4 @@ returns c = let l = c.loop-j in
     λ _.
     subst (λ x. Dominates a.blk.now x a.facts.now a.p a.a a.b) few.ensures
     (dominance a.blk.now a.facts.now few.result a.p y a.a a.b (search rules) (search rules) (search rules) refl (once.ensures (not-false once.result c.if-not-is_once.false-raw))
-    (λ j lt. l.invariant.1 j (omega arith)))
+    (λ j lt. l.invariant j (omega arith)))
