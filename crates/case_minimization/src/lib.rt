@@ -1,7 +1,7 @@
 // Dropping facts from a case until none is to spare.
 #![tactic(auto)]
 
-ghost use Rattle.std.specs.Prelude.{◌≡◌, true, false, IsTrue, ◌↔◌, List, ℕ, ◌+◌, ◌-◌, ◌*◌, ◌<◌, ◌≤◌, length, take};
+ghost use Rattle.std.specs.Prelude.{◌≡◌, true, false, IsTrue, ◌↔◌, List, ℕ, ◌+◌, ◌-◌, ◌*◌, ◌<◌, ◌≤◌, length, take, is_some};
 ghost use Rattle.tableau_layout.specs.Layout.{plan_numbers, tableau_atoms};
 ghost use Rattle.sheet_format.specs.Limits.{most_rows};
 ghost use Rattle.tableau_plan.specs.Plan.{parent_in, row_count};
@@ -185,20 +185,14 @@ fn is_left(
     by: &[Places; MOST_ROWS],
     i: usize,
     seen: [usize; 4],
-) -> query_rows::Row
-    ensures { walks.FormedPlan p.now → NoStray p.now facts.now → Parented p.now facts.now → CaseBy result.some p.now facts.now }
+) -> Option<[usize; 4]>
+    ensures { walks.FormedPlan p.now → NoStray p.now facts.now → Parented p.now facts.now → CaseBy (is_some result) p.now facts.now }
 {
     if !all_given(p, facts, by, i) {
-        return query_rows::Row {
-            some: false,
-            values: [0; 4],
-        };
+        return None;
     }
     if lacks(p, facts, seen) {
-        return query_rows::Row {
-            some: true,
-            values: seen,
-        };
+        return Some(seen);
     }
     case_missing_answer::missing(p, facts)
 }
@@ -258,10 +252,10 @@ fn drops(
     by: &[Places; MOST_ROWS],
     i: usize,
     seen: [usize; 4],
-) -> query_rows::Row
+) -> Option<[usize; 4]>
     requires { (i < n) × (n ≤ tableau_atoms) × (n * 5 ≤ length facts.now) × (n * 5 ≤ length room.now) }
     ensures { walks.FormedPlan p.now → Parented p.now (take (n * 5) facts.now) → take ((n - 1) * 5) room.now ≡ without (take (n * 5) facts.now) i
-        → NoStray p.now (take ((n - 1) * 5) room.now) → CaseBy result.some p.now (take ((n - 1) * 5) room.now) }
+        → NoStray p.now (take ((n - 1) * 5) room.now) → CaseBy (is_some result) p.now (take ((n - 1) * 5) room.now) }
 {
     if is_owed(
         p,
@@ -269,10 +263,7 @@ fn drops(
         i,
         &room[..(n - 1) * FACT_NUMBERS],
     ) {
-        return query_rows::Row {
-            some: false,
-            values: [0; 4],
-        };
+        return None;
     }
     is_left(p, &room[..(n - 1) * FACT_NUMBERS], by, i, seen)
 }
@@ -295,13 +286,12 @@ fn pass(
     let mut i = 0;
     // Kept: no plainer; m falls as facts are dropped, and i stays there.
     while i < m {
-        let left = drops(p, facts, &room, m, by, i, seen);
-        if left.some {
+        if let Some(row) = drops(p, facts, &room, m, by, i, seen) {
             close_gap(facts, m, i);
             m -= 1;
             leave_out(&mut room, m, i);
             renew(p, facts, m, by, i);
-            seen = left.values;
+            seen = row;
             continue;
         }
         put_back(facts, m, i, &mut room);

@@ -1,10 +1,11 @@
 // The least row that the question of a plan is given and no list is.
 #![tactic(auto)]
 
-ghost use Rattle.std.specs.Prelude.{◌≡◌, true, false, ◌≤◌, ◌<◌, min, IfSome};
+ghost use Rattle.std.specs.Prelude.{◌≡◌, true, ◌≤◌, ◌<◌, min, IfSome, is_some};
 ghost use Rattle.tableau_layout.specs.Layout.{list_block};
 ghost use Rattle.sheet_format.specs.Limits.{most_atoms, most_lists};
 ghost use Rattle.query_join.specs.Joins.{SafeBlock, NextBy};
+ghost use Rattle.query_rows.specs.Rows.{row_values};
 ghost use Rattle.list_laws.specs.Order.{◌⊏◌, SameBefore};
 ghost use Rattle.tableau_plan.specs.Plan.{list_count};
 ghost use Rattle.tableau_parts.specs.Views.{GivenAt, GivenToList, MissingBy};
@@ -30,35 +31,25 @@ struct Pace {
     values: [usize; 4],
 }
 
-// No row.
-fn none() -> query_rows::Row
-    ensures { result.some ≡ false }
-{
-    query_rows::Row {
-        some: false,
-        values: [0; 4],
-    }
-}
-
 // The least row that the facts give the block after a given one.
 fn follow(
     blk: &[usize; BLOCK_NUMBERS],
     n: usize,
     facts: &[usize],
-    after: query_rows::Row,
-) -> query_rows::Row
-    ensures next_by { SafeBlock blk.now (min n most_atoms) → NextBy result.some blk.now (min n most_atoms) facts.now after.some after.values result.values }
-    ensures values_bound { after.some ≡ true → room result.some result.values < room after.some after.values }
+    after: Option<[usize; 4]>,
+) -> Option<[usize; 4]>
+    ensures next_by { SafeBlock blk.now (min n most_atoms) → NextBy (is_some result) blk.now (min n most_atoms) facts.now (is_some after) (row_values after) (row_values result) }
+    ensures values_bound { is_some after ≡ true → room (is_some result) (row_values result) < room (is_some after) (row_values after) }
 {
-    let r = query_rows::next(blk, n, facts, after);
-    let old = after.values;
-    let new = r.values;
-    if after.some {
-        if !tableau_parts::below(old, new) {
-            return none();
+    let next = query_rows::next(blk, n, facts, after);
+    if let Some(old) = after {
+        if let Some(new) = next {
+            if !tableau_parts::below(old, new) {
+                return None;
+            }
         }
     }
-    r
+    next
 }
 
 // A column before which a row's values say that list i is given what the question is given.
@@ -214,28 +205,24 @@ fn onward(p: &[usize; PLAN_NUMBERS], i: usize, facts: &[usize], row: [usize; 4],
 }
 
 /// The least row that the question is given and no list is, if there is one.
-pub fn missing(p: &[usize; PLAN_NUMBERS], facts: &[usize]) -> query_rows::Row
-    ensures { FormedPlan p.now → MissingBy result.some p.now facts.now result.values }
+pub fn missing(p: &[usize; PLAN_NUMBERS], facts: &[usize]) -> Option<[usize; 4]>
+    ensures { FormedPlan p.now → MissingBy (is_some result) p.now facts.now (row_values result) }
 {
     let blk = tableau_parts::block_at(p, 0);
     let n = p[SIZES_AT];
-    let start = none();
     let mut pace = Pace {
         passed: 0,
-        vain: [false; 4],
-        values: [0; 4],
+        vain: [false; COLUMNS],
+        values: [0; COLUMNS],
     };
-    let mut cur = follow(&blk, n, facts, start);
-    while cur.some {
-        let row = cur.values;
+    let mut next = follow(&blk, n, facts, None);
+    while let Some(row) = next {
         let i = tableau_answers::giving_list(p, facts, row);
         if MOST_LISTS <= i {
-            return cur;
+            return Some(row);
         }
         pace = onward(p, i, facts, row, pace);
-        let values = pace.values;
-        let last = query_rows::Row { some: true, values };
-        cur = follow(&blk, n, facts, last);
+        next = follow(&blk, n, facts, Some(pace.values));
     }
-    cur
+    None
 }

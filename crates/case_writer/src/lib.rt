@@ -72,6 +72,6 @@ pub fn hand_over(p: &[usize; PLAN_NUMBERS], st: &[usize], out: &mut [i32]) -> Ha
     }
     let row = case_missing_answer::missing(p, &room[..count * FACT_NUMBERS]);
     put_facts(out, &room[..count * FACT_NUMBERS]);
-    let missing = row.values;
+    let missing = row.unwrap_or([0; 4]);
     HandedCase { count, missing }
 }

@@ -1,9 +1,9 @@
 use mathlib.Core.List.{List}
-use mathlib.Core.Bool.{Bool}
+use mathlib.Core.Bool.{true, false}
 use mathlib.Core.Path.{subst, ◌≡◌, refl, sym, ap, ◌∙◌}
 use lib.ListN.{take, length}
 use lib.Seq.{length-take-le}
-use Rattle.case_minimization.specs.Minimization.{CaseBy, without}
+use Rattle.case_minimization.specs.Minimization.{without}
 use Rattle.case_minimization.specs.Parts.{TriedFact}
 use Rattle.case_minimization.proofs.Laws.{left-without, tried-none, tried-kept, tried_dropped}
 use Prim.Native.Nat.{ℕ, ◌≤◌, ◌-◌, ◌*◌}
@@ -14,10 +14,10 @@ pub loop-i-init : goal.loop-i-init
 loop-i-init c = let a = c.args in
     (omega arith, omega arith, refl, omega arith, c.copy_rest.ensures, λ ready k. tried-none a.p.now (take (a.n * 5) a.facts.now) a.n a.n k)
 
-pub loop-i-preserved-then-left : goal.loop-i-preserved-then-left
-loop-i-preserved-then-left c = let o = c.leave_out in
+pub loop-i-preserved-in-Some : goal.loop-i-preserved-in-Some
+loop-i-preserved-in-Some c = let o = c.leave_out in
     let g = c.close_gap in
-    let d = c.drops-left in
+    let d = c.in-Some in
     let l = c.loop-i in
     let a = c.args in
     let ms = take (l.m * 5) l.facts in
@@ -31,15 +31,14 @@ loop-i-preserved-then-left c = let o = c.leave_out in
       λ ready k.
           let long = length-take-le (l.m * 5) l.facts fit in
           let was = l.invariant.5 ready k in
-          let left = subst (λ (b : Bool). CaseBy b a.p.now (without ms l.i)) c.if-left.true
-          (left-without d.result.some a.p.now ms (take ((l.m - 1) * 5) l.room) l.m l.i long t (l.invariant.4 t) was.still.0.1 (d.ensures ready was.still.2 (l.invariant.4 t))) in
+          let left = left-without true a.p.now ms (take ((l.m - 1) * 5) l.room) l.m l.i long t (l.invariant.4 t) was.still.0.1 (d.ensures ready was.still.2 (l.invariant.4 t)) in
           subst (λ (ks : List ℕ). TriedFact a.p.now (take (a.n * 5) a.facts.now) a.n ks (l.m - 1) a.n l.i) (sym g.ensures)
           (tried_dropped a.p.now (take (a.n * 5) a.facts.now) a.n ms l.m l.i long t (omega arith) left was),
     )
 
 pub loop-i-preserved : goal.loop-i-preserved
 loop-i-preserved c = let q = c.put_back in
-    let d = c.drops-left in
+    let d = c.in_default in
     let l = c.loop-i in
     let a = c.args in
     let ms = take (l.m * 5) l.facts in
@@ -54,8 +53,7 @@ loop-i-preserved c = let q = c.put_back in
           let long = length-take-le (l.m * 5) l.facts fit in
           let was = l.invariant.5 ready k in
           tried-kept a.p.now (take (a.n * 5) a.facts.now) a.n ms l.m a.n l.i
-          (subst (λ (b : Bool). CaseBy b a.p.now (without ms l.i)) c.if-left.false
-          (left-without d.result.some a.p.now ms (take ((l.m - 1) * 5) l.room) l.m l.i long t (l.invariant.4 t) was.still.0.1 (d.ensures ready was.still.2 (l.invariant.4 t))))
+          (left-without false a.p.now ms (take ((l.m - 1) * 5) l.room) l.m l.i long t (l.invariant.4 t) was.still.0.1 (d.ensures ready was.still.2 (l.invariant.4 t)))
           was,
     )
 
