@@ -7,13 +7,13 @@ use Prim.Native.Nat.{ℕ, zero, suc, ◌<◌, ◌≤◌, ◌+◌, ◌-◌, ◌*�
 use native.Mathlib.Nat.{add-zero}
 use native.Mathlib.Numerals.{add-one}
 use native.Mathlib.Omega.{arith}
-use lib.Dec.{eqb, ltb, leb}
+use lib.Dec.{eqb, ltb}
 use lib.IntN.{ℤ, pos, negsuc}
 use lib.ListN.{length, get_or, take, drop, length-take, length-drop, length-map, drop_of_length-le, get_or-eq_default, get_or-map}
 use lib.Seq.{slice, drop-drop, take-take, take_all, get_or-take, get_or-drop, length-slice}
-use borrow.Author.Tests.{eqb-true, eq-eqb, ne_eqb, ltb-true, ltb-false, lt-ltb, le-ltb, leb-true, not-false}
+use borrow.Author.Tests.{eqb-true, eq-eqb, ne_eqb, ltb-true, ltb-false, lt-ltb, le-ltb, not-false}
 use Rattle.list_laws.proofs.Lists.{slice-next, drop-next}
-use Rattle.sheet_format.proofs.Lists.{no_way, and_left, and_right, both, neither, all-at}
+use Rattle.sheet_format.proofs.Lists.{no_way, and_left, and_right, neither, all-at}
 use Rattle.sheet_format.specs.Cause.{above, refusal, none}
 use Rattle.sheet_format.specs.Line.{all, is_zero, natural, null}
 use Rattle.sheet_format.specs.Table.{Table, relation, columns_of}

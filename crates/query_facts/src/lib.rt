@@ -24,8 +24,7 @@ fn all_in_range(fs: &[i32], from: usize, to: usize, end: i32) -> bool
     requires { (from ≤ to) × (to ≤ length fs.now) }
     ensures { result ≡ all (in_range end) (slice from to fs.now) }
 {
-    let mut i = from;
-    while i < to {
+    for i in from..to {
         let word = fs[i];
         if word < 0 {
             return false;
@@ -33,7 +32,6 @@ fn all_in_range(fs: &[i32], from: usize, to: usize, end: i32) -> bool
         if end <= word {
             return false;
         }
-        i += 1;
     }
     true
 }
@@ -62,8 +60,7 @@ fn is_above(fs: &[i32], i: usize) -> bool
 {
     let at = FACT_WORDS * i;
     let next = at + FACT_WORDS;
-    let mut j = 0;
-    while j < FACT_WORDS {
+    for j in 0..FACT_WORDS {
         let x = fs[at + j];
         let y = fs[next + j];
         if x < y {
@@ -72,7 +69,6 @@ fn is_above(fs: &[i32], i: usize) -> bool
         if y < x {
             return false;
         }
-        j += 1;
     }
     false
 }
@@ -92,9 +88,7 @@ fn in_order(fs: &[i32], i: usize) -> bool
 fn by_facts(table: &[usize], fs: &[i32]) -> Result<(), Refusal>
     ensures { refusal_in result ≡ fact_by_fact (table_in table.now) [] (facts_in fs.now) }
 {
-    let n = fs.len() / FACT_WORDS;
-    let mut i = 0;
-    while i < n {
+    for i in 0..fs.len() / FACT_WORDS {
         if is_wrong(table, fs, i) {
             return Err(Refusal {
                 cause: Cause::BadFact,
@@ -107,7 +101,6 @@ fn by_facts(table: &[usize], fs: &[i32]) -> Result<(), Refusal>
                 line: 0,
             });
         }
-        i += 1;
     }
     Ok(())
 }
@@ -139,9 +132,7 @@ pub fn numbers(fs: &[i32], ns: &mut [usize])
     if ns.len() < fs.len() {
         return;
     }
-    let mut i = 0;
-    while i < fs.len() {
+    for i in 0..fs.len() {
         ns[i] = sheet_terms::number(fs[i]);
-        i += 1;
     }
 }

@@ -1,13 +1,10 @@
-use mathlib.Core.Path.{◌≡◌, refl, sym, ◌∙◌}
-use mathlib.Core.List.{[]}
-use Prim.Native.Nat.{◌-◌, ◌<◌}
+use mathlib.Core.Path.{sym, ◌∙◌}
+use Prim.Native.Nat.{◌<◌}
 use native.Mathlib.Omega.{arith}
-use borrow.Author.Rules.{rules}
 use borrow.Author.Tests.{not-true, not-false}
-use lib.ListN.{length, drop}
+use lib.ListN.{length}
 use Rattle.sheet_format.specs.Table.{table_in}
-use Rattle.query_meaning.specs.Facts.{fact_by_fact, facts_in}
-use Rattle.query_facts.specs.Parts.{fact_before}
+use Rattle.query_meaning.specs.Facts.{facts_in}
 use Rattle.query_facts.proofs.Laws.{facts-length, fact_wrong, fact-low, fact-goes, facts-end}
 use Rattle.query_facts.proofs.by_facts.Goals as goal
 

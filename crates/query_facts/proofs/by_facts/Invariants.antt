@@ -1,19 +1,11 @@
 -- `facts::by_facts` meets its contract. The loop's invariant: going on from fact i gives what all facts give.
-use mathlib.Core.Path.{◌≡◌, refl, sym, ◌∙◌}
+use mathlib.Core.Path.{◌≡◌}
 use mathlib.Core.List.{[]}
-use Prim.Native.Nat.{◌-◌, ◌<◌}
-use native.Mathlib.Omega.{arith}
-use borrow.Author.Rules.{rules}
-use borrow.Author.Tests.{not-true, not-false}
-use lib.ListN.{length, drop}
+use lib.ListN.{drop}
 use Rattle.sheet_format.specs.Table.{table_in}
 use Rattle.query_meaning.specs.Facts.{fact_by_fact, facts_in}
 use Rattle.query_facts.specs.Parts.{fact_before}
-use Rattle.query_facts.proofs.Laws.{facts-length, fact_wrong, fact-low, fact-goes, facts-end}
 use Rattle.query_facts.proofs.by_facts.Given as goal
 
 abbrev pub invariant-loop-i : goal.invariant-loop-i
 invariant-loop-i l = fact_by_fact (table_in l.table) (fact_before (facts_in l.fs) l.i) (drop l.i (facts_in l.fs)) ≡ fact_by_fact (table_in l.table) [] (facts_in l.fs)
-
-abbrev pub decreases-loop-i : goal.decreases-loop-i
-decreases-loop-i l = l.n - l.i

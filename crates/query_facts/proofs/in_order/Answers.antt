@@ -1,7 +1,5 @@
 -- `facts::in_order` meets its contract.
-use Rattle.query_facts.proofs.Laws.{order-first, order-next}
-use borrow.Author.Rules.{rules}
-use Rattle.query_meaning.specs.Facts.{facts_in}
+use Rattle.query_facts.proofs.Laws.{order-next}
 use Rattle.query_facts.proofs.in_order.Goals as goal
 
 pub returns : goal.returns

@@ -1,6 +1,5 @@
 -- `facts::refusal` meets its contract.
 use mathlib.Core.Path.{◌∙◌}
-use borrow.Author.Rules.{rules}
 use Rattle.sheet_format.specs.Table.{table_in}
 use Rattle.query_facts.proofs.Laws.{count_wrong, count-over, count-right}
 use Rattle.query_facts.proofs.refusal.Goals as goal
