@@ -82,15 +82,13 @@ fn head_line(ws: &[i32], k: usize) -> usize
 {
     let n = ws.len() / LINE_WORDS;
     let mut left = k;
-    let mut i = 0;
-    while i < n {
+    for i in 0..n {
         if is_head(ws[LINE_WORDS * i + 1]) {
             if left == 1 {
                 return i;
             }
             left -= 1;
         }
-        i += 1;
     }
     n
 }
@@ -101,8 +99,7 @@ fn atom_count(ws: &[i32], from: usize) -> usize
     ensures { AcceptedLines (word_lines ws.now) → length (atoms (drop from (word_lines ws.now))) ≤ most_atoms → result ≡ length (atoms (drop from (word_lines ws.now))) }
 {
     let n = ws.len() / LINE_WORDS;
-    let mut j = 0;
-    while j < MOST_ATOMS {
+    for j in 0..MOST_ATOMS {
         let i = from + j;
         if n <= i {
             return j;
@@ -110,9 +107,8 @@ fn atom_count(ws: &[i32], from: usize) -> usize
         if !is_atom(ws[LINE_WORDS * i + 1]) {
             return j;
         }
-        j += 1;
     }
-    j
+    MOST_ATOMS
 }
 
 // Number x of the block whose head is line h.
@@ -136,10 +132,8 @@ fn entries(ws: &[i32], h: usize) -> [usize; BLOCK_NUMBERS]
     ensures { (length result ≡ block_width) × ((x : ℕ) → x < block_width → get_or result x 0 ≡ entry_of ws.now h x) }
 {
     let mut numbers = [0; BLOCK_NUMBERS];
-    let mut x = 0;
-    while x < BLOCK_NUMBERS {
+    for x in 0..BLOCK_NUMBERS {
         numbers[x] = entry(ws, h, x);
-        x += 1;
     }
     numbers
 }
