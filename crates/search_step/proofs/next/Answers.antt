@@ -2,6 +2,7 @@ use mathlib.Core.List.{List}
 use mathlib.Core.Path.{sym, subst}
 use Prim.Native.Nat.{ℕ, ◌+◌, ◌-◌, ◌*◌, ◌<◌, ◌≤◌}
 use native.Mathlib.Omega.{arith}
+use borrow.Author.Rules.{rules}
 use Rattle.sheet_format.specs.Limits.{most_rows}
 use Rattle.case_verdicts.specs.Verdict.{Sheet}
 use Rattle.case_verdicts.specs.Tableau.{Good}
@@ -86,3 +87,6 @@ returns-clause-advanced c = let a = c.args in
     let many = n.ensures.exact (many-few a.node.now a.p.now r.plan.rows_few) in
     let z = c.loop-i-test.false in
     going_all a.p.now x (Good (sheet_by goal x)) a.ws.now a.node.now l.set l.i l.ws a.below.now a.last a.sl.now a.sm.now (l.invariant x r goal w g) (omega arith)
+
+pub returns-clause-lower_bound : goal.returns-clause-lower_bound
+returns-clause-lower_bound c = (λ lt. absurd (omega arith), search rules, search rules)
