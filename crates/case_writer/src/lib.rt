@@ -34,10 +34,8 @@ fn put_facts(out: &mut [i32], facts: &[usize])
     requires { length facts.now ≤ length out.old }
     ensures { ((j : ℕ) → j < length facts.now → get_or facts.now j 0 < 2147483648) → Wrote out.old out.new 0 (length facts.now) (map pos facts.now) }
 {
-    let mut i = 0;
-    while i < facts.len() {
+    for i in 0..facts.len() {
         out[i] = word(facts[i]);
-        i += 1;
     }
 }
 

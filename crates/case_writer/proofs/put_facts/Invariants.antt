@@ -18,7 +18,4 @@ abbrev pub Small : List ℕ → Type 0
 Small facts = (j : ℕ) → j < length facts → get_or facts j 0 < 2147483648
 
 abbrev pub invariant-loop-i : goal.invariant-loop-i
-invariant-loop-i l = (l.i ≤ length l.facts) × (length l.out ≡ length l.initial.out) × (Small l.facts → Wrote l.initial.out l.out 0 l.i (take l.i (map pos l.facts)))
-
-abbrev pub decreases-loop-i : goal.decreases-loop-i
-decreases-loop-i l = length l.facts - l.i
+invariant-loop-i l = (length l.out ≡ length l.initial.out) × (Small l.facts → Wrote l.initial.out l.out 0 l.i (take l.i (map pos l.facts)))
