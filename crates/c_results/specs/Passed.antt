@@ -1,9 +1,9 @@
 -- What is handed to C, as the definitions of the calls name it: field by field the same.
-use Rattle.std.specs.Prelude.{map}
+use Rattle.std.specs.Prelude.{List, map}
 use Rattle.sheet_format.specs.Sheet.{Returned}
-use Rattle.judge_result.specs.declared.Judgement.{Judgement}
-use Rattle.judge_ends.specs.declared.SetJudgement.{SetJudgement}
-use Rattle.day_page.specs.declared.DayJudgement.{DayJudgement}
+use Rattle.judge_result.specs.Answers.{Judgement}
+use Rattle.judge_ends.specs.Answers.{SetJudgement}
+use Rattle.day_page.specs.Answers.{DayJudgement}
 use Rattle.c_results.specs.declared.Ended.{Ended}
 use Rattle.c_results.specs.declared.Outcome.{Outcome}
 use Rattle.c_results.specs.declared.SetOutcome.{SetOutcome}
@@ -15,8 +15,11 @@ returned_of r = record { number = r.number; line = r.line; count = r.count }
 abbrev pub judgement_of : Outcome → Judgement
 judgement_of r = record { verdict = r.verdict; number = r.number; line = r.line; count = r.count; missing = r.missing }
 
+abbrev pub judgements_of : List Outcome → List Judgement
+judgements_of rs = map judgement_of rs
+
 abbrev pub set_judgement_of : SetOutcome → SetJudgement
-set_judgement_of r = record { number = r.number; line = r.line; count = r.count; sheets = map judgement_of r.sheets }
+set_judgement_of r = record { number = r.number; line = r.line; count = r.count; sheets = judgements_of r.sheets }
 
 abbrev pub day_judgement_of : DayOutcome → DayJudgement
 day_judgement_of r = record { set = set_judgement_of r.set; bytes = r.bytes }

@@ -9,7 +9,7 @@ use native.Mathlib.Numerals.{add-one}
 use borrow.Author.Tests.{lt-ltb}
 use lib.Dec.{eqb}
 use lib.IntN.{ℤ, pos}
-use lib.ListN.{length, get_or, take, length-append}
+use lib.ListN.{length, get_or, take, length-append, length-map}
 use lib.Seq.{take-suc, length-take-le}
 use Rattle.std.specs.List.{count_by, sum_by}
 use Rattle.std.proofs.lemmas.List.Recursion.{is_sum_by}
@@ -22,11 +22,18 @@ use Rattle.sheet_format.proofs.Lists.{append-nil, gather_append, and_both}
 use Rattle.sheet_format.proofs.LineLaws.{bytes-length, bytes_cons, bytes_back, goods_append}
 use Rattle.text_buffer.specs.Puts.{Put}
 use Rattle.text_buffer.proofs.Laws.{said, followed}
-use Rattle.judge_result.specs.declared.Judgement.{Judgement}
+use Rattle.judge_result.specs.Answers.{Judgement}
 use Rattle.judge_result.specs.Judged.{least_room}
 use Rattle.judge_ends.specs.Sets.{most_sheets}
 use Rattle.day_page.specs.Page.{page_room, sheet_line, sheet_lines, tally, facts_of, sum_of_facts, closing_line, page_lines, page_of, Printable, AllShown}
+use Rattle.std.specs.Prelude.{Option, Result}
+use Rattle.sheet_format.specs.declared.Refusal.{Refusal}
+use Rattle.judge_result.specs.declared.Verdict.{Verdict}
+use Rattle.judge_ends.specs.Returns.{judgement_at, judgements_at}
 use Rattle.day_page.specs.Totals.{having, counted, totals_of}
+
+abbrev Stands : Type 0
+Stands = Option (Result Verdict Refusal)
 
 -- what stands at a place past the end
 abbrev pub blank : Judgement
@@ -53,16 +60,26 @@ pub tally_counted : (v : ℕ) (js : List Judgement) → tally v js ≡ count_by 
 unfolding tally
 tally_counted v js = is_sum_by (tally v) (λ j. cond (eqb j.verdict v) 1 0) refl (λ j js. refl) js
 
-pub facts_summed : (js : List Judgement) → sum_of_facts js ≡ sum_by facts_of js
+-- so at the places of a set
+pub tally_at : (v : ℕ) (ps : List Stands) → tally v (judgements_at ps) ≡ count_by (λ p. eqb (judgement_at p).verdict v) ps
+unfolding tally
+tally_at v ps = is_sum_by (λ qs. tally v (judgements_at qs)) (λ p. cond (eqb (judgement_at p).verdict v) 1 0) refl (λ p qs. refl) ps
+
+pub facts_at : (ps : List Stands) → sum_of_facts (judgements_at ps) ≡ sum_by (λ p. facts_of (judgement_at p)) ps
 unfolding sum_of_facts
-facts_summed js = is_sum_by sum_of_facts facts_of refl (λ j js. refl) js
+facts_at ps = is_sum_by (λ qs. sum_of_facts (judgements_at qs)) (λ p. facts_of (judgement_at p)) refl (λ p qs. refl) ps
+
+pub at_place : (ps : List Stands) (i : ℕ) (d : Stands) → i < length ps → judgement_at (get_or ps i d) ≡ get_or (judgements_at ps) i blank
+at_place [] i d within = absurd (omega arith)
+at_place (p ∷ ps) zero d within = refl
+at_place (p ∷ ps) (suc i) d within = at_place ps i d (omega arith)
 
 -- ---- judgements that fit
 
-pub shown-each : (js : List Judgement) (i : ℕ) (d : Judgement) → AllShown js → i < length js → Printable (get_or js i d)
+pub shown-each : (ps : List Stands) (i : ℕ) (d : Stands) → AllShown (judgements_at ps) → i < length ps → Printable (judgement_at (get_or ps i d))
 shown-each [] i d s within = absurd (omega arith)
-shown-each (j ∷ js) zero d s within = s.0
-shown-each (j ∷ js) (suc i) d s within = shown-each js i d s.1 (omega arith)
+shown-each (p ∷ ps) zero d s within = s.0
+shown-each (p ∷ ps) (suc i) d s within = shown-each ps i d s.1 (omega arith)
 
 pub tally-few : (v : ℕ) (js : List Judgement) → tally v js ≤ length js
 tally-few v js = let e = tally_counted v js in let l = count_by-le-length (λ (j : Judgement). eqb j.verdict v) js in omega arith
@@ -91,6 +108,12 @@ module _ {a b c : List ℕ} {at n m : ℕ} where
   -- one sheet's line more
   pub sheets_more : (js : List Judgement) (i : ℕ) → i < length js → Put a b at (bytes_of (sheet_lines 1 (take i js))) n → Put b c n (line_bytes (sheet_line (1 + i) (get_or js i blank))) m → Put a c at (bytes_of (sheet_lines 1 (take (i + 1) js))) m
   sheets_more js i within p q = said (ap bytes_of (sym (lines_more js i within))) (bytes-more (sheet_lines 1 (take i js)) (sheet_line (1 + i) (get_or js i blank)) p q)
+
+  -- so at the places of a set
+  pub places_more : (ps : List Stands) (i : ℕ) (d : Stands) → i < length ps → Put a b at (bytes_of (sheet_lines 1 (take i (judgements_at ps)))) n → Put b c n (line_bytes (sheet_line (1 + i) (judgement_at (get_or ps i d)))) m → Put a c at (bytes_of (sheet_lines 1 (take (i + 1) (judgements_at ps)))) m
+  places_more ps i d within p q =
+      let l = length-map ps judgement_at in
+      sheets_more (judgements_at ps) i (omega arith) p (said (ap (λ j. line_bytes (sheet_line (1 + i) j)) (at_place ps i d within)) q)
 
   -- the closing line
   pub page_end : (js : List Judgement) → Put a b at (bytes_of (sheet_lines 1 js)) n → Put b c n (line_bytes (closing_line js)) m → Put a c at (page_of js) m

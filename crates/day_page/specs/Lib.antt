@@ -1,3 +1,5 @@
+pub mod Answers
 pub mod Page
 pub mod Totals
 pub mod Refusal
+pub mod Returns

@@ -4,7 +4,7 @@ use Rattle.sheet_format.specs.Limits.{field_end}
 use Rattle.sheet_format.specs.Line.{Line, bytes_of}
 use Rattle.query_meaning.specs.Facts.{fact_words}
 use Rattle.judge_result.specs.Judged.{least_room}
-use Rattle.judge_result.specs.declared.Judgement.{Judgement}
+use Rattle.judge_result.specs.Answers.{Judgement}
 
 -- so many bytes must be lent, whatever the set needs: the most sheets have a page of so many
 abbrev pub page_room : ℕ

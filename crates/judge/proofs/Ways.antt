@@ -41,7 +41,7 @@ use Rattle.search_node.specs.Node.{StateFound}
 use Rattle.search_step.specs.Run.{FoundBy}
 use Rattle.case_writer.specs.Over.{HandsOver}
 use Rattle.judge_result.specs.Judged.{judgement, SheetSent, Short, Said, HandedOver, Decided, Judged, TableSent, JudgedBy, least_room}
-use Rattle.judge_result.specs.declared.Judgement.{Judgement}
+use Rattle.judge_result.specs.Answers.{Judgement}
 
 -- ---- a plan of accepted lines is ready for a search
 

@@ -22,15 +22,15 @@ use Rattle.sheet_table.specs.Tables.{relation_on_line, line_right, lines_refusal
 use Rattle.case_verdicts.specs.Verdict.{Sheet}
 use Rattle.case_verdicts.specs.Sheets.{sheet_of}
 use Rattle.judge_result.specs.Judged.{least_room, judgement, Decided, Judged, JudgedBy}
-use Rattle.judge_result.specs.declared.Judgement.{Judgement}
+use Rattle.judge_result.specs.Answers.{Judgement}
 use Rattle.judge_result.proofs.Verdicts.{count_fits, count-fits-by}
-use Rattle.judge_ends.specs.declared.SetJudgement.{SetJudgement}
+use Rattle.judge_ends.specs.Answers.{SetJudgement}
 use Rattle.judge_ends.specs.Sets.{Promise, most_sheets, sheet_at, stretch_at, refusal_of_set, unjudged, set_judgement, SetSent, SetTaken, SetJudged, JudgedTo}
 use Rattle.judge_ends.proofs.Laws.{parted}
 use Rattle.judge_set.proofs.Laws.{set_as}
 use Rattle.day_page.specs.Page.{page_room, page_of, Printable, AllShown}
 use Rattle.day_page.proofs.Laws.{page_fits}
-use Rattle.day_page.specs.declared.DayJudgement.{DayJudgement}
+use Rattle.day_page.specs.Answers.{DayJudgement}
 use Rattle.day_page.specs.Refusal.{refusal_of_day}
 use Rattle.judge_day.specs.Days.{day_judgement, set_sent, DaySent, DayTaken, DayJudged}
 

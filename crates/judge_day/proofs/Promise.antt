@@ -15,14 +15,14 @@ use Rattle.sheet_format.specs.Table.{Table}
 use Rattle.sheet_format.specs.Line.{byte_lines}
 use Rattle.sheet_table.specs.Tables.{table_of}
 use Rattle.judge_result.specs.Judged.{Judged, JudgedBy}
-use Rattle.judge_result.specs.declared.Judgement.{Judgement}
-use Rattle.judge_ends.specs.declared.SetJudgement.{SetJudgement}
+use Rattle.judge_result.specs.Answers.{Judgement}
+use Rattle.judge_ends.specs.Answers.{SetJudgement}
 use Rattle.judge_ends.specs.Sets.{Promise, most_sheets, refusal_of_set, unjudged, SetTaken, SetJudged}
 use Rattle.judge_ends.proofs.Laws.{parted}
 use Rattle.day_page.specs.Page.{page_room, sheet_lines, tally, page_of}
 use Rattle.day_page.specs.Totals.{totals_of}
 use Rattle.day_page.proofs.Laws.{page_reads}
-use Rattle.day_page.specs.declared.DayJudgement.{DayJudgement}
+use Rattle.day_page.specs.Answers.{DayJudgement}
 use Rattle.day_page.specs.Refusal.{refusal_of_day}
 use Rattle.judge_day.specs.Days.{set_sent, results, DayTaken, DayJudged}
 use Rattle.judge_day.proofs.Laws.{neither, Showing, set-shown}

@@ -2,12 +2,12 @@
 -- for the page, `printed` what it holds afterwards.
 use Rattle.std.specs.Prelude.{◌≡◌, List, ◌⊎◌, ℕ, ℤ, length, take, replicate}
 use Rattle.sheet_format.specs.Sheet.{over}
-use Rattle.judge_result.specs.declared.Judgement.{Judgement}
-use Rattle.judge_ends.specs.declared.SetJudgement.{SetJudgement}
+use Rattle.judge_result.specs.Answers.{Judgement}
+use Rattle.judge_ends.specs.Answers.{SetJudgement}
 use Rattle.judge_ends.specs.Sets.{Promise, most_sheets, unjudged, set_judgement, SetTaken}
 use Rattle.day_page.specs.Page.{page_of}
 use Rattle.day_page.specs.Refusal.{refusal_of_day}
-use Rattle.day_page.specs.declared.DayJudgement.{DayJudgement}
+use Rattle.day_page.specs.Answers.{DayJudgement}
 
 -- the set's judgement, and how many bytes its page has
 abbrev pub day_judgement : SetJudgement → ℕ → DayJudgement

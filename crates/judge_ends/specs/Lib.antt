@@ -1,2 +1,4 @@
+pub mod Answers
 pub mod Sets
 pub mod Places
+pub mod Returns

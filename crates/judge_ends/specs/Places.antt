@@ -1,7 +1,7 @@
 -- What is known of a set that is taken, and what judging one of its sheets gives.
 use Rattle.std.specs.Prelude.{◌≡◌, List, ℕ, ◌+◌, ◌*◌, ◌<◌, ◌≤◌, ℤ, length, get_or, take, drop}
 use Rattle.judge_result.specs.Judged.{least_room}
-use Rattle.judge_result.specs.declared.Judgement.{Judgement}
+use Rattle.judge_result.specs.Answers.{Judgement}
 use Rattle.judge_ends.specs.Sets.{Promise, most_sheets, start_of, sheet_at, stretch_at}
 
 -- each sheet lies within the bytes, and there is a stretch for each

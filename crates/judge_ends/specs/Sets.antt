@@ -2,8 +2,8 @@
 -- `out` is what was lent, `after` what it holds afterwards. Places are counted from 0.
 use Rattle.std.specs.Prelude.{◌≡◌, Bool, false, cond, not, ◌||◌, List, [], ◌∷◌, ◌⊎◌, ℕ, ◌-◌, ◌*◌, ◌<◌, ◌≤◌, eqb, ltb, ℤ, length, get_or, take, drop, replicate}
 use Rattle.judge_result.specs.Judged.{least_room, judgement}
-use Rattle.judge_result.specs.declared.Judgement.{Judgement}
-use Rattle.judge_ends.specs.declared.SetJudgement.{SetJudgement}
+use Rattle.judge_result.specs.Answers.{Judgement}
+use Rattle.judge_ends.specs.Answers.{SetJudgement}
 
 -- a set has so many sheets at most
 abbrev pub most_sheets : ℕ

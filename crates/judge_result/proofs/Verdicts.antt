@@ -16,7 +16,7 @@ use Rattle.case_verdicts.specs.Verdict.{Sheet, HasVerdict}
 use Rattle.case_verdicts.specs.Sheets.{sheet_of}
 use Rattle.case_verdicts.proofs.Verdicts.{exclusive}
 use Rattle.judge_result.specs.Judged.{least_room, judgement, SheetSent, Short, Said, HandedOver, Decided, Judged, JudgedBy}
-use Rattle.judge_result.specs.declared.Judgement.{Judgement}
+use Rattle.judge_result.specs.Answers.{Judgement}
 
 module _ (x : Sheet) (out after : List ℤ) (r : Judgement) (room : least_room ≤ length out) where
   -- the verdict that is returned holds

@@ -9,7 +9,7 @@ use Rattle.query_meaning.specs.Evaluate.{answer_word_count}
 use Rattle.case_verdicts.specs.Verdict.{Sheet, HasVerdict}
 use Rattle.case_verdicts.specs.Handed.{Handed}
 use Rattle.case_verdicts.specs.Sheets.{top, sheet_of}
-use Rattle.judge_result.specs.declared.Judgement.{Judgement}
+use Rattle.judge_result.specs.Answers.{Judgement}
 
 -- Causes, 13: so many words must be lent, whatever the verdict
 abbrev pub least_room : ℕ

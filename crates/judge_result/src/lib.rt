@@ -1,39 +1,28 @@
 // What judging gives back, and how many words it wants.
 #![tactic(auto)]
 
-ghost use Rattle.std.specs.Prelude.{◌≡◌, []};
-ghost use Rattle.judge_result.specs.Judged.{judgement};
-
-// The verdict, and with a refusal its number and line. Not covered: how many facts the case in the lent words has, and the missing answer.
-#[derive(Clone, Copy)]
-pub struct Judgement {
-    pub verdict: usize,
-    pub number: usize,
-    pub line: usize,
-    pub count: usize,
-    pub missing: [usize; 4],
+/// What a saved list comes to, over all logs that give the listed rows.
+#[derive(Clone, Copy, PartialEq, Eq, Debug)]
+pub enum Verdict {
+    /// The lists have each answer of the question.
+    Covered,
+    /// In some log they lack one: how many facts such a log has in the lent words, and the answer that is missing, unused numbers 0.
+    NotCovered { facts: usize, missing: [usize; 4] },
+    /// No log gives the listed rows.
+    NoLog,
 }
 
+/// The number of a verdict, as C and pages have it: covered,
 pub const COVERED: usize = 0;
 
+/// not covered,
 pub const NOT_COVERED: usize = 1;
 
+/// no log,
 pub const NO_LOG: usize = 2;
 
+/// and what stands in place of a verdict where the sheet is sent back.
 pub const REFUSED: usize = 9;
 
-// So many words must be lent.
+/// So many words must be lent.
 pub const LEAST_ROOM: usize = 1260;
-
-// A judgement that hands nothing over.
-pub fn plain(verdict: usize, number: usize, line: usize) -> Judgement
-    ensures { result ≡ judgement verdict number line 0 [] }
-{
-    Judgement {
-        verdict,
-        number,
-        line,
-        count: 0,
-        missing: [0; 4],
-    }
-}

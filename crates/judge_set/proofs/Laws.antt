@@ -11,10 +11,16 @@ use lib.ListN.{length, get_or, take, drop, set, replicate, length-set, length-re
 use lib.Seq.{length-take-le, take_at, drop_at, drop-drop, take-take, get_or-set_same, get_or-set_other}
 use Rattle.list_laws.proofs.Lists.{zeros_get}
 use Rattle.judge_result.specs.Judged.{least_room}
-use Rattle.judge_result.specs.declared.Judgement.{Judgement}
-use Rattle.judge_ends.specs.declared.SetJudgement.{SetJudgement}
+use Rattle.judge_result.specs.Answers.{Judgement}
+use Rattle.judge_ends.specs.Answers.{SetJudgement}
 use Rattle.judge_ends.specs.Sets.{Promise, most_sheets, start_of, sheet_at, stretch_at, refusal_of_set, unjudged, set_judgement, JudgedTo, SetJudged}
 use Rattle.judge_ends.specs.Places.{JudgedAt}
+use Rattle.std.specs.Prelude.{Option, Some, Result}
+use Rattle.std.proofs.lemmas.List.{map-set}
+use Rattle.sheet_format.specs.declared.Refusal.{Refusal}
+use Rattle.judge_result.specs.declared.Verdict.{Verdict}
+use Rattle.judge_result.specs.Returns.{judgement_from_result}
+use Rattle.judge_ends.specs.Returns.{judgement_at, judgements_at}
 
 -- ---- one place
 
@@ -99,6 +105,11 @@ module _ (J : Promise) (n : ℕ) (bytes ends : List ℕ) (out mid after : List �
     rest = behind;
     same = same ∙ t.same;
   }
+
+-- the same of what stands at the places
+pub judged-one-more : (J : Promise) (n : ℕ) (bytes ends : List ℕ) (out mid after : List ℤ) (ps : List (Option (Result Verdict Refusal))) (j : Result Verdict Refusal) → n < most_sheets → JudgedTo J n bytes ends out mid (judgements_at ps)
+    → JudgedAt J n bytes ends mid after (judgement_from_result j) → length after ≡ length mid → JudgedTo J (n + 1) bytes ends out after (judgements_at (set ps n (Some j)))
+judged-one-more J n bytes ends out mid after ps j small t p same = subst (JudgedTo J (n + 1) bytes ends out after) (sym (map-set judgement_at ps n (Some j))) (judged-more J n bytes ends out mid after (judgements_at ps) (judgement_from_result j) small t p same)
 
 -- ---- the set
 

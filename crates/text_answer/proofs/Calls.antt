@@ -15,7 +15,7 @@ use Rattle.sheet_table.specs.Loads.{Loaded}
 use Rattle.sheet_own_table.specs.Own.{own_bytes}
 use Rattle.sheet_own_table.proofs.Means.{own-passes, own_means}
 use Rattle.judge_result.specs.Judged.{Judged, TableSent, JudgedBy}
-use Rattle.judge_result.specs.declared.Judgement.{Judgement}
+use Rattle.judge_result.specs.Answers.{Judgement}
 use Rattle.text_begins.specs.Begins.{is_text_bytes}
 use Rattle.text_writer.specs.Texts.{refusal_bytes}
 use Rattle.text_writer.specs.Says.{SaysWords}

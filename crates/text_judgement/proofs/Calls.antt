@@ -28,7 +28,7 @@ use Rattle.query_meaning.specs.Evaluate.{answer_word_count}
 use Rattle.query_blocks.proofs.Accepted.{Clean, scan-first}
 use Rattle.case_verdicts.specs.Sheets.{is_question, question_in}
 use Rattle.judge_result.specs.Judged.{least_room, Judged, SheetSent}
-use Rattle.judge_result.specs.declared.Judgement.{Judgement}
+use Rattle.judge_result.specs.Answers.{Judgement}
 use Rattle.text_buffer.specs.Puts.{Put}
 use Rattle.text_buffer.specs.Words.{bytes}
 use Rattle.text_buffer.proofs.Laws.{said}

@@ -5,7 +5,7 @@ use Rattle.sheet_format.specs.Table.{Table}
 use Rattle.sheet_format.specs.Line.{byte_lines}
 use Rattle.case_verdicts.specs.Sheets.{question_in}
 use Rattle.judge_result.specs.Judged.{least_room, Judged}
-use Rattle.judge_result.specs.declared.Judgement.{Judgement}
+use Rattle.judge_result.specs.Answers.{Judgement}
 use Rattle.text_buffer.specs.Words.{bytes}
 use Rattle.text_writer.specs.Texts.{terms_bytes, facts_bytes, refusal_bytes}
 use Rattle.text_writer.specs.Says.{Silent, Spoken}

@@ -6,10 +6,11 @@ ghost use Rattle.sheet_format.specs.Limits.{field_byte_count};
 ghost use Rattle.sheet_format.specs.Table.{table_in};
 ghost use Rattle.sheet_format.specs.Line.{line_at};
 ghost use Rattle.text_buffer.specs.Puts.{Put};
+ghost use Rattle.judge_result.specs.Returns.{judgement_from_result};
 ghost use Rattle.text_judgement.specs.Verdict.{value_word, missing_bytes, case_bytes, verdict_bytes};
 
-use judge_result::{COVERED, Judgement, NO_LOG, REFUSED};
-use sheet_format::{FIELD_BYTES, FIELD_END, MOST_HEAD_FIELDS, TABLE_NUMBERS};
+use judge_result::Verdict;
+use sheet_format::{FIELD_BYTES, FIELD_END, MOST_HEAD_FIELDS, Refusal, TABLE_NUMBERS};
 use text_buffer::put;
 use text_facts::put_facts;
 use text_refusals::put_refusal;
@@ -73,21 +74,17 @@ pub fn put_judgement(
     table: &[usize; TABLE_NUMBERS],
     out: &mut [u8],
     columns: usize,
-    j: Judgement,
+    judged: Result<Verdict, Refusal>,
     facts: &[i32],
 ) -> usize
-    ensures { Put out.old out.new 0 (verdict_bytes (table_in table.now) columns j facts.now) result }
+    ensures { Put out.old out.new 0 (verdict_bytes (table_in table.now) columns (judgement_from_result judged) facts.now) result }
 {
-    let verdict = j.verdict;
-    if verdict == COVERED {
-        return put(out, 0, b"covered\n");
+    match judged {
+        Ok(Verdict::Covered) => put(out, 0, b"covered\n"),
+        Ok(Verdict::NoLog) => put(out, 0, b"no log gives these rows\n"),
+        Ok(Verdict::NotCovered { facts: count, missing }) => {
+            put_case(table, out, columns, missing, facts, count)
+        }
+        Err(Refusal { cause, line }) => put_refusal(out, 0, cause.number(), line, 0),
     }
-    if verdict == NO_LOG {
-        return put(out, 0, b"no log gives these rows\n");
-    }
-    if verdict == REFUSED {
-        return put_refusal(out, 0, j.number, j.line, 0);
-    }
-    let missing = j.missing;
-    put_case(table, out, columns, missing, facts, j.count)
 }

@@ -6,7 +6,7 @@ use borrow.Author.Count.{below_none, below_more}
 use borrow.Author.Rules.{rules}
 use lib.ListN.{length, get_or, set, replicate, length-set, length-map, get_or-map}
 use lib.Seq.{ext_get_or, get_or-set_same, get_or-set_other}
-use Rattle.judge_result.specs.declared.Judgement.{Judgement}
+use Rattle.judge_result.specs.Answers.{Judgement}
 use Rattle.judge_ends.specs.Sets.{most_sheets}
 use Rattle.c_results.specs.Passed.{judgement_of}
 use Rattle.c_results.specs.declared.Outcome.{Outcome}

@@ -1,6 +1,6 @@
 -- Each place that was passed holds the judgement's numbers.
 use Rattle.std.proofs.Common.{◌≡◌, ℕ, ◌<◌, List, [], length, get_or}
-use Rattle.judge_result.specs.declared.Judgement.{Judgement}
+use Rattle.judge_result.specs.Answers.{Judgement}
 use Rattle.judge_ends.specs.Sets.{most_sheets}
 use Rattle.c_results.specs.Passed.{judgement_of}
 use Rattle.c_results.specs.declared.Outcome.{Outcome}

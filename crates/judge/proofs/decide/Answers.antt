@@ -16,10 +16,10 @@ pub returns-then-find-2 : goal.returns-then-find-2
 returns-then-find-2 c = λ x r.
     let f = c.find in
     let g = c.find-2 in
-    decided-covered c.args.p.now x r c.args.out.now c.requires f.result g.result f.new.out g.new.out c.if-find.false c.if-find-2.true (f.ensures.found_by x r refl) (g.ensures.found_by x r f.auto.out) c.plain.result c.plain.ensures
+    decided-covered c.args.p.now x r c.args.out.now c.requires f.result g.result f.new.out g.new.out c.if-find.false c.if-find-2.true (f.ensures.found_by x r refl) (g.ensures.found_by x r f.auto.out) _ refl
 
 pub returns : goal.returns
 returns c = λ x r.
     let f = c.find in
     let g = c.find-2 in
-    decided-no-log c.args.p.now x r c.args.out.now c.requires g.result g.new.out c.if-find-2.false (g.ensures.found_by x r f.auto.out) c.plain-2.result c.plain-2.ensures
+    decided-no-log c.args.p.now x r c.args.out.now c.requires g.result g.new.out c.if-find-2.false (g.ensures.found_by x r f.auto.out) _ refl

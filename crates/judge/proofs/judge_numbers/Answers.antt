@@ -8,6 +8,7 @@ use lib.Seq.{length-take-le}
 use Rattle.sheet_format.specs.Returns.{cause_number, ending_of}
 use Rattle.sheet_format.specs.Table.{table_in}
 use Rattle.sheet.proofs.Calls.{few-lines, lines-read, read-clean}
+use Rattle.judge_result.specs.Returns.{judgement_from_result}
 use Rattle.judge.proofs.Ways.{judged-sent, judged-read}
 use Rattle.judge.proofs.judge_numbers.Goals as goal
 
@@ -54,10 +55,10 @@ returns-in-Ok c = let a = c.args in
     let done = sym rd.ensures.0 ∙ ap ending_of c.in-Ok.is in
     let f = few-lines (table_in a.table.now) a.sheet.now m done in
     let k = rd.auto.out in
-    λ sound. judged-read (table_in a.table.now) a.sheet.now a.out.now c.judge_words.new.out m _ c.judge_words.result done (lines-read (table_in a.table.now) a.sheet.now m done _ refl rd.new.out rd.ensures.1) (c.judge_words.ensures sound)
+    λ sound. judged-read (table_in a.table.now) a.sheet.now a.out.now c.judge_words.new.out m _ (judgement_from_result c.judge_words.result) done (lines-read (table_in a.table.now) a.sheet.now m done _ refl rd.new.out rd.ensures.1) (c.judge_words.ensures sound)
 
 pub returns-in-Err : goal.returns-in-Err
 returns-in-Err c =
     let a = c.args in
     let rd = c.read in
-    λ sound. judged-sent (table_in a.table.now) a.sheet.now a.out.now (cause_number c.in-Err.refusal.cause) c.in-Err.refusal.line (ending_of rd.result) rd.ensures.0 (ap ending_of c.in-Err.is) c.plain.result (search rules)
+    λ sound. judged-sent (table_in a.table.now) a.sheet.now a.out.now (cause_number c.in-Err.refusal.cause) c.in-Err.refusal.line (ending_of rd.result) rd.ensures.0 (ap ending_of c.in-Err.is) _ refl

@@ -1,22 +1,18 @@
--- By the number: nothing lent is changed, or the set is judged and its page is put.
-use mathlib.Core.Path.{sym, ◌∙◌}
-use borrow.Author.Rules.{rules}
+-- Sent back: nothing lent is changed. Else the set is judged and its page is put.
+use Rattle.std.proofs.Common.{refl, sym, ap, ◌∙◌, subst, arith, rules}
+use Rattle.std.specs.Prelude.{Ok, Err}
+use Rattle.std.proofs.lemmas.List.{take-map}
+use lib.ListN.{length, length-map}
+use Rattle.sheet_format.specs.Returns.{cause_in}
+use Rattle.sheet_format.proofs.Endings.{named}
 use Rattle.judge_result.specs.Judged.{JudgedBy}
-use Rattle.judge_day.proofs.Laws.{by_number, shown_by, set-shown, day_sent, day_taken}
+use Rattle.judge_ends.specs.Returns.{judgement_at, set_judgement_from_result}
+use Rattle.judge_day.proofs.Laws.{shown_by, set-shown, places-shown, no-set, day_sent, page-put}
 use Rattle.judge_day.proofs.judge_day_loaded.Goals as goal
 
-pub print_unless-n-requires : goal.print_unless-n-requires
-print_unless-n-requires c = let a = c.args in
+pub put_page-n-requires : goal.put_page-n-requires
+put_page-n-requires c = let a = c.args in
     let (tb, loads) = c.requires in
-    λ zero. set-shown a.bytes.now a.ends.now a.out.now a.page.now (JudgedBy tb) c.judge_unless-set.new.out c.judge_unless-set.result (shown_by tb) (sym c.day_refusal-number.ensures ∙ zero) (c.judge_unless-set.ensures.set_judged zero tb loads)
-
-pub returns : goal.returns
-returns c = let a = c.args in
-    let after = c.judge_unless-set.new.out in
-    let printed = c.print_unless-n.new.page in
-    let set = c.judge_unless-set.result in
-    let n = c.print_unless-n.result in
-    λ tb loads.
-    by_number c.day_refusal-number.result
-    (λ zero. day_taken a.bytes.now a.ends.now a.out.now a.page.now (JudgedBy tb) after printed set n (sym c.day_refusal-number.ensures ∙ zero) (c.judge_unless-set.ensures.set_judged zero tb loads) (c.print_unless-n.ensures.put zero))
-    (λ some. day_sent a.bytes.now a.ends.now a.out.now a.page.now (JudgedBy tb) c.day_refusal-number.result after printed set n c.day_refusal-number.ensures some (c.judge_unless-set.ensures.out_unchanged some) (c.print_unless-n.ensures.page_unchanged some))
+    let s = c.judge_set_loaded in
+    let clean = sym c.day_refusal.ensures ∙ ap cause_in c.in-Ok.is in
+    places-shown a.bytes.now a.ends.now a.out.now a.page.now (JudgedBy tb) s.new.out c.in-Ok-2.set (shown_by tb) clean (subst (λ r. SetJudged (JudgedBy tb) a.bytes.now a.ends.now a.out.now s.new.out (set_judgement_from_result r)) c.in-Ok-2.is (s.ensures tb loads))

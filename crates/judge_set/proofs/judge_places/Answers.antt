@@ -1,20 +1,14 @@
-use mathlib.Core.Path.{subst, ◌≡◌, refl, sym, ◌∙◌}
-use mathlib.Core.List.{List}
-use Prim.Native.Nat.{ℕ, ◌≤◌, ◌-◌}
-use native.Mathlib.Omega.{arith}
-use borrow.Author.Rules.{rules}
-use lib.ListN.{length}
-use Rattle.sheet_table.specs.Loads.{Loads}
+use Rattle.std.proofs.Common.{arith, ◌∙◌, rules}
 use Rattle.judge_result.specs.Judged.{JudgedBy}
-use Rattle.judge_ends.specs.Sets.{JudgedTo}
-use Rattle.judge_set.proofs.Laws.{judged-none, judged-more}
+use Rattle.judge_result.specs.Returns.{judgement_from_result}
+use Rattle.judge_ends.specs.Returns.{judgements_at}
+use Rattle.judge_set.proofs.Laws.{judged-none, judged-one-more}
 use Rattle.judge_set.proofs.judge_places.Goals as goal
 
-pub loop-next-preserved : goal.loop-next-preserved
-loop-next-preserved c = let a = c.args in
-    let j = c.judge_place-j in
+pub loop-place-preserved : goal.loop-place-preserved
+loop-place-preserved c = let a = c.args in
+    let j = c.judge_place-judged in
     let p = c.requires in (
-      omega arith,
-      j.auto.out ∙ c.loop-next.invariant.1,
-      λ tb loads. judged-more (JudgedBy tb) c.loop-next.next a.bytes.now a.ends.now a.out.now c.loop-next.out j.new.out c.loop-next.sheets j.result (omega arith) (c.loop-next.invariant.2 tb loads) (j.ensures tb loads) j.auto.out,
+      j.auto.out ∙ c.loop-place.invariant.0,
+      λ tb loads. judged-one-more (JudgedBy tb) c.loop-place.place a.bytes.now a.ends.now a.out.now c.loop-place.out j.new.out c.loop-place.sheets j.result (omega arith) (c.loop-place.invariant.1 tb loads) (j.ensures tb loads) j.auto.out,
     )
