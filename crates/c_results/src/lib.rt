@@ -1,11 +1,11 @@
 // What the calls give back, as C has it: the structs of include/figdawesa.h.
 #![tactic(auto)]
 
-ghost use Rattle.std.specs.Prelude.{◌≡◌, ◌-◌};
+ghost use Rattle.std.specs.Prelude.{◌≡◌, ◌-◌, replicate};
 ghost use Rattle.sheet_format.specs.Returns.{ending_of};
 ghost use Rattle.sheet_format.specs.Sheet.{returned};
 ghost use Rattle.judge_result.specs.Returns.{judgement_from_result};
-ghost use Rattle.judge_ends.specs.Sets.{unjudged};
+ghost use Rattle.judge_ends.specs.Sets.{most_sheets, unjudged, set_judgement};
 ghost use Rattle.judge_ends.specs.Returns.{judgement_at, judgements_at, set_judgement_from_result};
 ghost use Rattle.day_page.specs.Returns.{day_judgement_from_result};
 ghost use Rattle.c_results.specs.Passed.{returned_of, judgement_of, judgements_of, set_judgement_of, day_judgement_of};
@@ -71,9 +71,9 @@ impl From<Result<usize, Refusal>> for Ended {
                 line: 0,
                 count,
             },
-            Err(Refusal { cause, line }) => Ended {
-                number: cause.number(),
-                line,
+            Err(refusal) => Ended {
+                number: refusal.cause.number(),
+                line: refusal.line,
                 count: 0,
             },
         }
@@ -160,23 +160,30 @@ fn at_places(places: [Place; MOST_SHEETS]) -> [Outcome; MOST_SHEETS]
     all
 }
 
+// A set that is sent back by a number.
+fn sent_back(number: usize) -> SetOutcome
+    ensures { set_judgement_of result ≡ set_judgement number 0 (replicate most_sheets (unjudged number)) }
+{
+    SetOutcome {
+        number,
+        line: 0,
+        count: 0,
+        sheets: [unjudged(number); MOST_SHEETS],
+    }
+}
+
 impl From<Result<JudgedSet, Cause>> for SetOutcome {
     ghost from_gives = { λ s r. set_judgement_of r ≡ set_judgement_from_result s };
 
     fn from(set: Result<JudgedSet, Cause>) -> SetOutcome {
         match set {
-            Ok(JudgedSet { count, sheets }) => SetOutcome {
+            Ok(set) => SetOutcome {
                 number: 0,
                 line: 0,
-                count,
-                sheets: at_places(sheets),
+                count: set.count,
+                sheets: at_places(set.sheets),
             },
-            Err(cause) => SetOutcome {
-                number: cause.number(),
-                line: 0,
-                count: 0,
-                sheets: [unjudged(cause.number()); MOST_SHEETS],
-            },
+            Err(cause) => sent_back(cause.number()),
         }
     }
 }

@@ -7,10 +7,10 @@ ghost use Rattle.c_texts.specs.Passed.{text_outcome_of};
 
 use text_to_sheet::NotMade;
 
-// What became of a text: how many bytes its sheet has; or what was expected, in which relation and in which line of the text; or the sheet's refusal, its
-// number and line, and the line of the text.
+/// What became of a text: how many bytes its sheet has; or what was expected, in which relation and in which line of the text; or the sheet's refusal, its
+/// number and line, and the line of the text.
 #[repr(C)]
-#[derive(Clone, Copy)]
+#[derive(Clone, Copy, PartialEq, Eq, Debug)]
 pub struct TextOutcome {
     pub expected: usize,
     pub relation: usize,
@@ -20,40 +20,41 @@ pub struct TextOutcome {
     pub bytes: usize,
 }
 
-// What became of a text as C has it.
-pub fn passed_text(made: Result<usize, NotMade>) -> TextOutcome
-    ensures { result ≡ text_outcome_of (made_from_result made) }
-{
-    match made {
-        Ok(bytes) => TextOutcome {
-            expected: 0,
-            relation: 0,
-            number: 0,
-            line: 0,
-            begun: 0,
-            bytes,
-        },
-        Err(
-            NotMade::Expected {
-                line,
-                what,
-                relation,
+impl From<Result<usize, NotMade>> for TextOutcome {
+    ghost from_gives = { λ m r. r ≡ text_outcome_of (made_from_result m) };
+
+    fn from(made: Result<usize, NotMade>) -> TextOutcome {
+        match made {
+            Ok(bytes) => TextOutcome {
+                expected: 0,
+                relation: 0,
+                number: 0,
+                line: 0,
+                begun: 0,
+                bytes,
             },
-        ) => TextOutcome {
-            expected: what.number(),
-            relation,
-            number: 0,
-            line: 0,
-            begun: line,
-            bytes: 0,
-        },
-        Err(NotMade::Refused { refusal, text_line }) => TextOutcome {
-            expected: 0,
-            relation: 0,
-            number: refusal.cause.number(),
-            line: refusal.line,
-            begun: text_line,
-            bytes: 0,
-        },
+            Err(
+                NotMade::Expected {
+                    line,
+                    what,
+                    relation,
+                },
+            ) => TextOutcome {
+                expected: what.number(),
+                relation,
+                number: 0,
+                line: 0,
+                begun: line,
+                bytes: 0,
+            },
+            Err(NotMade::Refused { refusal, text_line }) => TextOutcome {
+                expected: 0,
+                relation: 0,
+                number: refusal.cause.number(),
+                line: refusal.line,
+                begun: text_line,
+                bytes: 0,
+            },
+        }
     }
 }

@@ -12,10 +12,11 @@
 
 ghost use Rattle.std.specs.Prelude.{◌≡◌, ◌+◌, ◌*◌, ◌≤◌, length};
 ghost use Rattle.judge_result.specs.Judged.{least_room};
+ghost use Rattle.judge_result.specs.Returns.{judgement_from_result};
 
-use judge_result::{Judgement, LEAST_ROOM};
+use judge_result::{COVERED, LEAST_ROOM, NO_LOG, Verdict};
 use query_meaning::FACT_WORDS;
-use sheet_format::{FIELD_BYTES, FIELD_END, MOST_SHEET_BYTES, TABLE_NUMBERS};
+use sheet_format::{FIELD_BYTES, FIELD_END, MOST_SHEET_BYTES, Refusal, TABLE_NUMBERS};
 use sheet_table_file::TABLE_READ;
 use std::io;
 
@@ -38,26 +39,26 @@ fn cover_given(rt: &(impl Input + Print), table: &[u8]) -> io::Result<()> {
 // Judges a sheet by a table, and prints what comes out.
 fn cover(rt: &impl Print, table: &[u8], sheet: &[u8]) -> io::Result<()> {
     let mut facts = [0i32; LEAST_ROOM];
-    let j = judged(table, sheet, &mut facts);
-    let verdict = j.verdict;
-    let count = j.count;
-    if verdict == 9 {
-        return print_refusal(rt, j.number, j.line);
+    match judged(table, sheet, &mut facts) {
+        Err(refusal) => print_refusal(rt, refusal.cause.number(), refusal.line),
+        Ok(Verdict::Covered) => print_verdict(rt, COVERED),
+        Ok(Verdict::NoLog) => print_verdict(rt, NO_LOG),
+        Ok(Verdict::NotCovered {
+            facts: count,
+            missing,
+        }) => {
+            print_count(rt, count)?;
+            print_missing(rt, &missing, columns(sheet))?;
+            let numbers = sheet_table::load(table).unwrap_or([0; TABLE_NUMBERS]);
+            print_facts(rt, &numbers, &facts, count)
+        }
     }
-    if verdict != 1 {
-        return print_verdict(rt, verdict);
-    }
-    let missing = j.missing;
-    print_count(rt, count)?;
-    print_missing(rt, &missing, columns(sheet))?;
-    let numbers = sheet_table::load(table).unwrap_or([0; TABLE_NUMBERS]);
-    print_facts(rt, &numbers, &facts, count)
 }
 
 // Judges a sheet into the words that a verdict wants: the facts of its case are among them.
-fn judged(table: &[u8], sheet: &[u8], facts: &mut [i32]) -> Judgement
+fn judged(table: &[u8], sheet: &[u8], facts: &mut [i32]) -> Result<Verdict, Refusal>
     requires { length facts.old ≡ least_room }
-    ensures { result.count * 5 ≤ least_room }
+    ensures { (judgement_from_result result).count * 5 ≤ least_room }
 {
     judge::judge_by_table(table, sheet, facts)
 }

@@ -192,12 +192,10 @@ fn complain(errors: &impl Print, name: &[u8], reason: NotMade) {
 fn print(rt: &impl Print, table: &[u8], bytes: &[u8], ends: &[usize]) -> io::Result<()> {
     let mut facts = [0i32; MOST_SHEETS * LEAST_ROOM];
     let mut page = [0u8; PAGE_ROOM];
-    let day = judge_day::judge_day_by_table(table, bytes, ends, &mut facts, &mut page);
-    let set = day.set;
-    if set.number != 0 {
-        return print_refusal(rt, set.number, set.line);
-    }
-    let n = day.bytes;
+    let n = match judge_day::judge_day_by_table(table, bytes, ends, &mut facts, &mut page) {
+        Err(cause) => return print_refusal(rt, cause.number(), 0),
+        Ok(day) => day.bytes,
+    };
     if n <= page.len() {
         rt.write_all(&page[0..n])?;
     }

@@ -139,13 +139,9 @@ pub fn put_page(out: &mut [u8], sheets: &[Place]) -> usize
 pub fn day_refusal(bytes: &[u8], ends: &[usize], out: &[i32], page: &[u8]) -> Result<(), Cause>
     ensures { cause_in result ≡ refusal_of_day bytes.now ends.now out.now page.now }
 {
-    match judge_ends::set_refusal(bytes, ends, out) {
-        Err(cause) => Err(cause),
-        Ok(()) => {
-            if page.len() < PAGE_ROOM {
-                return Err(Cause::NoRoom);
-            }
-            Ok(())
-        }
+    judge_ends::set_refusal(bytes, ends, out)?;
+    if page.len() < PAGE_ROOM {
+        return Err(Cause::NoRoom);
     }
+    Ok(())
 }

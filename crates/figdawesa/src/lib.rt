@@ -20,53 +20,50 @@ ghost use Rattle.text_from_sheet.specs.Shown.{text_ending, text_lent, text_endin
 ghost use Rattle.text_answer.specs.Answered.{Answered, AnsweredBy};
 ghost use Rattle.c_texts.specs.Passed.{text_outcome_of};
 
-use c_results::{
-    DayOutcome, Ended, Outcome, SetOutcome, Stretch, in_numbers, part, passed, passed_day,
-    passed_set,
-};
-use c_texts::{TextOutcome, passed_text};
+use c_results::{DayOutcome, Ended, Outcome, SetOutcome, Stretch, part};
+use c_texts::TextOutcome;
 
-// A sheet's bytes to its number form in the lent words.
+/// A sheet's bytes to its number form in the lent words.
 #[unsafe(no_mangle)]
 pub extern "C" fn figdawesa_read(sheet: &[u8], out: &mut [i32]) -> Ended
     ensures { (returned_of result ≡ returned (read_ending ten sheet.now (length out.old))) × (out.new ≡ read_words ten sheet.now out.old) }
 {
-    in_numbers(sheet::read(sheet, out))
+    sheet::read(sheet, out).into()
 }
 
-// The same by a club's table of relations, which is looked at first.
+/// The same by a club's table of relations, which is looked at first.
 #[unsafe(no_mangle)]
 pub extern "C" fn figdawesa_read_by_table(table: &[u8], sheet: &[u8], out: &mut [i32]) -> Ended
     ensures { (returned_of result ≡ returned (read_ending_by table.now sheet.now (length out.old))) × (out.new ≡ read_words_by table.now sheet.now out.old) }
 {
-    in_numbers(sheet::read_by_table(table, sheet, out))
+    sheet::read_by_table(table, sheet, out).into()
 }
 
-// A number form to its sheet's bytes in the lent bytes.
+/// A number form to its sheet's bytes in the lent bytes.
 #[unsafe(no_mangle)]
 pub extern "C" fn figdawesa_write(words: &[i32], out: &mut [u8]) -> Ended
     ensures { (returned_of result ≡ returned (write_ending ten words.now (length out.old))) × (out.new ≡ write_bytes ten words.now out.old) }
 {
-    in_numbers(sheet::write(words, out))
+    sheet::write(words, out).into()
 }
 
-// The same by a club's table.
+/// The same by a club's table.
 #[unsafe(no_mangle)]
 pub extern "C" fn figdawesa_write_by_table(table: &[u8], words: &[i32], out: &mut [u8]) -> Ended
     ensures { (returned_of result ≡ returned (write_ending_by table.now words.now (length out.old))) × (out.new ≡ write_bytes_by table.now words.now out.old) }
 {
-    in_numbers(sheet::write_by_table(table, words, out))
+    sheet::write_by_table(table, words, out).into()
 }
 
-// The bytes of the library's own table of relations in the lent bytes.
+/// The bytes of the library's own table of relations in the lent bytes.
 #[unsafe(no_mangle)]
 pub extern "C" fn figdawesa_own_table(out: &mut [u8]) -> Ended
     ensures { (returned_of result ≡ returned (own_ending (length out.old))) × (out.new ≡ own_lent out.old) }
 {
-    in_numbers(sheet::own_table(out))
+    sheet::own_table(out).into()
 }
 
-// Where a line's own bytes stand, without byte 10; the empty part at 0 for a line that is not there or is not closed.
+/// Where a line's own bytes stand, without byte 10; the empty part at 0 for a line that is not there or is not closed.
 #[unsafe(no_mangle)]
 pub extern "C" fn figdawesa_line(sheet: &[u8], number: usize) -> Stretch
     ensures start_value { (result.start ≡ line_start sheet.now number) × (result.length ≡ length (line_at sheet.now number)) }
@@ -76,7 +73,7 @@ pub extern "C" fn figdawesa_line(sheet: &[u8], number: usize) -> Stretch
     part(p.start, p.end)
 }
 
-// The answers that given facts give a block of a sheet: 1 the question, then the lists, then the views.
+/// The answers that given facts give a block of a sheet: 1 the question, then the lists, then the views.
 #[unsafe(no_mangle)]
 pub extern "C" fn figdawesa_evaluate(
     sheet: &[u8],
@@ -86,10 +83,10 @@ pub extern "C" fn figdawesa_evaluate(
 ) -> Ended
     ensures { (e : Ending) × (returned_of result ≡ returned e) × Evaluated ten sheet.now block facts.now out.old out.new e }
 {
-    in_numbers(evaluate::evaluate(sheet, block, facts, out))
+    evaluate::evaluate(sheet, block, facts, out).into()
 }
 
-// The same by a club's table.
+/// The same by a club's table.
 #[unsafe(no_mangle)]
 pub extern "C" fn figdawesa_evaluate_by_table(
     table: &[u8],
@@ -100,34 +97,34 @@ pub extern "C" fn figdawesa_evaluate_by_table(
 ) -> Ended
     ensures { (e : Ending) × (returned_of result ≡ returned e) × EvaluatedBy table.now sheet.now block facts.now out.old out.new e }
 {
-    in_numbers(evaluate::evaluate_by_table(table, sheet, block, facts, out))
+    evaluate::evaluate_by_table(table, sheet, block, facts, out).into()
 }
 
-// The verdict of a sheet; where no list covers, a case in the lent words.
+/// The verdict of a sheet; where no list covers, a case in the lent words.
 #[unsafe(no_mangle)]
 pub extern "C" fn figdawesa_judge(sheet: &[u8], out: &mut [i32]) -> Outcome
     ensures { Judged ten sheet.now out.old out.new (judgement_of result) }
 {
-    passed(judge::judge(sheet, out))
+    judge::judge(sheet, out).into()
 }
 
-// The same by a club's table.
+/// The same by a club's table.
 #[unsafe(no_mangle)]
 pub extern "C" fn figdawesa_judge_by_table(table: &[u8], sheet: &[u8], out: &mut [i32]) -> Outcome
     ensures { JudgedBy table.now sheet.now out.old out.new (judgement_of result) }
 {
-    passed(judge::judge_by_table(table, sheet, out))
+    judge::judge_by_table(table, sheet, out).into()
 }
 
-// The verdict of each sheet of a set; the case of each in its own stretch of the lent words.
+/// The verdict of each sheet of a set; the case of each in its own stretch of the lent words.
 #[unsafe(no_mangle)]
 pub extern "C" fn figdawesa_judge_set(bytes: &[u8], ends: &[usize], out: &mut [i32]) -> SetOutcome
     ensures { SetJudged (Judged ten) bytes.now ends.now out.old out.new (set_judgement_of result) }
 {
-    passed_set(judge_set::judge_set(bytes, ends, out))
+    judge_set::judge_set(bytes, ends, out).into()
 }
 
-// The same by a club's table.
+/// The same by a club's table.
 #[unsafe(no_mangle)]
 pub extern "C" fn figdawesa_judge_set_by_table(
     table: &[u8],
@@ -137,10 +134,10 @@ pub extern "C" fn figdawesa_judge_set_by_table(
 ) -> SetOutcome
     ensures { SetJudged (JudgedBy table.now) bytes.now ends.now out.old out.new (set_judgement_of result) }
 {
-    passed_set(judge_set::judge_set_by_table(table, bytes, ends, out))
+    judge_set::judge_set_by_table(table, bytes, ends, out).into()
 }
 
-// The same, and the page for the set in the lent bytes.
+/// The same, and the page for the set in the lent bytes.
 #[unsafe(no_mangle)]
 pub extern "C" fn figdawesa_judge_day(
     bytes: &[u8],
@@ -150,10 +147,10 @@ pub extern "C" fn figdawesa_judge_day(
 ) -> DayOutcome
     ensures { DayJudged (Judged ten) bytes.now ends.now out.old out.new page.old page.new (day_judgement_of result) }
 {
-    passed_day(judge_day::judge_day(bytes, ends, out, page))
+    judge_day::judge_day(bytes, ends, out, page).into()
 }
 
-// The same by a club's table.
+/// The same by a club's table.
 #[unsafe(no_mangle)]
 pub extern "C" fn figdawesa_judge_day_by_table(
     table: &[u8],
@@ -164,18 +161,18 @@ pub extern "C" fn figdawesa_judge_day_by_table(
 ) -> DayOutcome
     ensures { DayJudged (JudgedBy table.now) bytes.now ends.now out.old out.new page.old page.new (day_judgement_of result) }
 {
-    passed_day(judge_day::judge_day_by_table(table, bytes, ends, out, page))
+    judge_day::judge_day_by_table(table, bytes, ends, out, page).into()
 }
 
-// The sheet of a text in the lent bytes.
+/// The sheet of a text in the lent bytes.
 #[unsafe(no_mangle)]
 pub extern "C" fn figdawesa_sheet_of(text: &[u8], out: &mut [u8]) -> TextOutcome
     ensures { (m : Made) × (result ≡ text_outcome_of m) × MadeAs ten text.now out.old out.new m }
 {
-    passed_text(text_to_sheet::sheet_of(text, out))
+    text_to_sheet::sheet_of(text, out).into()
 }
 
-// The same by a club's table.
+/// The same by a club's table.
 #[unsafe(no_mangle)]
 pub extern "C" fn figdawesa_sheet_of_by_table(
     table: &[u8],
@@ -184,26 +181,26 @@ pub extern "C" fn figdawesa_sheet_of_by_table(
 ) -> TextOutcome
     ensures { (m : Made) × (result ≡ text_outcome_of m) × MadeByTable table.now text.now out.old out.new m }
 {
-    passed_text(text_to_sheet::sheet_of_by_table(table, text, out))
+    text_to_sheet::sheet_of_by_table(table, text, out).into()
 }
 
-// The text of a sheet in the lent bytes.
+/// The text of a sheet in the lent bytes.
 #[unsafe(no_mangle)]
 pub extern "C" fn figdawesa_text_of(sheet: &[u8], out: &mut [u8]) -> Ended
     ensures { (returned_of result ≡ returned (text_ending ten sheet.now (length out.old))) × (out.new ≡ text_lent ten sheet.now out.old) }
 {
-    in_numbers(text_from_sheet::text_of(sheet, out))
+    text_from_sheet::text_of(sheet, out).into()
 }
 
-// The same by a club's table.
+/// The same by a club's table.
 #[unsafe(no_mangle)]
 pub extern "C" fn figdawesa_text_of_by_table(table: &[u8], sheet: &[u8], out: &mut [u8]) -> Ended
     ensures { (returned_of result ≡ returned (text_ending_by table.now sheet.now (length out.old))) × (out.new ≡ text_lent_by table.now sheet.now out.old) }
 {
-    in_numbers(text_from_sheet::text_of_by_table(table, sheet, out))
+    text_from_sheet::text_of_by_table(table, sheet, out).into()
 }
 
-// What comes of a sheet or a text, in words in the lent bytes: how many bytes they have.
+/// What comes of a sheet or a text, in words in the lent bytes: how many bytes they have.
 #[unsafe(no_mangle)]
 pub extern "C" fn figdawesa_answer(given: &[u8], out: &mut [u8]) -> usize
     ensures { Answered ten given.now out.old out.new result }
@@ -211,7 +208,7 @@ pub extern "C" fn figdawesa_answer(given: &[u8], out: &mut [u8]) -> usize
     text_answer::answer(given, out)
 }
 
-// The same by a club's table.
+/// The same by a club's table.
 #[unsafe(no_mangle)]
 pub extern "C" fn figdawesa_answer_by_table(table: &[u8], given: &[u8], out: &mut [u8]) -> usize
     ensures { AnsweredBy table.now given.now out.old out.new result }

@@ -65,20 +65,16 @@ fn judge_numbers(
     ensures { Sound (table_in table.now) → Judged (table_in table.now) sheet.now out.old out.new (judgement_from_result result) }
 {
     let mut ws = [0i32; MOST_WORDS];
-    match sheet_reader::read(table, sheet, &mut ws) {
-        Err(refusal) => Err(refusal),
-        Ok(lines) => judge_words(table, &ws[..lines * LINE_WORDS], out),
-    }
+    let lines = sheet_reader::read(table, sheet, &mut ws)?;
+    judge_words(table, &ws[..lines * LINE_WORDS], out)
 }
 
 /// Judges a sheet by a table that was loaded before.
 pub fn judge_loaded(table: Loaded, sheet: &[u8], out: &mut [i32]) -> Result<Verdict, Refusal>
     ensures { (tb : List ℕ) → Loads tb (loaded_of table) → JudgedBy tb sheet.now out.old out.new (judgement_from_result result) }
 {
-    match table {
-        Err(refusal) => Err(refusal),
-        Ok(numbers) => judge_numbers(&numbers, sheet, out),
-    }
+    let numbers = table?;
+    judge_numbers(&numbers, sheet, out)
 }
 
 /// Judges a sheet by the library's own table.

@@ -8,7 +8,7 @@ use native.Mathlib.Omega.{arith}
 use borrow.Author.Tests.{ltb-false, eqb-true, eqb-false}
 use lib.Dec.{eqb, ltb}
 use lib.IntN.{ℤ}
-use lib.ListN.{length, get_or, take, drop, length-take, length-drop}
+use lib.ListN.{length, get_or, take, drop, length-take, length-drop, length-map}
 use Rattle.sheet_format.specs.Limits.{field_end, most_relations, most_sheet_bytes}
 use Rattle.sheet_format.specs.Table.{Relation, Table}
 use Rattle.sheet_format.specs.Line.{Line, byte_lines, null}
@@ -17,7 +17,7 @@ use Rattle.sheet_format.specs.Sheet.{over, sheet_refusal}
 use Rattle.sheet_format.specs.Answers.{Refusal}
 use Rattle.sheet_format.specs.Answers.{Seen}
 use Rattle.text_buffer.specs.Puts.{Put}
-use Rattle.text_buffer.proofs.Laws.{reached-all, placed-all}
+use Rattle.text_buffer.proofs.Laws.{reached-all, placed-all, said}
 use Rattle.sheet_table.specs.Tables.{relation_on_line, line_right, lines_refusal, table_refusal, table_of}
 use Rattle.case_verdicts.specs.Verdict.{Sheet}
 use Rattle.case_verdicts.specs.Sheets.{sheet_of}
@@ -32,6 +32,17 @@ use Rattle.day_page.specs.Page.{page_room, page_of, Printable, AllShown}
 use Rattle.day_page.proofs.Laws.{page_fits}
 use Rattle.day_page.specs.Answers.{DayJudgement}
 use Rattle.day_page.specs.Refusal.{refusal_of_day}
+use Rattle.std.specs.Prelude.{Option, Result, Ok, Err}
+use Rattle.std.proofs.lemmas.List.{take-map}
+use Rattle.sheet_format.specs.declared.Cause.{Cause}
+use Rattle.sheet_format.specs.declared.Refusal.{Refusal as CauseAtLine}
+use Rattle.sheet_format.specs.Returns.{cause_number}
+use Rattle.sheet_format.proofs.Endings.{named}
+use Rattle.judge_result.specs.declared.Verdict.{Verdict}
+use Rattle.judge_ends.specs.declared.JudgedSet.{JudgedSet}
+use Rattle.judge_ends.specs.Returns.{judgement_at, judgements_at, set_judgement_from_result}
+use Rattle.day_page.specs.declared.JudgedDay.{JudgedDay}
+use Rattle.day_page.specs.Returns.{day_judgement_from_result}
 use Rattle.judge_day.specs.Days.{day_judgement, set_sent, DaySent, DayTaken, DayJudged}
 
 -- ---- a sheet is sent back by a number up to 9
@@ -132,11 +143,6 @@ stretch_size n k out lt room = let a = length-take least_room (drop (k * least_r
 
 -- ---- the call's refusal
 
--- a number is 0, or it is not
-pub by_number : {P : Type 0} (n : ℕ) → (n ≡ 0 → P) → ((n ≡ 0 → ⊥) → P) → P
-by_number zero clean some = clean refl
-by_number (suc n) clean some = some (λ e. omega arith)
-
 module _ (bytes ends : List ℕ) (out : List ℤ) (page : List ℕ) where
   -- a call that is not sent back has a set that is not, and room for a page
   pub neither : refusal_of_day bytes ends out page ≡ 0 → (refusal_of_set bytes ends out ≡ 0) × (page_room ≤ length page)
@@ -169,12 +175,24 @@ module _ (bytes ends : List ℕ) (out : List ℤ) (page : List ℕ) where
               (λ k lt. showing (sheet_at bytes ends k) (stretch_at out k) (stretch_at after k) (get_or s.sheets k (unjudged 0)) (t.each k lt) (stretch_size (length ends) k out lt p.room)),
         )
 
-  pub day_sent : (J : Promise) (n : ℕ) (after : List ℤ) (printed : List ℕ) (s : SetJudgement) (m : ℕ) → n ≡ refusal_of_day bytes ends out page → (n ≡ 0 → ⊥) → (after ≡ out) × (s ≡ set_sent n) → (printed ≡ page) × (m ≡ 0) → DayJudged J bytes ends out after page printed (day_judgement s m)
-  day_sent J n after printed s m is some set print = inl (record {
-    cause = λ e. some (is ∙ e);
-    result = ap (λ (x : SetJudgement). day_judgement x m) (set.1 ∙ ap set_sent is) ∙ ap (day_judgement (set_sent (refusal_of_day bytes ends out page))) print.1;
-    words = set.0;
-    lent = print.0;
+    -- so do they as they are returned
+    pub places-shown : (set : JudgedSet) → s ≡ set_judgement_from_result (Ok set) → Showing J → refusal_of_day bytes ends out page ≡ 0 → SetJudged J bytes ends out after s → (length ends ≤ most_sheets) × AllShown (judgements_at (take (length ends) set.sheets))
+    places-shown set is showing clean judged =
+        let shown = set-shown showing clean judged in
+        (shown.0, subst AllShown (ap (λ (x : SetJudgement). take (length ends) x.sheets) is ∙ take-map judgement_at (length ends) set.sheets) shown.1)
+
+    -- a set that is taken is not returned as one that is sent back
+    pub no-set : {P : Type 0} (c : Cause) → s ≡ set_judgement_from_result (Err c) → refusal_of_day bytes ends out page ≡ 0 → SetJudged J bytes ends out after s → P
+    no-set c is clean judged =
+        let t = set-taken (neither clean).0 judged in
+        absurd (named c (ap (λ (x : SetJudgement). x.number) (sym is ∙ t.result)))
+
+  pub day_sent : (J : Promise) (c : Cause) → cause_number c ≡ refusal_of_day bytes ends out page → DayJudged J bytes ends out out page page (day_judgement_from_result (Err c))
+  day_sent J c is = inl (record {
+    cause = λ e. named c (is ∙ e);
+    result = ap (λ n. day_judgement (set_sent n) 0) is;
+    words = refl;
+    lent = refl;
   })
 
   pub day_taken : (J : Promise) (after : List ℤ) (printed : List ℕ) (s : SetJudgement) (m : ℕ) → refusal_of_day bytes ends out page ≡ 0 → SetJudged J bytes ends out after s → Put page printed 0 (page_of (take (length ends) s.sheets)) m → DayJudged J bytes ends out after page printed (day_judgement s m)
@@ -191,6 +209,12 @@ module _ (bytes ends : List ℕ) (out : List ℤ) (page : List ℕ) where
         count = put.place ∙ reached-all (length page) 0 (page_of js) (omega arith) ∙ omega arith;
         lent = put.bytes ∙ placed-all page 0 (page_of js) (omega arith) ∙ ap (λ (n : ℕ). page_of js ++ drop n page) (let e : 0 + length (page_of js) ≡ length (page_of js) = omega arith in e);
       })
+
+  -- the page of the places that are returned
+  pub page-put : (J : Promise) (after : List ℤ) (printed : List ℕ) (set : JudgedSet) (m : ℕ) → refusal_of_day bytes ends out page ≡ 0 → SetJudged J bytes ends out after (set_judgement_from_result (Ok set)) → Put page printed 0 (page_of (judgements_at (take (length ends) set.sheets))) m
+      → DayJudged J bytes ends out after page printed (day_judgement_from_result (Ok (record { set = set; bytes = m })))
+  page-put J after printed set m clean judged put =
+      day_taken J after printed (set_judgement_from_result (Ok set)) m clean judged (said (ap page_of (sym (take-map judgement_at (length ends) set.sheets))) put)
 
 -- what is promised of each sheet may be said otherwise
 pub day_as : (J K : Promise) → ((s : List ℕ) (o a : List ℤ) (j : Judgement) → J s o a j → K s o a j) → (bytes ends : List ℕ) (out after : List ℤ) (page printed : List ℕ) (r : DayJudgement) → DayJudged J bytes ends out after page printed r

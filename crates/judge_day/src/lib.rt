@@ -23,16 +23,10 @@ fn judge_day_loaded(
     requires { (tb : List ℕ) × Loads tb (loaded_of table) }
     ensures { (tb : List ℕ) → Loads tb (loaded_of table) → DayJudged (JudgedBy tb) bytes.now ends.now out.old out.new page.old page.new (day_judgement_from_result result) }
 {
-    match day_page::day_refusal(bytes, ends, out, page) {
-        Err(cause) => Err(cause),
-        Ok(()) => match judge_set::judge_set_loaded(table, bytes, ends, out) {
-            Err(cause) => Err(cause),
-            Ok(set) => {
-                let n = day_page::put_page(page, &set.sheets[..ends.len()]);
-                Ok(JudgedDay { set, bytes: n })
-            }
-        },
-    }
+    day_page::day_refusal(bytes, ends, out, page)?;
+    let set = judge_set::judge_set_loaded(table, bytes, ends, out)?;
+    let n = day_page::put_page(page, &set.sheets[..ends.len()]);
+    Ok(JudgedDay { set, bytes: n })
 }
 
 /// Judges a set of sheets by the library's own table, and writes its page.

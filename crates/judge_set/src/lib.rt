@@ -65,16 +65,12 @@ pub fn judge_set_loaded(
 ) -> Result<JudgedSet, Cause>
     ensures { (tb : List ℕ) → Loads tb (loaded_of table) → SetJudged (JudgedBy tb) bytes.now ends.now out.old out.new (set_judgement_from_result result) }
 {
-    match set_refusal(bytes, ends, out) {
-        Err(cause) => Err(cause),
-        Ok(()) => {
-            let sheets = judge_places(table, bytes, ends, out);
-            Ok(JudgedSet {
-                count: ends.len(),
-                sheets,
-            })
-        }
-    }
+    set_refusal(bytes, ends, out)?;
+    let sheets = judge_places(table, bytes, ends, out);
+    Ok(JudgedSet {
+        count: ends.len(),
+        sheets,
+    })
 }
 
 /// Judges a set of sheets by the library's own table.

@@ -12,7 +12,7 @@
 //
 // A bar follows, then the missing answer and a bar, the count of facts and a bar, and the facts, with "/" after each. Of a case SHOWN says
 // which of these are shown, since the case is free: 0 none, 1 the missing answer, 2 all. With any other verdict all are.
-use judge_result::Judgement;
+use c_results::Outcome;
 use query_meaning::FACT_WORDS;
 use test_ends::{least, put_ending};
 
@@ -34,11 +34,11 @@ pub(crate) fn run(
     put_judged(out, at, table, sheet, shown, lent, j)
 }
 
-fn judged(own: bool, table: &[u8], sheet: &[u8], lent: &mut [i32]) -> Judgement {
+fn judged(own: bool, table: &[u8], sheet: &[u8], lent: &mut [i32]) -> Outcome {
     if own {
-        return judge::judge(sheet, lent);
+        return judge::judge(sheet, lent).into();
     }
-    judge::judge_by_table(table, sheet, lent)
+    judge::judge_by_table(table, sheet, lent).into()
 }
 
 // Puts a judgement by a table, with what it left in the lent words.
@@ -49,7 +49,7 @@ fn put_judged(
     sheet: &[u8],
     shown: usize,
     lent: &[i32],
-    j: Judgement,
+    j: Outcome,
 ) -> usize {
     let verdict = j.verdict;
     let count = j.count;

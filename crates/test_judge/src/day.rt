@@ -5,7 +5,8 @@
 // What is printed: the name; the number, the line, the count of sheets and that of the page's bytes; "=" where the lent words past the last
 // stretch are as they were lent, and "!" where they are not; a bar; the lent bytes, with "/" for byte 10. They hold "~" before the call.
 use crate::HELD_NUMBERS;
-use day_page::{DayJudgement, PAGE_ROOM};
+use c_results::DayOutcome;
+use day_page::PAGE_ROOM;
 use judge_ends::MOST_SHEETS;
 use judge_result::LEAST_ROOM;
 use test_ends::{least, put_ending, put_ends};
@@ -58,15 +59,15 @@ fn judged(
     ends: &[usize],
     lent: &mut [i32],
     page: &mut [u8],
-) -> DayJudgement {
+) -> DayOutcome {
     if own {
-        return judge_day::judge_day(set, ends, lent, page);
+        return judge_day::judge_day(set, ends, lent, page).into();
     }
-    judge_day::judge_day_by_table(table, set, ends, lent, page)
+    judge_day::judge_day_by_table(table, set, ends, lent, page).into()
 }
 
 // Puts what came of a day, with what it left in the lent words and bytes.
-fn put_day(out: &mut [u8], at: usize, lent: &[i32], page: &[u8], day: DayJudgement) -> usize {
+fn put_day(out: &mut [u8], at: usize, lent: &[i32], page: &[u8], day: DayOutcome) -> usize {
     let s = day.set;
     let count = least(s.count, MOST_SHEETS);
     let a = put_ending(out, at, s.number, s.line, s.count);

@@ -13,8 +13,9 @@ ghost use Rattle.judge_result.specs.Judged.{least_room};
 ghost use Rattle.judge_ends.specs.Sets.{most_sheets};
 
 use crate::HELD_NUMBERS;
-use judge_ends::{MOST_SHEETS, SetJudgement};
-use judge_result::{Judgement, LEAST_ROOM, REFUSED};
+use c_results::{Outcome, SetOutcome};
+use judge_ends::MOST_SHEETS;
+use judge_result::{LEAST_ROOM, REFUSED};
 use query_meaning::FACT_WORDS;
 use test_ends::{least, put_ending, put_ends};
 
@@ -34,11 +35,11 @@ pub(crate) fn run(
     put_set(out, at, table, bytes, &ends[0..k], lent, s)
 }
 
-fn judged(own: bool, table: &[u8], bytes: &[u8], ends: &[usize], lent: &mut [i32]) -> SetJudgement {
+fn judged(own: bool, table: &[u8], bytes: &[u8], ends: &[usize], lent: &mut [i32]) -> SetOutcome {
     if own {
-        return judge_set::judge_set(bytes, ends, lent);
+        return judge_set::judge_set(bytes, ends, lent).into();
     }
-    judge_set::judge_set_by_table(table, bytes, ends, lent)
+    judge_set::judge_set_by_table(table, bytes, ends, lent).into()
 }
 
 // Puts what came of a set by a table, with what it left in the lent words.
@@ -49,7 +50,7 @@ fn put_set(
     bytes: &[u8],
     ends: &[usize],
     lent: &[i32],
-    s: SetJudgement,
+    s: SetOutcome,
 ) -> usize {
     let sheets = s.sheets;
     let number = s.number;
@@ -61,7 +62,7 @@ fn put_set(
 }
 
 // Whether each place from `count` on holds what a place without a sheet has.
-fn are_empty(sheets: [Judgement; MOST_SHEETS], count: usize, number: usize) -> bool {
+fn are_empty(sheets: [Outcome; MOST_SHEETS], count: usize, number: usize) -> bool {
     let mut k = count;
     while k < MOST_SHEETS {
         let j = sheets[k];
@@ -73,8 +74,8 @@ fn are_empty(sheets: [Judgement; MOST_SHEETS], count: usize, number: usize) -> b
     true
 }
 
-fn is_empty(j: Judgement, number: usize) -> bool {
-    let e = Judgement {
+fn is_empty(j: Outcome, number: usize) -> bool {
+    let e = Outcome {
         verdict: REFUSED,
         number,
         line: 0,
@@ -84,7 +85,7 @@ fn is_empty(j: Judgement, number: usize) -> bool {
     are_alike(e, j)
 }
 
-fn are_alike(a: Judgement, b: Judgement) -> bool {
+fn are_alike(a: Outcome, b: Outcome) -> bool {
     if a.verdict != b.verdict {
         return false;
     }
@@ -110,7 +111,7 @@ fn put_sheets(
     bytes: &[u8],
     ends: &[usize],
     lent: &[i32],
-    sheets: [Judgement; MOST_SHEETS],
+    sheets: [Outcome; MOST_SHEETS],
     count: usize,
 ) -> usize
     requires { count ≤ most_sheets }
@@ -159,7 +160,7 @@ fn put_sheet(
     sheet: &[u8],
     lent: &[i32],
     k: usize,
-    j: Judgement,
+    j: Outcome,
 ) -> usize
     requires { k < most_sheets }
 {
@@ -184,7 +185,7 @@ fn fact_words(count: usize) -> usize
     }
 }
 
-fn put_numbers(out: &mut [u8], at: usize, j: Judgement) -> usize {
+fn put_numbers(out: &mut [u8], at: usize, j: Outcome) -> usize {
     let missing = j.missing;
     let a = text_buffer::put_byte(out, at, b'|');
     let b = test_results::put_number(out, a, j.verdict, b' ');
@@ -195,9 +196,9 @@ fn put_numbers(out: &mut [u8], at: usize, j: Judgement) -> usize {
 }
 
 // Whether the sheet alone has this judgement and these facts by the table.
-fn is_as_alone(table: &[u8], sheet: &[u8], facts: &[i32], j: Judgement) -> bool {
+fn is_as_alone(table: &[u8], sheet: &[u8], facts: &[i32], j: Outcome) -> bool {
     let mut own = [0i32; LEAST_ROOM];
-    let a = judge::judge_by_table(table, sheet, &mut own);
+    let a = Outcome::from(judge::judge_by_table(table, sheet, &mut own));
     let n = least(facts.len(), LEAST_ROOM);
     are_alike(a, j) && are_same(facts, &own[0..n])
 }

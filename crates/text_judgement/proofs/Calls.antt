@@ -136,6 +136,10 @@ module _ (table : Table) (columns : ℕ) (j : Judgement) (facts : List ℤ) wher
   unfolding verdict_bytes
   case a b c = rw (ne_eqb j.verdict 0 a, ne_eqb j.verdict 2 b, ne_eqb j.verdict 9 c)
 
+-- of a case
+pub case_said : (table : Table) (columns count : ℕ) (missing : List ℕ) (facts : List ℤ) → case_bytes table columns missing count facts ≡ verdict_bytes table columns (record { verdict = 1; number = 0; line = 0; count = count; missing = missing }) facts
+case_said table columns count missing facts = case table columns (record { verdict = 1; number = 0; line = 0; count = count; missing = missing }) facts (λ e. omega arith) (λ e. omega arith) (λ e. omega arith)
+
 equal_or : (m n : ℕ) → (m ≡ n) ⊎ (m ≡ n → ⊥)
 equal_or m n = go (eqb m n) refl
   where

@@ -6,7 +6,7 @@ ghost use Rattle.sheet_format.specs.Limits.{field_byte_count};
 ghost use Rattle.sheet_format.specs.Table.{table_in};
 ghost use Rattle.sheet_format.specs.Line.{line_at};
 ghost use Rattle.text_buffer.specs.Puts.{Put};
-ghost use Rattle.judge_result.specs.Returns.{judgement_from_result};
+ghost use Rattle.judge_result.specs.Returns.{judgement_from_verdict, judgement_from_result};
 ghost use Rattle.text_judgement.specs.Verdict.{value_word, missing_bytes, case_bytes, verdict_bytes};
 
 use judge_result::Verdict;
@@ -69,6 +69,26 @@ fn put_case(
     put(out, d, b"\n")
 }
 
+// What is said of a verdict. `columns` are those of the question, and `facts` begin with the case.
+fn put_verdict(
+    table: &[usize; TABLE_NUMBERS],
+    out: &mut [u8],
+    columns: usize,
+    verdict: Verdict,
+    facts: &[i32],
+) -> usize
+    ensures { Put out.old out.new 0 (verdict_bytes (table_in table.now) columns (judgement_from_verdict verdict) facts.now) result }
+{
+    match verdict {
+        Verdict::Covered => put(out, 0, b"covered\n"),
+        Verdict::NoLog => put(out, 0, b"no log gives these rows\n"),
+        Verdict::NotCovered {
+            facts: count,
+            missing,
+        } => put_case(table, out, columns, missing, facts, count),
+    }
+}
+
 /// Puts a judgement. `columns` are those of the question, and `facts` begin with the case.
 pub fn put_judgement(
     table: &[usize; TABLE_NUMBERS],
@@ -80,11 +100,7 @@ pub fn put_judgement(
     ensures { Put out.old out.new 0 (verdict_bytes (table_in table.now) columns (judgement_from_result judged) facts.now) result }
 {
     match judged {
-        Ok(Verdict::Covered) => put(out, 0, b"covered\n"),
-        Ok(Verdict::NoLog) => put(out, 0, b"no log gives these rows\n"),
-        Ok(Verdict::NotCovered { facts: count, missing }) => {
-            put_case(table, out, columns, missing, facts, count)
-        }
-        Err(Refusal { cause, line }) => put_refusal(out, 0, cause.number(), line, 0),
+        Ok(verdict) => put_verdict(table, out, columns, verdict, facts),
+        Err(refusal) => put_refusal(out, 0, refusal.cause.number(), refusal.line, 0),
     }
 }

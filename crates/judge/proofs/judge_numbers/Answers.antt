@@ -14,51 +14,50 @@ use Rattle.judge.proofs.judge_numbers.Goals as goal
 
 pub overflow_mul-ws : goal.overflow_mul-ws
 overflow_mul-ws c = let a = c.args in
-    let rd = c.read in
-    let m = c.in-Ok.lines in
-    let done = sym rd.ensures.0 ∙ ap ending_of c.in-Ok.is in
+    let rd = c.read-lines in
+    let m = c.in_ok-lines.lines in
+    let done = sym c.in_ok-lines.ensures.0 in
     let f = few-lines (table_in a.table.now) a.sheet.now m done in
     let k = rd.auto.out in
     omega arith
 
 pub slice_bounds-ws-end : goal.slice_bounds-ws-end
 slice_bounds-ws-end c = let a = c.args in
-    let rd = c.read in
-    let m = c.in-Ok.lines in
-    let done = sym rd.ensures.0 ∙ ap ending_of c.in-Ok.is in
+    let rd = c.read-lines in
+    let m = c.in_ok-lines.lines in
+    let done = sym c.in_ok-lines.ensures.0 in
     let f = few-lines (table_in a.table.now) a.sheet.now m done in
     let k = rd.auto.out in
     omega arith
 
 pub slice_bounds-judge_words-end : goal.slice_bounds-judge_words-end
 slice_bounds-judge_words-end c = let a = c.args in
-    let rd = c.read in
-    let m = c.in-Ok.lines in
-    let done = sym rd.ensures.0 ∙ ap ending_of c.in-Ok.is in
+    let rd = c.read-lines in
+    let m = c.in_ok-lines.lines in
+    let done = sym c.in_ok-lines.ensures.0 in
     let f = few-lines (table_in a.table.now) a.sheet.now m done in
     let k = rd.auto.out in
     sym (length-take-le (m * 7) rd.new.out (omega arith))
 
 pub judge_words-requires : goal.judge_words-requires
 judge_words-requires c = let a = c.args in
-    let rd = c.read in
-    let m = c.in-Ok.lines in
-    let done = sym rd.ensures.0 ∙ ap ending_of c.in-Ok.is in
+    let rd = c.read-lines in
+    let m = c.in_ok-lines.lines in
+    let done = sym c.in_ok-lines.ensures.0 in
     let f = few-lines (table_in a.table.now) a.sheet.now m done in
     let k = rd.auto.out in
     read-clean (table_in a.table.now) a.sheet.now m done _ rd.new.out refl rd.ensures.1
 
-pub returns-in-Ok : goal.returns-in-Ok
-returns-in-Ok c = let a = c.args in
-    let rd = c.read in
-    let m = c.in-Ok.lines in
-    let done = sym rd.ensures.0 ∙ ap ending_of c.in-Ok.is in
+pub returns : goal.returns
+returns c = let a = c.args in
+    let rd = c.read-lines in
+    let m = c.in_ok-lines.lines in
+    let done = sym c.in_ok-lines.ensures.0 in
     let f = few-lines (table_in a.table.now) a.sheet.now m done in
     let k = rd.auto.out in
     λ sound. judged-read (table_in a.table.now) a.sheet.now a.out.now c.judge_words.new.out m _ (judgement_from_result c.judge_words.result) done (lines-read (table_in a.table.now) a.sheet.now m done _ refl rd.new.out rd.ensures.1) (c.judge_words.ensures sound)
 
-pub returns-in-Err : goal.returns-in-Err
-returns-in-Err c =
-    let a = c.args in
-    let rd = c.read in
-    λ sound. judged-sent (table_in a.table.now) a.sheet.now a.out.now (cause_number c.in-Err.refusal.cause) c.in-Err.refusal.line (ending_of rd.result) rd.ensures.0 (ap ending_of c.in-Err.is) _ refl
+pub returns-in_err-lines : goal.returns-in_err-lines
+returns-in_err-lines c = let a = c.args in
+    let r = c.in_err-lines.field-0.0 in
+    λ sound. let h = judged-sent (table_in a.table.now) a.sheet.now a.out.now (cause_number r.cause) r.line _ c.in_err-lines.ensures.0 refl _ refl in search rules

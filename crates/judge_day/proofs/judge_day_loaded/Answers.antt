@@ -1,18 +1,23 @@
 -- Sent back: nothing lent is changed. Else the set is judged and its page is put.
-use Rattle.std.proofs.Common.{refl, sym, ap, ◌∙◌, subst, arith, rules}
-use Rattle.std.specs.Prelude.{Ok, Err}
-use Rattle.std.proofs.lemmas.List.{take-map}
-use lib.ListN.{length, length-map}
-use Rattle.sheet_format.specs.Returns.{cause_in}
-use Rattle.sheet_format.proofs.Endings.{named}
+use Rattle.std.proofs.Common.{refl, sym, arith, rules}
 use Rattle.judge_result.specs.Judged.{JudgedBy}
-use Rattle.judge_ends.specs.Returns.{judgement_at, set_judgement_from_result}
-use Rattle.judge_day.proofs.Laws.{shown_by, set-shown, places-shown, no-set, day_sent, page-put}
+use Rattle.judge_ends.specs.Returns.{set_judgement_from_result}
+use Rattle.judge_day.proofs.Laws.{shown_by, places-shown, no-set, day_sent, page-put}
 use Rattle.judge_day.proofs.judge_day_loaded.Goals as goal
+
+pub returns-in_err-day_refusal : goal.returns-in_err-day_refusal
+returns-in_err-day_refusal c = let a = c.args in
+    λ tb loads. let h = day_sent a.bytes.now a.ends.now a.out.now a.page.now (JudgedBy tb) c.in_err-day_refusal.field-0.0 c.in_err-day_refusal.ensures in search rules
+
+pub returns-in_err-set : goal.returns-in_err-set
+returns-in_err-set c = let a = c.args in
+    λ tb loads. no-set a.bytes.now a.ends.now a.out.now a.page.now (JudgedBy tb) c.judge_set_loaded-set.new.out _ c.in_err-set.field-0.0 refl (sym c.in_ok-day_refusal.ensures) (c.in_err-set.ensures tb loads)
 
 pub put_page-n-requires : goal.put_page-n-requires
 put_page-n-requires c = let a = c.args in
     let (tb, loads) = c.requires in
-    let s = c.judge_set_loaded in
-    let clean = sym c.day_refusal.ensures ∙ ap cause_in c.in-Ok.is in
-    places-shown a.bytes.now a.ends.now a.out.now a.page.now (JudgedBy tb) s.new.out c.in-Ok-2.set (shown_by tb) clean (subst (λ r. SetJudged (JudgedBy tb) a.bytes.now a.ends.now a.out.now s.new.out (set_judgement_from_result r)) c.in-Ok-2.is (s.ensures tb loads))
+    places-shown a.bytes.now a.ends.now a.out.now a.page.now (JudgedBy tb) c.judge_set_loaded-set.new.out _ c.in_ok-set.set refl (shown_by tb) (sym c.in_ok-day_refusal.ensures) (c.in_ok-set.ensures tb loads)
+
+pub returns : goal.returns
+returns c = let a = c.args in
+    λ tb loads. page-put a.bytes.now a.ends.now a.out.now a.page.now (JudgedBy tb) c.judge_set_loaded-set.new.out c.put_page-n.new.page c.in_ok-set.set c.put_page-n.result (sym c.in_ok-day_refusal.ensures) (c.in_ok-set.ensures tb loads) c.put_page-n.ensures
