@@ -43,10 +43,12 @@ fn cover(rt: &impl Print, table: &[u8], sheet: &[u8]) -> io::Result<()> {
         Err(refusal) => print_refusal(rt, refusal.cause.number(), refusal.line),
         Ok(Verdict::Covered) => print_verdict(rt, COVERED),
         Ok(Verdict::NoLog) => print_verdict(rt, NO_LOG),
-        Ok(Verdict::NotCovered {
-            facts: count,
-            missing,
-        }) => {
+        Ok(
+            Verdict::NotCovered {
+                facts: count,
+                missing,
+            },
+        ) => {
             print_count(rt, count)?;
             print_missing(rt, &missing, columns(sheet))?;
             let numbers = sheet_table::load(table).unwrap_or([0; TABLE_NUMBERS]);
