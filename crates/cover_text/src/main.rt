@@ -13,23 +13,15 @@ use text_writer::TEXT_ROOM;
 const READ: usize = MOST_TEXT + 1;
 
 fn main(rt: HostRuntime) -> io::Result<()> {
-    let mut bytes = [0u8; TABLE_READ];
-    let n = sheet_table_file::table(&rt, &rt.stderr(), 1, &mut bytes);
-    print_given(&rt, &bytes[..n])
-}
-
-// Judges what standard input gives by a table.
-fn print_given(rt: &(impl Input + Print), table: &[u8]) -> io::Result<()> {
-    let mut given = [0u8; READ];
-    let n = program_input::read_up_to(&mut rt.reader(), &mut given)?;
-    print(rt, table, &given[..n])
-}
-
-fn print(rt: &impl Print, table: &[u8], given: &[u8]) -> io::Result<()> {
-    let mut words = [0u8; TEXT_ROOM];
-    let n = text_answer::answer_by_table(table, given, &mut words);
-    if n <= words.len() {
-        rt.write_all(&words[0..n])?;
-    }
-    Ok(())
+    let alloc = rt.alloc();
+    let mut table = vec![in alloc; 0u8; TABLE_READ]?;
+    let n = sheet_table_file::table(&rt, &rt.stderr(), 1, table.as_mut_slice());
+    table.truncate(n);
+    let mut given = vec![in alloc; 0u8; READ]?;
+    let n = program_input::read_up_to(&mut rt.reader(), given.as_mut_slice())?;
+    given.truncate(n);
+    let mut words = vec![in alloc; 0u8; TEXT_ROOM]?;
+    let n = text_answer::answer_by_table(table.as_slice(), given.as_slice(), words.as_mut_slice());
+    words.truncate(n);
+    rt.write_all(words.as_slice())
 }

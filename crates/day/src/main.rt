@@ -8,14 +8,13 @@
 // line are printed.
 #![tactic(auto)]
 
-ghost use Rattle.std.specs.Prelude.{◌≤◌, length};
-
 use day_page::PAGE_ROOM;
 use judge_ends::MOST_SHEETS;
 use judge_result::{LEAST_ROOM, REFUSED};
 use program_input::NAME_ROOM;
 use sheet_format::{FIELD_END, MOST_BYTES, MOST_SHEET_BYTES};
 use sheet_table_file::TABLE_READ;
+use std::alloc::{AllocError, Global};
 use std::env::Env;
 use std::io;
 use std::rt::Files;
@@ -37,18 +36,16 @@ const NO_ARGUMENT: usize = usize::MAX;
 
 fn main(rt: HostRuntime) -> io::Result<()> {
     let first = first_file(&rt);
-    let mut table = [0u8; TABLE_READ];
-    let n = sheet_table_file::table(&rt, &rt.stderr(), table_at(first), &mut table);
-    run(&rt, &rt.stderr(), &table[..n], first)
+    let mut table = vec![in rt.alloc(); 0u8; TABLE_READ]?;
+    let n = sheet_table_file::table(&rt, &rt.stderr(), table_at(first), table.as_mut_slice());
+    table.truncate(n);
+    run(&rt, &rt.stderr(), table.as_slice(), first)
 }
 
 // Whether the first argument says that a table follows.
 fn has_table(env: &impl Env) -> bool {
     let mut word = [0u8; 2];
-    match env.arg(1, &mut word) {
-        Ok(2) => word[0] == b'-' && word[1] == b't',
-        _ => false,
-    }
+    env.arg(1, &mut word).is_ok_and(|n| n == 2) && word == *b"-t"
 }
 
 // The number of the first argument that names a file to judge.
@@ -62,158 +59,112 @@ fn table_at(first: usize) -> usize {
 }
 
 // Judges the files from an argument on by a table, and prints the page.
-fn run<R: Env + Files + Print>(
+fn run<R: Env + Files + Print + AllocGlobal>(
     rt: &R,
     errors: &impl Print,
     table: &[u8],
     first: usize,
 ) -> io::Result<()> {
-    let mut bytes = [0u8; FILES * KEPT];
-    let mut ends = [0usize; FILES];
-    let n = least(named(rt, first), FILES);
-    let end = gather(rt, errors, table, &mut bytes, &mut ends, n, first);
-    print(rt, table, &bytes[0..end], &ends[0..n])
-}
-
-fn least(a: usize, b: usize) -> usize
-    ensures { result ≤ b }
-{
-    if a < b { a } else { b }
-}
-
-// How many of the arguments are names of files, which begin with one of them; of more than a set takes, one more.
-fn named(env: &impl Env, first: usize) -> usize {
-    for k in 0..FILES {
-        if !program_input::has_argument(env, number(first, k)) {
-            return k;
+    let mut bytes = Vec::new(rt.alloc());
+    let mut ends = Vec::new(rt.alloc());
+    for number in first..first.saturating_add(FILES) {
+        if !program_input::has_argument(rt, number) {
+            break;
         }
+        put_file(rt, errors, table, &mut bytes, number)?;
+        ends.push(bytes.len())?;
     }
-    FILES
+    print(rt, table, bytes.as_slice(), ends.as_slice())
 }
 
-// Puts the files' bytes one after the other, and where each ends; returns where the last does.
-fn gather<R: Env + Files>(
+// Puts the bytes of the file that an argument names after the others.
+fn put_file<R: Env + Files + AllocGlobal>(
     rt: &R,
     errors: &impl Print,
     table: &[u8],
-    bytes: &mut [u8],
-    ends: &mut [usize],
-    count: usize,
-    first: usize,
-) -> usize
-    requires { count ≤ length ends.old }
-    ensures { result ≤ length bytes.new }
-{
-    let mut at = 0;
-    let mut k = 0;
-    while k < count {
-        let next = put_file(rt, errors, table, bytes, at, number(first, k));
-        at = least(next, bytes.len());
-        ends[k] = at;
-        k += 1;
-    }
-    at
-}
-
-// The number of the file's argument; arguments are far fewer than numbers.
-fn number(first: usize, k: usize) -> usize {
-    if k < FILES {
-        if first < FILES {
-            return first + k;
-        }
-    }
-    k
-}
-
-// Puts the bytes of the file that an argument names, and returns the place after them.
-fn put_file<R: Env + Files>(
-    rt: &R,
-    errors: &impl Print,
-    table: &[u8],
-    bytes: &mut [u8],
-    at: usize,
+    bytes: &mut Vec<u8>,
     number: usize,
-) -> usize {
+) -> Result<(), AllocError> {
     let mut name = [0u8; NAME_ROOM];
-    let mut given = [0u8; READ];
-    match program_input::read_named(rt, errors, number, &mut name, &mut given) {
-        Some(file) => put_given(
-            errors,
-            table,
-            bytes,
-            at,
-            &given[..file.bytes],
-            &name[..file.name],
-        ),
-        None => at,
-    }
+    let mut given = vec![in rt.alloc(); 0u8; READ]?;
+    let Some(file) = program_input::read_named(rt, errors, number, &mut name, given.as_mut_slice())
+    else {
+        return Ok(());
+    };
+    given.truncate(file.bytes);
+    put_given(
+        rt.alloc(),
+        errors,
+        table,
+        bytes,
+        given.as_slice(),
+        &name[..file.name],
+    )
 }
 
 // Puts a sheet as it is, and the sheet of a text; a text that has none as it is.
 fn put_given(
+    alloc: Global,
     errors: &impl Print,
     table: &[u8],
-    bytes: &mut [u8],
-    at: usize,
+    bytes: &mut Vec<u8>,
     given: &[u8],
     name: &[u8],
-) -> usize {
+) -> Result<(), AllocError> {
     if !text_begins::is_text(given) {
-        return put_front(bytes, at, given);
+        return put_front(bytes, given);
     }
-    let mut sheet = [0u8; MOST_BYTES];
-    match text_to_sheet::sheet_of_by_table(table, given, &mut sheet) {
-        Ok(n) => put_front(bytes, at, &sheet[0..least(n, MOST_BYTES)]),
+    let mut sheet = vec![in alloc; 0u8; MOST_BYTES]?;
+    match text_to_sheet::sheet_of_by_table(table, given, sheet.as_mut_slice()) {
+        Ok(n) => {
+            sheet.truncate(n);
+            put_front(bytes, sheet.as_slice())
+        }
         Err(reason) => {
             complain(errors, name, reason);
-            put_front(bytes, at, given)
+            put_front(bytes, given)
         }
     }
 }
 
 // Puts as many bytes as are kept of a file.
-fn put_front(bytes: &mut [u8], at: usize, s: &[u8]) -> usize {
-    let n = least(KEPT, s.len());
-    text_buffer::put(bytes, at, &s[0..n])
+fn put_front(bytes: &mut Vec<u8>, s: &[u8]) -> Result<(), AllocError> {
+    bytes.extend_from_slice(&s[..s.len().min(KEPT)])
 }
 
 // Says by the file's name why its text has no sheet, as far as it can be said.
 fn complain(errors: &impl Print, name: &[u8], reason: NotMade) {
     let mut words = [0u8; TEXT_ROOM];
-    let n = text_message::message(reason, &mut words);
+    let n = text_message::message(reason, &mut words).min(words.len());
     let _ = errors.write_all(name);
     let _ = errors.write_all(b": ");
-    if n <= words.len() {
-        let _ = errors.write_all(&words[0..n]);
-    }
+    let _ = errors.write_all(&words[..n]);
 }
 
 // Judges the set, and prints its page.
-fn print(rt: &impl Print, table: &[u8], bytes: &[u8], ends: &[usize]) -> io::Result<()> {
-    let mut facts = [0i32; MOST_SHEETS * LEAST_ROOM];
+fn print(
+    rt: &(impl Print + AllocGlobal),
+    table: &[u8],
+    bytes: &[u8],
+    ends: &[usize],
+) -> io::Result<()> {
+    let mut facts = vec![in rt.alloc(); 0i32; MOST_SHEETS * LEAST_ROOM]?;
     let mut page = [0u8; PAGE_ROOM];
-    let n = match judge_day::judge_day_by_table(table, bytes, ends, &mut facts, &mut page) {
-        Err(cause) => return print_refusal(rt, cause.number(), 0),
-        Ok(day) => day.bytes,
-    };
-    if n <= page.len() {
-        rt.write_all(&page[0..n])?;
+    match judge_day::judge_day_by_table(table, bytes, ends, facts.as_mut_slice(), &mut page) {
+        Ok(day) => rt.write_all(&page[..day.bytes.min(PAGE_ROOM)]),
+        Err(cause) => {
+            for n in [REFUSED, cause.number(), 0] {
+                print_number(rt, n)?;
+            }
+            rt.write_all(b"\n")
+        }
     }
-    Ok(())
-}
-
-fn print_refusal(rt: &impl Print, number: usize, line: usize) -> io::Result<()> {
-    print_number(rt, REFUSED)?;
-    print_number(rt, number)?;
-    print_number(rt, line)?;
-    rt.write_all(b"\n")
 }
 
 // A number that fits a field, as a refusal's numbers do.
 fn print_number(rt: &impl Print, n: usize) -> io::Result<()> {
     if n < FIELD_END as usize {
-        let field = sheet_fields::field_bytes(n as i32);
-        rt.write_all(&field)?;
+        return rt.write_all(&sheet_fields::field_bytes(n as i32));
     }
     Ok(())
 }

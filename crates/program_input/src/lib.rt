@@ -10,7 +10,7 @@ use std::io::{Cursor, Error, ErrorKind, Read, Write};
 use std::rt::Files;
 use std::{fs, io};
 
-// The bytes of a file's name, at most: no path is longer.
+/// The bytes of a file's name, at most: no path is longer.
 pub const NAME_ROOM: usize = 4096;
 
 // The bytes of a failure's words, at most: the system's are shorter.
@@ -21,44 +21,51 @@ const INVALID_ARGUMENT: i32 = 22;
 
 const NAME_TOO_LONG: i32 = 36;
 
-// What was read of a file that an argument names: how many bytes its name has, and how many were read of it.
+/// What was read of a file that an argument names: how many bytes its name has, and how many were read of it.
 #[derive(Clone, Copy)]
 pub struct NamedFile {
     pub name: usize,
     pub bytes: usize,
 }
 
-// Reads until `out` is full or the reader is at its end, however few bytes each read gives; returns how many bytes stand at the start of `out`.
-// Where a read fails, what was read before it stands there.
+/// Reads until `out` is full or the reader is at its end, however few bytes each read gives; returns how many bytes stand at the start of `out`.
+/// Where a read fails, what was read before it stands there.
 pub fn read_up_to<R: Read>(reader: &mut R, out: &mut [u8]) -> io::Result<usize>
     ensures within { ReadsAtMost result out.new }
     ensures bytes { IfOk result (λ n. Consumes (R.remaining reader.old) (R.remaining reader.new) (take n out.new)) }
     ensures end { IfOk result (λ n. n < length out.new → IsAtEnd (R.remaining reader.new)) }
     ensures failed { OnErr result ((n : ℕ) × (n < length out.new) × Consumes (R.remaining reader.old) (R.remaining reader.new) (take n out.new)) }
 {
-    let mut done = 0;
-    while done < out.len() {
-        let n = read_some(reader, &mut out[done..])?;
-        if n == 0 {
-            return Ok(done);
-        }
-        done += n;
-    }
+    let (done, end) = fill(reader, out);
+    end?;
     Ok(done)
 }
 
-// Reads as far as the reader goes without a failure, which is taken for its end; returns how many bytes stand at the start of `out`.
+// The same, where a failure is taken for the reader's end.
 fn read_until_failure<R: Read>(reader: &mut R, out: &mut [u8]) -> usize
     ensures { result ≤ length out.new }
 {
-    let mut at = 0;
-    while at < out.len() {
-        match read_some(reader, &mut out[at..]) {
-            Ok(n) if 0 < n => at += n,
-            _ => return at,
+    let (done, _) = fill(reader, out);
+    done
+}
+
+// Reads until `out` is full, the reader is at its end or a read fails; returns how many bytes stand at the start of `out`, and the failure.
+fn fill<R: Read>(reader: &mut R, out: &mut [u8]) -> (usize, io::Result<()>)
+    ensures within { result.0 ≤ length out.new }
+    ensures bytes { Consumes (R.remaining reader.old) (R.remaining reader.new) (take result.0 out.new) }
+    ensures end { IfOk result.1 (λ _. result.0 < length out.new → IsAtEnd (R.remaining reader.new)) }
+    ensures failed { OnErr result.1 (result.0 < length out.new) }
+{
+    let mut done = 0;
+    // Kept: no plainer; done moves by as many bytes as a read gave.
+    while done < out.len() {
+        match read_some(reader, &mut out[done..]) {
+            Ok(0) => return (done, Ok(())),
+            Ok(n) => done += n,
+            Err(e) => return (done, Err(e)),
         }
     }
-    at
+    (done, Ok(()))
 }
 
 // One read, tried again where a signal interrupts it.
@@ -81,14 +88,14 @@ fn read_some<R: Read>(reader: &mut R, out: &mut [u8]) -> io::Result<usize>
     Err(Error::from(ErrorKind::Interrupted))
 }
 
-// Whether the program has an argument of this number: its own name is number 0.
+/// Whether the program has an argument of this number: its own name is number 0.
 pub fn has_argument(env: &impl Env, number: usize) -> bool {
     !matches!(env.arg(number, &mut []), Err(FillError::NotPresent))
 }
 
-// Reads the file that an argument names: puts its name at the start of `name`, and its bytes, as many as there is room for, at the start of
-// `out`. Where it cannot be opened there is none, and `errors` is told why, by its name, as far as it can be told. A name that is not UTF-8
-// cannot be opened. A read that fails is taken for the file's end.
+/// Reads the file that an argument names: puts its name at the start of `name`, and its bytes, as many as there is room for, at the start of
+/// `out`. Where it cannot be opened there is none, and `errors` is told why, by its name, as far as it can be told. A name that is not UTF-8
+/// cannot be opened. A read that fails is taken for the file's end.
 pub fn read_named<R: Env + Files>(
     rt: &R,
     errors: &impl Print,

@@ -11,29 +11,22 @@ use text_writer::TEXT_ROOM;
 const READ: usize = MOST_TEXT + 1;
 
 fn main(rt: HostRuntime) -> io::Result<()> {
-    let mut given = [0u8; READ];
-    let n = program_input::read_up_to(&mut rt.stdin(), &mut given)?;
-    print(&rt, &rt.stderr(), &given[..n])
-}
-
-fn print(rt: &impl Print, errors: &impl Print, given: &[u8]) -> io::Result<()> {
-    let mut sheet = [0u8; MOST_BYTES];
-    match text_to_sheet::sheet_of(given, &mut sheet) {
+    let alloc = rt.alloc();
+    let mut given = vec![in alloc; 0u8; READ]?;
+    let n = program_input::read_up_to(&mut rt.stdin(), given.as_mut_slice())?;
+    given.truncate(n);
+    let mut sheet = vec![in alloc; 0u8; MOST_BYTES]?;
+    match text_to_sheet::sheet_of(given.as_slice(), sheet.as_mut_slice()) {
         Ok(n) => {
-            if n <= sheet.len() {
-                rt.write_all(&sheet[0..n])?;
-            }
-            Ok(())
+            sheet.truncate(n);
+            rt.write_all(sheet.as_slice())
         }
-        Err(reason) => complain(errors, reason),
+        Err(reason) => complain(&rt.stderr(), reason),
     }
 }
 
 fn complain(errors: &impl Print, reason: NotMade) -> io::Result<()> {
     let mut words = [0u8; TEXT_ROOM];
-    let n = text_message::message(reason, &mut words);
-    if n <= words.len() {
-        errors.write_all(&words[0..n])?;
-    }
-    Ok(())
+    let n = text_message::message(reason, &mut words).min(words.len());
+    errors.write_all(&words[..n])
 }

@@ -8,21 +8,15 @@ use sheet_format::{FIELD_BYTES, MOST_RELATIONS, TABLE_FIELDS};
 use std::env::Env;
 use std::rt::Files;
 
-// What is read: one byte more than a table may have, so that a longer one is refused.
+/// What is read: one byte more than a table may have, so that a longer one is refused.
 pub const TABLE_READ: usize = MOST_RELATIONS * (TABLE_FIELDS * FIELD_BYTES + 1) + 1;
-
-fn least(a: usize, b: usize) -> usize
-    ensures { result ≤ b }
-{
-    if a < b { a } else { b }
-}
 
 // The library's own table.
 fn put_own(out: &mut [u8]) -> usize
     ensures { result ≤ length out.new }
 {
     match sheet::own_table(out) {
-        Ok(n) => least(n, out.len()),
+        Ok(n) => n.min(out.len()),
         Err(_) => 0,
     }
 }
@@ -38,12 +32,13 @@ fn put_named<R: Env + Files>(rt: &R, errors: &impl Print, number: usize, out: &m
     }
 }
 
-// The table that an argument names, or the library's own where there is no such argument; how many bytes it has.
+/// The table that an argument names, or the library's own where there is no such argument; how many bytes it has.
 pub fn table<R: Env + Files>(rt: &R, errors: &impl Print, number: usize, out: &mut [u8]) -> usize
     ensures { result ≤ length out.new }
 {
-    if !program_input::has_argument(rt, number) {
-        return put_own(out);
+    if program_input::has_argument(rt, number) {
+        put_named(rt, errors, number, out)
+    } else {
+        put_own(out)
     }
-    put_named(rt, errors, number, out)
 }

@@ -1,14 +1,16 @@
 -- The bytes that a text stands for.
 use mathlib.Core.Path.{◌≡◌, refl, sym, ◌∙◌}
 use mathlib.Core.List.{List, [], ◌∷◌, ◌++◌, append_assoc, append-nil}
-use Prim.Native.Nat.{ℕ, zero, suc, ◌+◌, ◌-◌, ◌*◌, ◌≤◌, ◌<◌}
+use Prim.Native.Nat.{ℕ, zero, suc, ◌+◌, ◌-◌, ◌*◌, ◌≤◌, ◌<◌, min}
 use native.Mathlib.Numerals.{add-one}
 use native.Mathlib.Omega.{arith}
-use lib.ListN.{length, get_or, drop, replicate, length-drop, drop_of_length-le, replicate-append-replicate}
+use lib.ListN.{length, get_or, take, drop, replicate, drop_of_length-le, replicate-append-replicate}
 use lib.Seq.{drop-cons, drop-drop}
 use borrow.Author.Tests.{lt-ltb, le-ltb, ne_eqb}
 use mathlib.Core.Logic.{⊎_elim, inl, inr}
-use Rattle.text_buffer.specs.Puts.{Put}
+use Rattle.std.proofs.lemmas.List.{length-take, take_min}
+use Rattle.std.proofs.Math.Seq.{take-append_seam}
+use Rattle.text_buffer.specs.Puts.{Put, placed, reached}
 use Rattle.text_buffer.proofs.Laws.{nothing, kept, followed, said, reached-within}
 use types.Run.{OneOf}
 use Rattle.test_bytes.specs.Bytes.{digit_value, escaped_by, extent, meant_by, stands_for, times_of}
@@ -34,22 +36,18 @@ pub digit-high : (b : ℕ) → 102 < b → 0 ≡ digit_value b
 unfolding digit_value
 digit-high b h = rw (le-ltb b 48 (omega arith), le-ltb b 58 (omega arith), le-ltb b 97 (omega arith), le-ltb b 103 (omega arith))
 
-few : (s : List ℕ) → length s < 2 → 0 ≡ escaped_by s
+-- fewer than two bytes, and two or more
+pub escaped_few : (s : List ℕ) → length s < 2 → 0 ≡ escaped_by s
 unfolding escaped_by
-few [] h = refl
-few (b ∷ []) h = refl
-few (b ∷ d ∷ s) h = absurd (omega arith)
+escaped_few [] h = refl
+escaped_few (b ∷ []) h = refl
+escaped_few (b ∷ d ∷ s) h = absurd (omega arith)
 
--- fewer than two bytes after i
-pub escaped_few : (s : List ℕ) (i : ℕ) → length s ≤ i + 2 → 0 ≡ escaped_by (drop (i + 1) s)
-escaped_few s i h = few (drop (i + 1) s) (rw (length-drop (i + 1) s) (omega arith))
-
--- two bytes after i
-pub escaped_two : (s : List ℕ) (i : ℕ) → i + 2 < length s → digit_value (get_or s (i + 1) 0) * 16 + digit_value (get_or s (i + 2) 0) ≡ escaped_by (drop (i + 1) s)
+pub escaped_two : (s : List ℕ) → 2 ≤ length s → digit_value (get_or s 0 0) * 16 + digit_value (get_or s 1 0) ≡ escaped_by s
 unfolding escaped_by
-escaped_two s i h =
-    let e : suc (i + 1) ≡ i + 2 = omega arith in
-    rw (drop-cons s (i + 1) 0 (omega arith), e, drop-cons s (i + 2) 0 h)
+escaped_two [] h = absurd (omega arith)
+escaped_two (b ∷ []) h = absurd (omega arith)
+escaped_two (b ∷ d ∷ s) h = refl
 
 -- what a byte stands for
 pub meant_blank : (b : ℕ) (s : List ℕ) → OneOf (44 ∷ 59 ∷ []) b → 32 ≡ meant_by b s
@@ -140,3 +138,14 @@ put-within {a} {b} {s} {n} p = let k = kept p in let e = p.place in let w = reac
 -- one byte more of the same
 pub same_more : {a b c : List ℕ} {at n m : ℕ} (i x : ℕ) → Put a b at (replicate i x) n → Put b c n (x ∷ []) m → Put a c at (replicate (i + 1) x) m
 same_more i x p q = said (replicate-append-replicate i 1 x) (followed p q)
+
+-- what is put at the start
+pub put_front : (a b s : List ℕ) (n : ℕ) → Put a b 0 s n → take n b ≡ take (length a) s
+unfolding placed reached
+put_front a b s n p =
+    let front : List ℕ = take (min (length a) (length s)) s in
+    let f : min (length s) (length a - 0) ≡ min (length a) (length s) = omega arith in
+    let q = p.place in
+    let e : n ≡ length front = rw (length-take (min (length a) (length s)) s) (omega arith) in
+    let g = rw f at p.bytes in
+    rw (g, e) (take-append_seam front (drop (0 + min (length a) (length s)) a)) ∙ take_min (length a) s

@@ -1,21 +1,36 @@
 // Bytes of a case's text.
 #![tactic(auto)]
 
-ghost use Rattle.std.specs.Prelude.{◌≡◌, ◌≤◌, ◌<◌, ◌+◌, length, get_or, drop, replicate};
+ghost use Rattle.std.specs.Prelude.{◌≡◌, ◌≤◌, ◌<◌, ◌+◌, length, take, replicate, IfOk};
 ghost use Rattle.text_buffer.specs.Puts.{Put};
 ghost use Rattle.test_bytes.specs.Bytes.{digit_value, escaped_by, extent, meant_by, stands_for, times_of};
 
-// Puts the bytes that text stands for at the start of out, and returns how many they are.
+use std::alloc::{AllocError, Global};
+
+/// Puts the bytes that text stands for at the start of out, and returns how many they are.
 pub fn bytes(text: &[u8], out: &mut [u8]) -> usize
-    ensures { (result ≤ length out.new) × Put out.old out.new 0 (stands_for 0 text.now) result }
+    ensures within { result ≤ length out.new }
+    ensures put { Put out.old out.new 0 (stands_for 0 text.now) result }
+    ensures front { take result out.new ≡ take (length out.old) (stands_for 0 text.now) }
 {
     let mut n = 0;
     let mut i = 0;
+    // Kept: no plainer; i moves by one byte or by three, as the byte there says.
     while i < text.len() {
-        n = fill(out, n, byte(text, i), times(text[i]));
+        n = fill(out, n, byte(text[i], &text[i + 1..]), times(text[i]));
         i += width(text[i]);
     }
     n
+}
+
+/// The bytes that text stands for, at most `room`.
+pub fn to_bytes(alloc: Global, text: &[u8], room: usize) -> Result<Vec<u8>, AllocError>
+    ensures { IfOk result (λ v. v.items ≡ take room (stands_for 0 text.now)) }
+{
+    let mut out = vec![in alloc; 0u8; room]?;
+    let n = bytes(text, &mut out);
+    out.truncate(n);
+    Ok(out)
 }
 
 // Puts b into out so many times.
@@ -23,10 +38,8 @@ fn fill(out: &mut [u8], at: usize, b: u8, times: usize) -> usize
     ensures { Put out.old out.new at (replicate times b) result }
 {
     let mut n = at;
-    let mut i = 0;
-    while i < times {
+    for _ in 0..times {
         n = text_buffer::put_byte(out, n, b);
-        i += 1;
     }
     n
 }
@@ -49,44 +62,54 @@ fn width(b: u8) -> usize
     if b == b'\\' { 3 } else { 1 }
 }
 
-// The byte that stands at i.
-fn byte(text: &[u8], i: usize) -> u8
-    requires { i < length text.now }
-    ensures { result ≡ meant_by (get_or text.now i 0) (drop (i + 1) text.now) }
+// The byte that b stands for, with `rest` after it.
+fn byte(b: u8, rest: &[u8]) -> u8
+    ensures { result ≡ meant_by b rest.now }
 {
-    let b = text[i];
     match b {
-        b',' | b';' => 32,
-        b'/' => 10,
-        b'\\' => escaped(text, i),
+        b',' | b';' => b' ',
+        b'/' => b'\n',
+        b'\\' => escaped(rest),
         _ => b,
     }
 }
 
-// The byte whose two digits stand after i.
-fn escaped(text: &[u8], i: usize) -> u8
-    requires { i < length text.now }
-    ensures { result ≡ escaped_by (drop (i + 1) text.now) }
+// The byte whose two digits stand first, and 0 where they are not there.
+fn escaped(rest: &[u8]) -> u8
+    ensures { result ≡ escaped_by rest.now }
 {
-    if text.len() - i < 3 {
-        return 0;
+    match rest {
+        [high, low, ..] => digit(*high) * 16 + digit(*low),
+        _ => 0,
     }
-    digit(text[i + 1]) * 16 + digit(text[i + 2])
 }
 
 // The value of a hexadecimal digit, and 0 where b is none.
 fn digit(b: u8) -> u8
     ensures { (result < 16) × (result ≡ digit_value b) }
 {
-    if 47 < b {
-        if b < 58 {
-            return b - 48;
-        }
+    match b {
+        b'0'..=b'9' => b - b'0',
+        b'a'..=b'f' => b - b'a' + 10,
+        _ => 0,
     }
-    if 96 < b {
-        if b < 103 {
-            return b - 87;
-        }
+}
+
+#[cfg(test)]
+mod tests {
+    use super::*;
+    use std::test::Fail;
+
+    #[test]
+    fn bytes_of_a_text(rt: HostRuntime) -> Result<(), Fail> {
+        assert_eq!(rt;
+            to_bytes(rt.alloc(), b"a/\\7c;", 64)?.as_slice(),
+            b"a\n|      ".as_slice()
+        );
+        assert_eq!(rt;
+            to_bytes(rt.alloc(), b"ab,", 4)?.as_slice(),
+            b"ab  ".as_slice()
+        );
+        Ok(())
     }
-    0
 }

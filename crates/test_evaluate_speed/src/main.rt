@@ -7,6 +7,11 @@ ghost use Rattle.std.specs.Prelude.{◌<◌};
 use sheet_format::Refusal;
 use std::io;
 
+// The words of a fact, and how many facts there are.
+const FACT: usize = 5;
+
+const FACTS: usize = 128;
+
 fn main(rt: HostRuntime) -> io::Result<()> {
     six_apart(&rt)?;
     six_apart_last(&rt)?;
@@ -29,9 +34,9 @@ fn six_apart(rt: &impl Print) -> io::Result<()> {
        2       0
        4       2      -1
 ";
-    let mut facts = [0i32; 640];
+    let mut facts = [[0i32; FACT]; FACTS];
     straps(&mut facts);
-    show(rt, "six apart", sheet, &facts)
+    show(rt, "six apart", sheet, facts.as_flattened())
 }
 
 // The same with the head over the last.
@@ -46,9 +51,14 @@ fn six_apart_last(rt: &impl Print) -> io::Result<()> {
        2       0
        4       2      -1
 ";
-    let mut facts = [0i32; 640];
+    let mut facts = [[0i32; FACT]; FACTS];
     straps(&mut facts);
-    show(rt, "six apart, head over the last", sheet, &facts)
+    show(
+        rt,
+        "six apart, head over the last",
+        sheet,
+        facts.as_flattened(),
+    )
 }
 
 // The same with no fact for the last.
@@ -63,9 +73,14 @@ fn six_apart_none(rt: &impl Print) -> io::Result<()> {
        2       0
        4       2      -1
 ";
-    let mut facts = [0i32; 640];
+    let mut facts = [[0i32; FACT]; FACTS];
     straps(&mut facts);
-    show(rt, "six apart, no fact for the last", sheet, &facts)
+    show(
+        rt,
+        "six apart, no fact for the last",
+        sheet,
+        facts.as_flattened(),
+    )
 }
 
 // Three pairs of joined atoms. The first two are over a complete relation of 11 by 11, the last pair never meets.
@@ -80,11 +95,14 @@ fn pairs_apart(rt: &impl Print) -> io::Result<()> {
        2       0
        4       2      -1
 ";
-    let mut facts = [0i32; 640];
-    grid(&mut facts, 0, 121, 4, 0, 0, 11);
-    grid(&mut facts, 121, 124, 5, 0, 20, 1);
-    grid(&mut facts, 124, 128, 6, 0, 0, 1);
-    show(rt, "three pairs, the last never meets", sheet, &facts)
+    let mut facts = [[0i32; FACT]; FACTS];
+    three_pairs(&mut facts);
+    show(
+        rt,
+        "three pairs, the last never meets",
+        sheet,
+        facts.as_flattened(),
+    )
 }
 
 // A cycle of five over the pairs of 8 and 8, both ways: each closed walk there is even.
@@ -98,9 +116,9 @@ fn odd_cycle(rt: &impl Print) -> io::Result<()> {
        2
        4       2      -1
 ";
-    let mut facts = [0i32; 640];
+    let mut facts = [[0i32; FACT]; FACTS];
     both_ways(&mut facts);
-    show(rt, "a cycle of five", sheet, &facts)
+    show(rt, "a cycle of five", sheet, facts.as_flattened())
 }
 
 // A chain of six over the same.
@@ -115,9 +133,9 @@ fn chain(rt: &impl Print) -> io::Result<()> {
        2       0       0
        4       2      -1
 ";
-    let mut facts = [0i32; 640];
+    let mut facts = [[0i32; FACT]; FACTS];
     both_ways(&mut facts);
-    show(rt, "a chain of six", sheet, &facts)
+    show(rt, "a chain of six", sheet, facts.as_flattened())
 }
 
 // Four columns of 128 values each.
@@ -130,61 +148,41 @@ fn product(rt: &impl Print) -> io::Result<()> {
        2       0       0       0       0
        4       2      -1
 ";
-    let mut facts = [0i32; 640];
+    let mut facts = [[0i32; FACT]; FACTS];
     straps(&mut facts);
-    show(rt, "a product of four columns", sheet, &facts)
+    show(rt, "a product of four columns", sheet, facts.as_flattened())
 }
 
 // Strap(0) to Strap(127).
-fn straps(out: &mut [i32]) {
-    grid(out, 0, 128, 2, 0, 0, 1);
+fn straps(facts: &mut [[i32; FACT]; FACTS]) {
+    grid(facts, 2, 0, 0, 1);
 }
 
 // Sig of 0 to 7 with 8 to 15, and back.
-fn both_ways(out: &mut [i32]) {
-    grid(out, 0, 64, 4, 0, 8, 8);
-    grid(out, 64, 128, 4, 8, 0, 8);
+fn both_ways(facts: &mut [[i32; FACT]; FACTS]) {
+    grid(&mut facts[..64], 4, 0, 8, 8);
+    grid(&mut facts[64..], 4, 8, 0, 8);
 }
 
-// Puts facts of the relation at the places from..to, by rows of a width: the first value goes up from a by rows, the second from b in a row.
-fn grid(out: &mut [i32], from: usize, to: usize, relation: usize, a: usize, b: usize, width: usize)
+// All of 0 to 10 with 0 to 10, 0 to 2 with 20, and 0 to 3 with 0.
+fn three_pairs(facts: &mut [[i32; FACT]; FACTS]) {
+    grid(&mut facts[..121], 4, 0, 0, 11);
+    grid(&mut facts[121..124], 5, 0, 20, 1);
+    grid(&mut facts[124..], 6, 0, 0, 1);
+}
+
+// Puts facts of the relation, by rows of a width: the first value goes up from a by rows, the second from b in a row.
+fn grid(facts: &mut [[i32; FACT]], relation: i32, a: usize, b: usize, width: usize)
     requires { 0 < width }
 {
-    let mut k = from;
-    while k < to {
-        let n = k - from;
-        put(out, k, relation, sum(a, n / width), sum(b, n % width));
-        k += 1;
+    for (n, fact) in facts.iter_mut().enumerate() {
+        *fact = [relation, value(a, n / width), value(b, n % width), 0, 0];
     }
 }
 
-// Puts a fact of two values, or of one and 0, at its place among facts of zeros.
-fn put(out: &mut [i32], at: usize, relation: usize, a: usize, b: usize) {
-    if at < 128 {
-        store(out, at * 5, relation);
-        store(out, at * 5 + 1, a);
-        store(out, at * 5 + 2, b);
-    }
-}
-
-fn store(out: &mut [i32], at: usize, n: usize) {
-    if at < out.len() {
-        out[at] = word(n);
-    }
-}
-
-// The sum of two small numbers.
-fn sum(a: usize, b: usize) -> usize {
-    if a < 1000 {
-        if b < 1000 {
-            return a + b;
-        }
-    }
-    0
-}
-
-fn word(n: usize) -> i32 {
-    if n < 2000 { n as i32 } else { 0 }
+// So much above the first, as a word.
+fn value(first: usize, n: usize) -> i32 {
+    i32::try_from(first.saturating_add(n)).unwrap_or(0)
 }
 
 // Calls, and prints how it ended.

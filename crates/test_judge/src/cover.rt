@@ -12,116 +12,57 @@
 //
 // A bar follows, then the missing answer and a bar, the count of facts and a bar, and the facts, with "/" after each. Of a case SHOWN says
 // which of these are shown, since the case is free: 0 none, 1 the missing answer, 2 all. With any other verdict all are.
+use crate::{Given, Law};
 use c_results::Outcome;
+use judge_result::NOT_COVERED;
 use query_meaning::FACT_WORDS;
-use test_ends::{least, put_ending};
+use test_ends::put_ending;
+use test_results::Line;
 
-// Judges, and puts what came of it at a place.
-pub(crate) fn run(
-    own: bool,
-    table: &[u8],
-    sheet: &[u8],
-    numbers: &[i32],
-    lent: &mut [i32],
-    out: &mut [u8],
-    at: usize,
-) -> usize {
-    if numbers.len() == 0 {
-        return at;
+// Facts, more than a case of a sheet is lent words for.
+const MOST_FACTS: usize = 2000;
+
+// Judges, and puts what came of it.
+pub(crate) fn run(given: &Given<'_>, lent: &mut [i32], out: &mut Line<'_>) {
+    let [shown, ..] = given.numbers else {
+        return;
+    };
+    let shown = sheet_terms::number(*shown);
+    match given.law {
+        Law::Own(table) => {
+            let j = Outcome::from(judge::judge(given.bytes, lent));
+            put_judged(out, table, given.bytes, shown, lent, &j);
+        }
+        Law::Club(table) => {
+            let j = Outcome::from(judge::judge_by_table(table, given.bytes, lent));
+            put_judged(out, table, given.bytes, shown, lent, &j);
+        }
     }
-    let shown = sheet_terms::number(numbers[0]);
-    let j = judged(own, table, sheet, lent);
-    put_judged(out, at, table, sheet, shown, lent, j)
 }
 
-fn judged(own: bool, table: &[u8], sheet: &[u8], lent: &mut [i32]) -> Outcome {
-    if own {
-        return judge::judge(sheet, lent).into();
-    }
-    judge::judge_by_table(table, sheet, lent).into()
-}
-
-// Puts a judgement by a table, with what it left in the lent words.
+// Puts a judgement by a table, with what it left in the lent words. Of a case the missing answer is shown from 1 on, and the facts from 2 on.
 fn put_judged(
-    out: &mut [u8],
-    at: usize,
+    out: &mut Line<'_>,
     table: &[u8],
     sheet: &[u8],
     shown: usize,
     lent: &[i32],
-    j: Outcome,
-) -> usize {
-    let verdict = j.verdict;
-    let count = j.count;
-    let missing = j.missing;
-    let done = least(words_of(count), lent.len());
-    let a = put_ending(out, at, verdict, j.number, j.line);
-    let b = test_results::put_mark(out, a, test_lent::are_marked(lent, done));
-    let c = put_checks(out, b, table, sheet, verdict, &lent[0..done], &missing);
-    put_case(
-        out,
-        c,
-        among(verdict, shown),
-        &missing,
-        count,
-        &lent[0..done],
-    )
-}
-
-// The missing answer and the facts, as far as they are shown.
-fn put_case(
-    out: &mut [u8],
-    at: usize,
-    shown: usize,
-    missing: &[usize; 4],
-    count: usize,
-    facts: &[i32],
-) -> usize {
-    let end = put_missing(out, at, shown, missing);
-    put_facts(out, end, shown, count, facts)
-}
-
-// How many words that many facts have. Ten thousand stand for any more: no case of a sheet is lent so many.
-fn words_of(facts: usize) -> usize {
-    if facts < 2000 {
-        facts * FACT_WORDS
-    } else {
-        10000
+    j: &Outcome,
+) {
+    let is_case = j.verdict == NOT_COVERED;
+    let done = (j.count.min(MOST_FACTS) * FACT_WORDS).min(lent.len());
+    let facts = &lent[..done];
+    put_ending(out, j.verdict, j.number, j.line);
+    out.mark(test_lent::are_marked(lent, done));
+    if is_case {
+        test_case::put_marks(out, table, sheet, facts, &j.missing);
     }
-}
-
-// What is shown: all with any verdict but that of a case.
-fn among(verdict: usize, shown: usize) -> usize {
-    if verdict == 1 { shown } else { 2 }
-}
-
-fn put_checks(
-    out: &mut [u8],
-    at: usize,
-    table: &[u8],
-    sheet: &[u8],
-    verdict: usize,
-    facts: &[i32],
-    missing: &[usize; 4],
-) -> usize {
-    if verdict != 1 {
-        return at;
+    out.byte(b'|');
+    if !is_case || 1 <= shown {
+        crate::put_missing(out, &j.missing, b'|');
     }
-    test_case::put_marks(out, at, table, sheet, facts, missing)
-}
-
-fn put_missing(out: &mut [u8], at: usize, shown: usize, missing: &[usize; 4]) -> usize {
-    let a = text_buffer::put_byte(out, at, b'|');
-    if shown < 1 {
-        return a;
+    if !is_case || 2 <= shown {
+        out.number(j.count, b'|');
+        out.words(facts, FACT_WORDS);
     }
-    crate::put_missing(out, a, missing, b'|')
-}
-
-fn put_facts(out: &mut [u8], at: usize, shown: usize, count: usize, facts: &[i32]) -> usize {
-    if shown < 2 {
-        return at;
-    }
-    let bar = test_results::put_number(out, at, count, b'|');
-    test_results::put_words(out, bar, facts, FACT_WORDS)
 }

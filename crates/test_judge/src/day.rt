@@ -4,12 +4,14 @@
 //
 // What is printed: the name; the number, the line, the count of sheets and that of the page's bytes; "=" where the lent words past the last
 // stretch are as they were lent, and "!" where they are not; a bar; the lent bytes, with "/" for byte 10. They hold "~" before the call.
-use crate::HELD_NUMBERS;
+use crate::{Given, HELD_NUMBERS, Law};
 use c_results::DayOutcome;
 use day_page::PAGE_ROOM;
 use judge_ends::MOST_SHEETS;
 use judge_result::LEAST_ROOM;
-use test_ends::{least, put_ending, put_ends};
+use std::alloc::{AllocError, Global};
+use test_ends::{put_ending, put_ends};
+use test_results::Line;
 
 // Bytes enough for every page, with some more.
 const HELD_PAGE: usize = PAGE_ROOM + 64;
@@ -17,77 +19,41 @@ const HELD_PAGE: usize = PAGE_ROOM + 64;
 // What the lent bytes hold before the call: a byte that no page has.
 const MARK: u8 = b'~';
 
-// Takes the page's room and the ends apart, and lends the page.
+// Takes the page's room and the ends apart, lends the page and judges; puts what came of it.
 pub(crate) fn run(
-    own: bool,
-    table: &[u8],
-    set: &[u8],
-    numbers: &[i32],
+    alloc: Global,
+    given: &Given<'_>,
     lent: &mut [i32],
-    out: &mut [u8],
-    at: usize,
-) -> usize {
-    if numbers.len() == 0 {
-        return at;
-    }
+    out: &mut Line<'_>,
+) -> Result<(), AllocError> {
+    let [room, numbers @ ..] = given.numbers else {
+        return Ok(());
+    };
     let mut ends = [0usize; HELD_NUMBERS];
-    let k = put_ends(&numbers[1..], &mut ends);
-    let mut page = [MARK; HELD_PAGE];
-    let n = least(sheet_terms::number(numbers[0]), HELD_PAGE);
-    show(own, table, set, &ends[0..k], lent, &mut page[0..n], out, at)
+    let k = put_ends(numbers, &mut ends);
+    let mut page = vec![in alloc; MARK; sheet_terms::number(*room).min(HELD_PAGE)]?;
+    let day = judged(given, &ends[..k], lent, page.as_mut_slice());
+    put_day(out, lent, page.as_slice(), &day);
+    Ok(())
 }
 
-// Judges, and puts what came of it at a place.
-fn show(
-    own: bool,
-    table: &[u8],
-    set: &[u8],
-    ends: &[usize],
-    lent: &mut [i32],
-    page: &mut [u8],
-    out: &mut [u8],
-    at: usize,
-) -> usize {
-    let day = judged(own, table, set, ends, lent, page);
-    put_day(out, at, lent, page, day)
-}
-
-fn judged(
-    own: bool,
-    table: &[u8],
-    set: &[u8],
-    ends: &[usize],
-    lent: &mut [i32],
-    page: &mut [u8],
-) -> DayOutcome {
-    if own {
-        return judge_day::judge_day(set, ends, lent, page).into();
+fn judged(given: &Given<'_>, ends: &[usize], lent: &mut [i32], page: &mut [u8]) -> DayOutcome {
+    match given.law {
+        Law::Own(_) => judge_day::judge_day(given.bytes, ends, lent, page).into(),
+        Law::Club(table) => {
+            judge_day::judge_day_by_table(table, given.bytes, ends, lent, page).into()
+        }
     }
-    judge_day::judge_day_by_table(table, set, ends, lent, page).into()
 }
 
-// Puts what came of a day, with what it left in the lent words and bytes.
-fn put_day(out: &mut [u8], at: usize, lent: &[i32], page: &[u8], day: DayOutcome) -> usize {
-    let s = day.set;
-    let count = least(s.count, MOST_SHEETS);
-    let a = put_ending(out, at, s.number, s.line, s.count);
-    let b = test_results::put_number(out, a, day.bytes, b' ');
-    let c = test_results::put_mark(out, b, test_lent::are_marked(lent, count * LEAST_ROOM));
-    let d = text_buffer::put_byte(out, c, b'|');
-    put_page(out, d, page)
-}
-
-// The lent bytes, with "/" for byte 10.
-fn put_page(out: &mut [u8], at: usize, page: &[u8]) -> usize {
-    let mut n = at;
-    let mut i = 0;
-    while i < page.len() {
-        n = text_buffer::put_byte(out, n, shown(page[i]));
-        i += 1;
+// Puts what came of a day, with what it left in the lent words and bytes, "/" for byte 10.
+fn put_day(out: &mut Line<'_>, lent: &[i32], page: &[u8], day: &DayOutcome) {
+    let count = day.set.count.min(MOST_SHEETS);
+    put_ending(out, day.set.number, day.set.line, day.set.count);
+    out.number(day.bytes, b' ');
+    out.mark(test_lent::are_marked(lent, count * LEAST_ROOM));
+    out.byte(b'|');
+    for b in page {
+        out.byte(if *b == b'\n' { b'/' } else { *b });
     }
-    n
-}
-
-fn shown(b: u8) -> u8 {
-    if b == b'\n' { b'/' } else { b }
 }

@@ -17,20 +17,19 @@ mod day;
 mod set;
 mod text;
 
-ghost use Rattle.std.specs.Prelude.{◌<◌, length};
-
 use judge_ends::MOST_SHEETS;
 use judge_result::LEAST_ROOM;
+use std::alloc::{AllocError, Global};
 use std::io;
-use std::io::Read;
-use test_ends::least;
+use test_lines::Lines;
+use test_results::Line;
 use text_writer::TEXT_ROOM;
 
 // The bytes of a case, at most.
-const LINE: usize = 8192;
+const CASE: usize = 8192;
 
 // No result is longer than a text's: the name, what is said in words, a text, and a few marks.
-const ROOM: usize = LINE + TEXT_ROOM + TEXT_ROOM + 16;
+const ROOM: usize = CASE + TEXT_ROOM + TEXT_ROOM + 16;
 
 // Words enough for every set, with some more.
 const HELD_WORDS: usize = MOST_SHEETS * LEAST_ROOM + 64;
@@ -38,156 +37,147 @@ const HELD_WORDS: usize = MOST_SHEETS * LEAST_ROOM + 64;
 // The two rooms and the ends of a case: more ends than a set may have.
 const HELD_NUMBERS: usize = MOST_SHEETS + 5;
 
-// The bytes of a table, at most: more than 33 lines have.
+// The bytes of a sheet or a set, and of a table, at most: more than 33 lines have.
+const BYTES: usize = 8704;
+
 const TABLE: usize = 2048;
 
-// Cases, more than any input has.
-const CASES: usize = 1000000;
+// The table of relations that a case goes by: the library's own, whose bytes these are, or another.
+#[derive(Clone, Copy)]
+enum Law<'a> {
+    Own(&'a [u8]),
+    Club(&'a [u8]),
+}
+
+// What a case calls with: a table, the bytes of a sheet or a set, and the numbers after that of the lent words.
+#[derive(Clone, Copy)]
+struct Given<'a> {
+    law: Law<'a>,
+    bytes: &'a [u8],
+    numbers: &'a [i32],
+}
 
 // Runs every case.
 fn main(rt: HostRuntime) -> io::Result<()> {
-    let mut input = rt.stdin();
-    for _ in 0..CASES {
-        if !run_next(&mut input, &rt)? {
-            break;
-        }
+    let alloc = rt.alloc();
+    let mut room = vec![in alloc; 0u8; ROOM]?;
+    for case in Lines::new(alloc, rt.stdin(), CASE) {
+        let case = case?;
+        let mut out = Line::new(room.as_mut_slice());
+        run(alloc, case.as_slice(), &mut out)?;
+        rt.write_all(out.as_bytes())?;
     }
     Ok(())
 }
 
-// Runs the next case, and returns false where there is none.
-fn run_next<R: Read>(input: &mut R, rt: &impl Print) -> io::Result<bool> {
-    let mut line = [0u8; LINE];
-    let n = test_lines::line(input, &mut line)?;
-    if n == 0 {
-        return Ok(false);
-    }
-    let mut out = [0u8; ROOM];
-    let end = run(&line[0..n], &mut out);
-    print(rt, &out, end)?;
-    Ok(true)
+// Runs a case, and puts its result. A line without a bar is a heading.
+fn run(alloc: Global, case: &[u8], out: &mut Line<'_>) -> Result<(), AllocError> {
+    let Some(bar) = test_words::place(case, b'|') else {
+        put_line(out, case);
+        return Ok(());
+    };
+    run_named(alloc, &case[..bar], &case[bar + 1..], out)
 }
 
-// Prints the first n bytes.
-fn print(rt: &impl Print, s: &[u8], n: usize) -> io::Result<()> {
-    if n <= s.len() {
-        rt.write_all(&s[0..n])?;
-    }
-    Ok(())
-}
-
-// Runs a case, puts its result at the start of out, and returns its length. A line without a bar is a heading.
-fn run(case: &[u8], out: &mut [u8]) -> usize {
-    let bar = test_words::place(case, b'|');
-    if bar == case.len() {
-        return put_line(out, case);
-    }
-    run_named(&case[0..bar], &case[bar + 1..], out)
-}
-
-fn put_line(out: &mut [u8], s: &[u8]) -> usize {
-    let end = text_buffer::put(out, 0, s);
-    text_buffer::put_byte(out, end, b'\n')
+fn put_line(out: &mut Line<'_>, s: &[u8]) {
+    out.bytes(s);
+    out.byte(b'\n');
 }
 
 // Takes the call's word and the case's name apart.
-fn run_named(head: &[u8], parts: &[u8], out: &mut [u8]) -> usize {
-    let gap = test_words::place(head, b' ');
-    if gap == head.len() {
-        return put_line(out, head);
+fn run_named(
+    alloc: Global,
+    head: &[u8],
+    parts: &[u8],
+    out: &mut Line<'_>,
+) -> Result<(), AllocError> {
+    let Some(gap) = test_words::place(head, b' ') else {
+        put_line(out, head);
+        return Ok(());
+    };
+    out.bytes(&head[gap + 1..]);
+    if head[0] == b't' {
+        return text::run(alloc, parts, out);
     }
-    let end = text_buffer::put(out, 0, &head[gap + 1..]);
-    run_parts(head[0], parts, out, end)
-}
-
-fn run_parts(call: u8, parts: &[u8], out: &mut [u8], at: usize) -> usize {
-    if call == b't' {
-        return text::run(parts, out, at);
-    }
-    let end = run_numbers(call, parts, out, at);
-    text_buffer::put_byte(out, end, b'\n')
+    run_numbers(alloc, head[0], parts, out)?;
+    out.byte(b'\n');
+    Ok(())
 }
 
 // Takes a case's numbers and its text apart.
-fn run_numbers(call: u8, parts: &[u8], out: &mut [u8], at: usize) -> usize {
-    let bar = test_words::place(parts, b'|');
-    if bar == parts.len() {
-        return at;
+fn run_numbers(
+    alloc: Global,
+    call: u8,
+    parts: &[u8],
+    out: &mut Line<'_>,
+) -> Result<(), AllocError> {
+    let Some(bar) = test_words::place(parts, b'|') else {
+        return Ok(());
+    };
+    let numbers = test_words::to_words(alloc, &parts[..bar], 1, HELD_NUMBERS)?;
+    match numbers.as_slice() {
+        [] => Ok(()),
+        [words, rest @ ..] => run_text(alloc, call, *words, rest, &parts[bar + 1..], out),
     }
-    let mut numbers = [0i32; HELD_NUMBERS];
-    let n = test_words::words(&parts[0..bar], 1, &mut numbers);
-    if n == 0 {
-        return at;
-    }
-    run_text(call, &numbers[0..n], &parts[bar + 1..], out, at)
 }
 
 // Runs with the bytes that the text stands for, and after a bar those of a table.
-fn run_text(call: u8, numbers: &[i32], text: &[u8], out: &mut [u8], at: usize) -> usize
-    requires { 0 < length numbers.now }
-{
-    let bar = test_words::place(text, b'|');
-    let mut bytes = [0u8; 8704];
-    let n = test_bytes::bytes(&text[0..bar], &mut bytes);
-    if bar == text.len() {
-        let own = sheet_own_table::own_table();
-        return lend(call, true, &own, &bytes[0..n], numbers, out, at);
-    }
-    let mut table = [0u8; TABLE];
-    let k = test_bytes::bytes(&text[bar + 1..], &mut table);
-    lend(call, false, &table[0..k], &bytes[0..n], numbers, out, at)
-}
-
-// Lends as many words as the first number says.
-fn lend(
+fn run_text(
+    alloc: Global,
     call: u8,
-    own: bool,
-    table: &[u8],
-    bytes: &[u8],
+    words: i32,
     numbers: &[i32],
-    out: &mut [u8],
-    at: usize,
-) -> usize
-    requires { 0 < length numbers.now }
-{
-    let mut lent = [0i32; HELD_WORDS];
-    test_lent::put_marks(&mut lent);
-    let k = least(sheet_terms::number(numbers[0]), HELD_WORDS);
-    run_call(
-        call,
-        own,
-        table,
-        bytes,
-        &numbers[1..],
-        &mut lent[0..k],
-        out,
-        at,
-    )
+    text: &[u8],
+    out: &mut Line<'_>,
+) -> Result<(), AllocError> {
+    match test_words::place(text, b'|') {
+        None => {
+            let bytes = test_bytes::to_bytes(alloc, text, BYTES)?;
+            let own = sheet_own_table::own_table();
+            let given = Given {
+                law: Law::Own(&own),
+                bytes: bytes.as_slice(),
+                numbers,
+            };
+            run_call(alloc, call, words, &given, out)
+        }
+        Some(bar) => {
+            let bytes = test_bytes::to_bytes(alloc, &text[..bar], BYTES)?;
+            let table = test_bytes::to_bytes(alloc, &text[bar + 1..], TABLE)?;
+            let given = Given {
+                law: Law::Club(table.as_slice()),
+                bytes: bytes.as_slice(),
+                numbers,
+            };
+            run_call(alloc, call, words, &given, out)
+        }
+    }
 }
 
-// Calls by the library's own table, whose bytes these are, or by another.
+// Calls with as many lent words as the case says.
 fn run_call(
+    alloc: Global,
     call: u8,
-    own: bool,
-    table: &[u8],
-    bytes: &[u8],
-    numbers: &[i32],
-    lent: &mut [i32],
-    out: &mut [u8],
-    at: usize,
-) -> usize {
+    words: i32,
+    given: &Given<'_>,
+    out: &mut Line<'_>,
+) -> Result<(), AllocError> {
+    let mut lent = vec![in alloc; 0i32; sheet_terms::number(words).min(HELD_WORDS)]?;
+    test_lent::put_marks(lent.as_mut_slice());
     match call {
-        b'c' => cover::run(own, table, bytes, numbers, lent, out, at),
-        b's' => set::run(own, table, bytes, numbers, lent, out, at),
-        b'd' => day::run(own, table, bytes, numbers, lent, out, at),
-        _ => at,
+        b'c' => cover::run(given, lent.as_mut_slice(), out),
+        b's' => set::run(given, lent.as_mut_slice(), out),
+        b'd' => day::run(alloc, given, lent.as_mut_slice(), out)?,
+        _ => {}
     }
+    Ok(())
 }
 
 // Puts a missing answer, and a byte after it.
-fn put_missing(out: &mut [u8], at: usize, missing: &[usize; 4], after: u8) -> usize {
-    let a = test_results::put_number(out, at, missing[0], b' ');
-    let b = test_results::put_number(out, a, missing[1], b' ');
-    let c = test_results::put_number(out, b, missing[2], b' ');
-    test_results::put_number(out, c, missing[3], after)
+fn put_missing(out: &mut Line<'_>, missing: &[usize; 4], after: u8) {
+    let [a, b, c, d] = *missing;
+    out.number(a, b' ');
+    out.number(b, b' ');
+    out.number(c, b' ');
+    out.number(d, after);
 }

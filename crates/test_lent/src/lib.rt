@@ -4,27 +4,23 @@
 ghost use Rattle.std.specs.Prelude.{◌≡◌, ◌-◌, length, drop};
 ghost use Rattle.test_lent.specs.Marks.{marks, place_mark, Tells};
 
-// Puts into each word the mark of its place.
+/// Puts into each word the mark of its place.
 pub fn put_marks(lent: &mut [i32])
     ensures { lent.new ≡ marks 0 (length lent.old) }
 {
-    let mut i = 0;
-    while i < lent.len() {
-        lent[i] = mark_of(i);
-        i += 1;
+    for (i, word) in lent.iter_mut().enumerate() {
+        *word = mark_of(i);
     }
 }
 
-// Whether the words from `from` on have the marks of their places.
+/// Whether the words from `from` on have the marks of their places.
 pub fn are_marked(lent: &[i32], from: usize) -> bool
     ensures { Tells result (drop from lent.now ≡ marks from (length lent.now - from)) }
 {
-    let mut i = from;
-    while i < lent.len() {
+    for i in from..lent.len() {
         if lent[i] != mark_of(i) {
             return false;
         }
-        i += 1;
     }
     true
 }

@@ -19,3 +19,12 @@ TakesLine old new out r = Consumes old new (take r out ++ 10 ∷ []) ⊎ (Consum
 -- some bytes of a line are taken from known bytes and stand at the start of `new`
 abbrev pub BreaksOff : Option (List ℕ) → Option (List ℕ) → List ℕ → List ℕ → Type 0
 BreaksOff before after old new = (r : ℕ) × LineIn old new r × Consumes before after (take r new)
+
+-- none of the bytes is byte 10
+abbrev pub HasNoEnd : List ℕ → Type 0
+HasNoEnd s = (k : ℕ) → k < length s → get_or s k 0 ≡ 10 → ⊥
+
+-- a line that is given: it has bytes, and none of them is byte 10
+pub record IsLine (s : List ℕ) : Type 0 where
+  pub some : 0 < length s
+  pub plain : HasNoEnd s

@@ -1,30 +1,87 @@
 // Lines of the input.
 #![tactic(auto)]
 
-ghost use Rattle.std.specs.Prelude.{◌≡◌, IfOk, OnErr};
+ghost use Rattle.std.specs.Prelude.{◌≡◌, IfOk, OnErr, IfSome};
 ghost use Rattle.std.specs.Io.KnownBytes.{Keeps};
-ghost use Rattle.test_lines.specs.Lines.{LineIn, TakesByte, TakesLine, BreaksOff};
+ghost use Rattle.std.specs.Iterator.{at_most};
+ghost use Rattle.test_lines.specs.Lines.{LineIn, TakesByte, TakesLine, BreaksOff, HasNoEnd, IsLine};
 
+use std::alloc::Global;
 use std::io;
 use std::io::Read;
 
-// Reads a line, without its byte 10, and returns its length: 0 at the end of the input. The only error is that a read fails: what was read of the
-// line before it stands in `out`, and nothing else was taken of the input.
+/// So many lines are given at most, more than any input has.
+pub const MOST_GIVEN: u32 = 1000000;
+
+/// The lines of an input, without their byte 10, up to an empty one or the end of the input.
+#[derive(Drop)]
+pub struct Lines<R> {
+    input: R,
+    alloc: Global,
+    room: usize,
+    left: u32,
+}
+
+impl<R: Read + Drop> Lines<R> {
+    /// Lines of at most `room` bytes: a longer one is cut, and what is left of it is the next line.
+    pub fn new(alloc: Global, input: R, room: usize) -> Lines<R>
+        ensures room { result.room ≡ room }
+        ensures left { result.left ≡ MOST_GIVEN }
+    {
+        Lines {
+            input,
+            alloc,
+            room,
+            left: MOST_GIVEN,
+        }
+    }
+
+    // The next line, without bytes at the end of the input.
+    fn read(&mut self) -> io::Result<Vec<u8>>
+        ensures plain { IfOk result (λ v. HasNoEnd v.items) }
+        ensures left { self.new.left ≡ self.old.left }
+    {
+        let mut bytes = vec![in self.alloc; 0u8; self.room]?;
+        let n = line(&mut self.input, &mut bytes)?;
+        bytes.truncate(n);
+        Ok(bytes)
+    }
+}
+
+impl<R: Read + Drop> Iterator for Lines<R> {
+    type Item = io::Result<Vec<u8>>;
+
+    ghost remaining = { λ s. at_most s.left };
+
+    ghost next_gives = { λ s r t. IfSome r (λ l. IfOk l (λ v. IsLine v.items)) };
+
+    fn next(&mut self) -> Option<io::Result<Vec<u8>>> {
+        if self.left == 0 {
+            return None;
+        }
+        self.left -= 1;
+        match self.read() {
+            Ok(bytes) if bytes.is_empty() => None,
+            given => Some(given),
+        }
+    }
+}
+
+/// Reads a line, without its byte 10, and returns its length: 0 at the end of the input. The only error is that a read fails: what was read of the
+/// line before it stands in `out`, and nothing else was taken of the input.
 pub fn line<R: Read>(input: &mut R, out: &mut [u8]) -> io::Result<usize>
     ensures line { IfOk result (λ n. LineIn out.old out.new n) }
     ensures taken { IfOk result (λ n. TakesLine (R.remaining input.old) (R.remaining input.new) out.new n) }
     ensures failed { OnErr result (BreaksOff (R.remaining input.old) (R.remaining input.new) out.old out.new) }
 {
-    let mut n = 0;
-    while n < out.len() {
+    for n in 0..out.len() {
         let b = next(input)?;
         if b == b'\n' {
             return Ok(n);
         }
         out[n] = b;
-        n += 1;
     }
-    Ok(n)
+    Ok(out.len())
 }
 
 // The next byte of the input, and byte 10 at its end.
@@ -37,4 +94,24 @@ fn next<R: Read>(input: &mut R) -> io::Result<u8>
         return Ok(b'\n');
     }
     Ok(one[0])
+}
+
+#[cfg(test)]
+mod tests {
+    use super::*;
+    use std::test::Fail;
+
+    #[test]
+    fn gives_lines_up_to_an_empty_one(rt: HostRuntime) -> Result<(), Fail> {
+        let input = b"abcde\nf\n\ng\n".as_slice();
+        let mut all = Vec::new(rt.alloc());
+        for line in Lines::new(rt.alloc(), input, 4) {
+            all.push(line?)?;
+        }
+        assert_eq!(rt; all.len(), 3);
+        assert_eq!(rt; all[0].as_slice(), b"abcd".as_slice());
+        assert_eq!(rt; all[1].as_slice(), b"e".as_slice());
+        assert_eq!(rt; all[2].as_slice(), b"f".as_slice());
+        Ok(())
+    }
 }

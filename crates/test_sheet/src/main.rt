@@ -19,222 +19,193 @@
 
 mod result;
 
-ghost use Rattle.std.specs.Prelude.{◌≤◌};
-
 use sheet_format::{LINE_WORDS, MOST_BYTES, MOST_WORDS, Refusal};
+use std::alloc::{AllocError, Global};
 use std::io;
-use std::io::Read;
+use test_lines::Lines;
+use test_results::Line;
 
-// The words and bytes that are lent, at most.
+// The bytes of a case, at most.
+const CASE: usize = 4096;
+
+// The words and bytes that are lent, at most, and what they hold before the call.
 const WORDS: usize = MOST_WORDS + 64;
 
 const BYTES: usize = MOST_BYTES + 64;
 
-// The bytes of a table, at most: more than 33 lines have.
+const WORD: i32 = 77777777;
+
+const BYTE: u8 = b'#';
+
+// The bytes of a sheet and of a table, at most: more than 33 lines have.
+const SHEET: usize = 8704;
+
 const TABLE: usize = 2048;
 
 // No result is longer: it has words of twelve bytes each and bytes of three, and two answers.
 const ROOM: usize = WORDS * 12 + BYTES * 3 + 512;
 
-// Cases, more than any input has.
-const CASES: usize = 1000000;
-
 // Runs every case.
 fn main(rt: HostRuntime) -> io::Result<()> {
-    let mut input = rt.stdin();
-    for _ in 0..CASES {
-        if !run_next(&mut input, &rt)? {
-            break;
+    let alloc = rt.alloc();
+    let mut room = vec![in alloc; 0u8; ROOM]?;
+    for case in Lines::new(alloc, rt.stdin(), CASE) {
+        let case = case?;
+        let mut out = Line::new(room.as_mut_slice());
+        run(alloc, case.as_slice(), &mut out)?;
+        out.byte(b'\n');
+        rt.write_all(out.as_bytes())?;
+    }
+    Ok(())
+}
+
+// Runs a case, and puts its result. A line without a bar is a heading.
+fn run(alloc: Global, case: &[u8], out: &mut Line<'_>) -> Result<(), AllocError> {
+    let Some(bar) = test_words::place(case, b'|') else {
+        out.bytes(case);
+        return Ok(());
+    };
+    let number = test_numbers::number(&case[..bar]);
+    call(alloc, case[0], number, &case[bar + 1..], out)
+}
+
+fn call(
+    alloc: Global,
+    name: u8,
+    number: usize,
+    text: &[u8],
+    out: &mut Line<'_>,
+) -> Result<(), AllocError> {
+    match name {
+        b'r' => call_read(alloc, None, number, text, out),
+        b'w' => call_write(alloc, None, number, text, out),
+        b'l' => call_line(alloc, number, text, out),
+        b'b' => call_both(alloc, None, number, text, out),
+        b'R' | b'W' | b'B' => call_with_table(alloc, name, number, text, out),
+        _ => {
+            out.byte(b'?');
+            Ok(())
         }
     }
-    Ok(())
-}
-
-// Runs the next case, and returns false where there is none.
-fn run_next<R: Read>(input: &mut R, rt: &impl Print) -> io::Result<bool> {
-    let mut line = [0u8; 4096];
-    let n = test_lines::line(input, &mut line)?;
-    if n == 0 {
-        return Ok(false);
-    }
-    let mut out = [0u8; ROOM];
-    let end = run(&line[0..n], &mut out);
-    let after = text_buffer::put_byte(&mut out, end, b'\n');
-    print(rt, &out, after)?;
-    Ok(true)
-}
-
-// Prints the first n bytes.
-fn print(rt: &impl Print, s: &[u8], n: usize) -> io::Result<()> {
-    if n <= s.len() {
-        rt.write_all(&s[0..n])?;
-    }
-    Ok(())
-}
-
-// Runs a case, puts its result at the start of out, and returns its length. A line without a bar is a heading.
-fn run(case: &[u8], out: &mut [u8]) -> usize {
-    let bar = test_words::place(case, b'|');
-    if bar == case.len() {
-        return text_buffer::put(out, 0, case);
-    }
-    let number = test_numbers::number(&case[0..bar]);
-    call(case[0], number, &case[bar + 1..], out)
-}
-
-fn call(name: u8, number: usize, text: &[u8], out: &mut [u8]) -> usize {
-    match name {
-        b'r' => call_read(number, text, out),
-        b'w' => call_write(number, text, out),
-        b'l' => call_line(number, text, out),
-        b'b' => call_both(number, text, out),
-        b'R' | b'W' | b'B' => call_with_table(name, number, text, out),
-        _ => text_buffer::put_byte(out, 0, b'?'),
-    }
-}
-
-fn least(a: usize, b: usize) -> usize
-    ensures { result ≤ b }
-{
-    if a < b { a } else { b }
-}
-
-// How many words that many lines have. More lines than a sheet can have count as a thousand.
-fn words_of(lines: usize) -> usize {
-    if lines < 1000 {
-        lines * LINE_WORDS
-    } else {
-        7000
-    }
-}
-
-fn call_read(room: usize, text: &[u8], out: &mut [u8]) -> usize {
-    let mut given = [0u8; 8704];
-    let n = test_bytes::bytes(text, &mut given);
-    let mut lent = [77777777i32; WORDS];
-    let k = least(room, WORDS);
-    read(&given[0..n], &mut lent[0..k], out)
-}
-
-fn read(given: &[u8], lent: &mut [i32], out: &mut [u8]) -> usize {
-    let answer = sheet::read(given, lent);
-    put_read(out, answer, lent)
-}
-
-// Puts what was read into the lent words.
-fn put_read(out: &mut [u8], answer: Result<usize, Refusal>, lent: &[i32]) -> usize {
-    let done = least(words_of(result::count(answer)), lent.len());
-    let end = result::put_answer(out, 0, answer, result::are_words(lent, done, 77777777));
-    let bar = text_buffer::put_byte(out, end, b'|');
-    test_results::put_words(out, bar, &lent[0..done], LINE_WORDS)
-}
-
-fn call_write(room: usize, text: &[u8], out: &mut [u8]) -> usize {
-    let mut given = [0i32; WORDS];
-    let n = test_words::words(text, LINE_WORDS, &mut given);
-    let mut lent = [35u8; BYTES];
-    let k = least(room, BYTES);
-    write(&given[0..n], &mut lent[0..k], out, 0)
-}
-
-// Writes, and puts what was written at a place.
-fn write(given: &[i32], lent: &mut [u8], out: &mut [u8], at: usize) -> usize {
-    let answer = sheet::write(given, lent);
-    put_written(out, at, answer, lent)
-}
-
-// Puts what was written into the lent bytes at a place.
-fn put_written(out: &mut [u8], at: usize, answer: Result<usize, Refusal>, lent: &[u8]) -> usize {
-    let done = least(result::count(answer), lent.len());
-    let end = result::put_answer(out, at, answer, result::are_bytes(lent, done, 35));
-    let bar = text_buffer::put_byte(out, end, b'|');
-    result::put_bytes(out, bar, &lent[0..done])
-}
-
-fn call_line(number: usize, text: &[u8], out: &mut [u8]) -> usize {
-    let mut given = [0u8; 8704];
-    let n = test_bytes::bytes(text, &mut given);
-    line(&given[0..n], number, out)
-}
-
-fn line(given: &[u8], number: usize, out: &mut [u8]) -> usize {
-    let back = sheet::line(given, number);
-    let bar = test_results::put_number(out, 0, back.len(), b'|');
-    result::put_bytes(out, bar, back)
-}
-
-fn call_both(room: usize, text: &[u8], out: &mut [u8]) -> usize {
-    let mut given = [0u8; 8704];
-    let n = test_bytes::bytes(text, &mut given);
-    let mut words = [77777777i32; WORDS];
-    let answer = sheet::read(&given[0..n], &mut words);
-    let end = put_read(out, answer, &words);
-    let m = least(words_of(result::count(answer)), WORDS);
-    let mut lent = [35u8; BYTES];
-    let k = least(room, BYTES);
-    write(&words[0..m], &mut lent[0..k], out, end)
 }
 
 // Calls by the table that follows a bar.
-fn call_with_table(name: u8, number: usize, text: &[u8], out: &mut [u8]) -> usize {
-    let bar = test_words::place(text, b'|');
-    if bar == text.len() {
-        return text_buffer::put_byte(out, 0, b'?');
-    }
-    let mut table = [0u8; TABLE];
-    let n = test_bytes::bytes(&text[bar + 1..], &mut table);
-    call_by_table(name, number, &text[0..bar], &table[0..n], out)
-}
-
-fn call_by_table(name: u8, number: usize, text: &[u8], table: &[u8], out: &mut [u8]) -> usize {
+fn call_with_table(
+    alloc: Global,
+    name: u8,
+    number: usize,
+    text: &[u8],
+    out: &mut Line<'_>,
+) -> Result<(), AllocError> {
+    let Some(bar) = test_words::place(text, b'|') else {
+        out.byte(b'?');
+        return Ok(());
+    };
+    let held = test_bytes::to_bytes(alloc, &text[bar + 1..], TABLE)?;
+    let table = Some(held.as_slice());
+    let text = &text[..bar];
     match name {
-        b'R' => call_read_by_table(number, text, table, out),
-        b'W' => call_write_by_table(number, text, table, out),
-        _ => call_both_by_table(number, text, table, out),
+        b'R' => call_read(alloc, table, number, text, out),
+        b'W' => call_write(alloc, table, number, text, out),
+        _ => call_both(alloc, table, number, text, out),
     }
 }
 
-fn call_read_by_table(room: usize, text: &[u8], table: &[u8], out: &mut [u8]) -> usize {
-    let mut given = [0u8; 8704];
-    let n = test_bytes::bytes(text, &mut given);
-    let mut lent = [77777777i32; WORDS];
-    let k = least(room, WORDS);
-    read_by_table(table, &given[0..n], &mut lent[0..k], out)
+// Reads, by the table where there is one.
+fn read(table: Option<&[u8]>, sheet: &[u8], lent: &mut [i32]) -> Result<usize, Refusal> {
+    match table {
+        Some(table) => sheet::read_by_table(table, sheet, lent),
+        None => sheet::read(sheet, lent),
+    }
 }
 
-fn read_by_table(table: &[u8], given: &[u8], lent: &mut [i32], out: &mut [u8]) -> usize {
-    let answer = sheet::read_by_table(table, given, lent);
-    put_read(out, answer, lent)
+// Writes, by the table where there is one.
+fn write(table: Option<&[u8]>, words: &[i32], lent: &mut [u8]) -> Result<usize, Refusal> {
+    match table {
+        Some(table) => sheet::write_by_table(table, words, lent),
+        None => sheet::write(words, lent),
+    }
 }
 
-fn call_write_by_table(room: usize, text: &[u8], table: &[u8], out: &mut [u8]) -> usize {
-    let mut given = [0i32; WORDS];
-    let n = test_words::words(text, LINE_WORDS, &mut given);
-    let mut lent = [35u8; BYTES];
-    let k = least(room, BYTES);
-    write_by_table(table, &given[0..n], &mut lent[0..k], out, 0)
+fn call_read(
+    alloc: Global,
+    table: Option<&[u8]>,
+    room: usize,
+    text: &[u8],
+    out: &mut Line<'_>,
+) -> Result<(), AllocError> {
+    let given = test_bytes::to_bytes(alloc, text, SHEET)?;
+    let mut lent = vec![in alloc; WORD; room.min(WORDS)]?;
+    let answer = read(table, given.as_slice(), lent.as_mut_slice());
+    put_read(out, answer, lent.as_slice());
+    Ok(())
 }
 
-// Writes, and puts what was written at a place.
-fn write_by_table(
-    table: &[u8],
-    given: &[i32],
-    lent: &mut [u8],
-    out: &mut [u8],
-    at: usize,
-) -> usize {
-    let answer = sheet::write_by_table(table, given, lent);
-    put_written(out, at, answer, lent)
+fn call_write(
+    alloc: Global,
+    table: Option<&[u8]>,
+    room: usize,
+    text: &[u8],
+    out: &mut Line<'_>,
+) -> Result<(), AllocError> {
+    let given = test_words::to_words(alloc, text, LINE_WORDS, WORDS)?;
+    put_written(alloc, table, given.as_slice(), room, out)
 }
 
-fn call_both_by_table(room: usize, text: &[u8], table: &[u8], out: &mut [u8]) -> usize {
-    let mut given = [0u8; 8704];
-    let n = test_bytes::bytes(text, &mut given);
-    let mut words = [77777777i32; WORDS];
-    let answer = sheet::read_by_table(table, &given[0..n], &mut words);
-    let end = put_read(out, answer, &words);
-    let m = least(words_of(result::count(answer)), WORDS);
-    let mut lent = [35u8; BYTES];
-    let k = least(room, BYTES);
-    write_by_table(table, &words[0..m], &mut lent[0..k], out, end)
+fn call_line(
+    alloc: Global,
+    number: usize,
+    text: &[u8],
+    out: &mut Line<'_>,
+) -> Result<(), AllocError> {
+    let given = test_bytes::to_bytes(alloc, text, SHEET)?;
+    let back = sheet::line(given.as_slice(), number);
+    out.number(back.len(), b'|');
+    result::put_bytes(out, back);
+    Ok(())
+}
+
+fn call_both(
+    alloc: Global,
+    table: Option<&[u8]>,
+    room: usize,
+    text: &[u8],
+    out: &mut Line<'_>,
+) -> Result<(), AllocError> {
+    let given = test_bytes::to_bytes(alloc, text, SHEET)?;
+    let mut words = vec![in alloc; WORD; WORDS]?;
+    let answer = read(table, given.as_slice(), words.as_mut_slice());
+    put_read(out, answer, words.as_slice());
+    let (done, _) = words.split_at(words_of(answer).min(words.len()));
+    put_written(alloc, table, done, room, out)
+}
+
+// How many words the lines have that were read. More lines than a sheet can have count as a thousand.
+fn words_of(answer: Result<usize, Refusal>) -> usize {
+    answer.unwrap_or(0).min(1000) * LINE_WORDS
+}
+
+// Puts what was read into the lent words.
+fn put_read(out: &mut Line<'_>, answer: Result<usize, Refusal>, lent: &[i32]) {
+    let (done, rest) = lent.split_at(words_of(answer).min(lent.len()));
+    result::put_answer(out, answer, rest.iter().all(|w| *w == WORD));
+    out.byte(b'|');
+    out.words(done, LINE_WORDS);
+}
+
+// Writes into so many lent bytes, and puts what was written there.
+fn put_written(
+    alloc: Global,
+    table: Option<&[u8]>,
+    words: &[i32],
+    room: usize,
+    out: &mut Line<'_>,
+) -> Result<(), AllocError> {
+    let mut lent = vec![in alloc; BYTE; room.min(BYTES)]?;
+    let answer = write(table, words, lent.as_mut_slice());
+    let (done, rest) = lent.split_at(answer.unwrap_or(0).min(lent.len()));
+    result::put_answer(out, answer, rest.iter().all(|b| *b == BYTE));
+    out.byte(b'|');
+    result::put_bytes(out, done);
+    Ok(())
 }

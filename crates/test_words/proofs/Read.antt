@@ -11,6 +11,12 @@ use mir.Syntax.{w32}
 use mir.Val.{to_z, of_z}
 use mir.ValLaws.{to_z-of_z, to_z_pos}
 use Rattle.list_laws.proofs.Words.{minus-fits}
+use mathlib.Core.Logic.{⊎_elim}
+use mir.Syntax.{w32}
+use mir.Val.{SFits}
+use Rattle.std.specs.Prelude.{Result, Ok, Err}
+use Rattle.std.specs.Result.{OkIff, result_unwrap_or}
+use Rattle.list_laws.proofs.Order.{less?}
 use Rattle.test_words.specs.Words.{next_place, before_either, word_below_zero, above_of, rounded_by, first_put, Room, Stores, whole_of, word_of, words_put, words_read}
 use Rattle.test_numbers.specs.Numbers.{number_of}
 
@@ -35,6 +41,12 @@ above_large n h = rw (lt-ltb 2147483647 n h)
 pub above-small : (n : ℕ) → n ≤ 2147483647 → pos n ≡ above_of n
 unfolding above_of
 above-small n h = rw (le-ltb 2147483647 n h)
+
+-- a number as a word, where it is one
+pub narrowed : {E : Type 0} (r : Result ℤ E) (n : ℕ) → OkIff r (SFits w32 (pos n)) (pos n) → result_unwrap_or r (pos 0) ≡ above_of n
+narrowed (Ok x) n h = let k = h.0.sfits in h.1 ∙ above-small n (omega arith)
+narrowed (Err e) n h =
+    ⊎_elim (λ lt. absurd (h (record { sfits = lt }))) (λ le. above_large n (omega arith)) (less? n 2147483648)
 
 pub word_none : (s : List ℕ) → length s ≡ 0 → pos 0 ≡ word_of s
 unfolding word_of

@@ -1,16 +1,18 @@
 // Parts and words of a case's text.
 #![tactic(auto)]
 
-ghost use Rattle.std.specs.Prelude.{◌≡◌, ◌≤◌, ◌+◌, min, length, get_or, drop};
+ghost use Rattle.std.specs.Prelude.{◌≡◌, ◌≤◌, ◌<◌, ◌+◌, min, length, get_or, drop, take, replicate, pos, IfOk, MatchOption};
 ghost use Rattle.test_words.specs.Words.{before_either, Stores, word_below_zero, rounded_by, whole_of, word_of, words_read};
 
+use std::alloc::{AllocError, Global};
 use test_numbers::number;
 
-// The place of the first byte b, or the length where there is none.
-pub fn place(s: &[u8], b: u8) -> usize
-    ensures { (result ≤ length s.now) × (result ≡ before_either b b s.now) }
+/// The place of the first byte b.
+pub fn place(s: &[u8], b: u8) -> Option<usize>
+    ensures { MatchOption result (before_either b b s.now ≡ length s.now) (λ n. (n < length s.now) × (n ≡ before_either b b s.now)) }
 {
-    find(s, 0, b, b)
+    let n = find(s, 0, b, b);
+    if n < s.len() { Some(n) } else { None }
 }
 
 // The place of the first byte from `from` on that is a or b, or the length where there is none.
@@ -18,35 +20,24 @@ fn find(s: &[u8], from: usize, a: u8, b: u8) -> usize
     requires { from ≤ length s.now }
     ensures { (from ≤ result) × (result ≤ length s.now) × (result ≡ from + before_either a b (drop from s.now)) }
 {
-    let mut i = from;
-    while i < s.len() {
+    for i in from..s.len() {
         let x = s[i];
-        if x == a {
+        if x == a || x == b {
             return i;
         }
-        if x == b {
-            return i;
-        }
-        i += 1;
     }
-    i
+    s.len()
 }
 
 // The word of the decimal number s, and 0 where it is too large for a word.
 fn word(s: &[u8]) -> i32
     ensures { result ≡ word_of s.now }
 {
-    if s.len() == 0 {
-        return 0;
+    match s {
+        [] => 0,
+        [b'-', ..] => below(number(s)),
+        _ => i32::try_from(number(s)).unwrap_or(0),
     }
-    let n = number(s);
-    if s[0] == 45 {
-        return below(n);
-    }
-    if 2147483647 < n {
-        return 0;
-    }
-    n as i32
 }
 
 // The word n below 0.
@@ -62,19 +53,35 @@ fn below(n: usize) -> i32
     -(n as i32)
 }
 
-// Puts the words of text at the start of out, which holds zeros, and returns how many they are. After "/" the next word goes to a multiple
-// of `unit`.
+/// Puts the words of text at the start of out, which holds zeros, and returns how many they are. After "/" the next word goes to a multiple
+/// of `unit`.
 pub fn words(text: &[u8], unit: usize, out: &mut [i32]) -> usize
     ensures { (result ≤ length out.new) × (out.new ≡ (words_read unit text.now out.old).words) × (result ≡ min (words_read unit text.now out.old).next (length out.old)) }
 {
     let mut n = 0;
     let mut i = 0;
+    // Kept: no plainer; i moves past a word and the byte after it, and words and places of the text do not go side by side.
     while i < text.len() {
         let e = find(text, i, b' ', b'/');
         n = close(text, e, unit, store(out, n, word(&text[i..e])));
         i = e + 1;
     }
-    if n < out.len() { n } else { out.len() }
+    n.min(out.len())
+}
+
+/// The words of text, at most `room`.
+pub fn to_words(
+    alloc: Global,
+    text: &[u8],
+    unit: usize,
+    room: usize,
+) -> Result<Vec<i32>, AllocError>
+    ensures { IfOk result (λ v. v.items ≡ (let r = words_read unit text.now (replicate room (pos 0)) in take r.next r.words)) }
+{
+    let mut out = vec![in alloc; 0i32; room]?;
+    let n = words(text, unit, &mut out);
+    out.truncate(n);
+    Ok(out)
 }
 
 fn store(out: &mut [i32], at: usize, w: i32) -> usize
@@ -116,4 +123,23 @@ fn whole(n: usize, unit: usize) -> usize
         return n;
     }
     n + unit - n % unit
+}
+
+#[cfg(test)]
+mod tests {
+    use super::*;
+    use std::test::Fail;
+
+    #[test]
+    fn words_of_a_text(rt: HostRuntime) -> Result<(), Fail> {
+        assert_eq!(rt;
+            to_words(rt.alloc(), b"7 -8/9", 4, 64)?.as_slice(),
+            [7, -8, 0, 0, 9].as_slice()
+        );
+        assert_eq!(rt;
+            to_words(rt.alloc(), b"1 2 3", 0, 2)?.as_slice(),
+            [1, 2].as_slice()
+        );
+        Ok(())
+    }
 }

@@ -10,21 +10,17 @@ use text_writer::TEXT_ROOM;
 const READ: usize = MOST_SHEET_BYTES + 1;
 
 fn main(rt: HostRuntime) -> io::Result<()> {
-    let mut given = [0u8; READ];
-    let n = program_input::read_up_to(&mut rt.stdin(), &mut given)?;
-    print(&rt, &rt.stderr(), &given[..n])
-}
-
-fn print(rt: &impl Print, errors: &impl Print, given: &[u8]) -> io::Result<()> {
-    let mut text = [0u8; TEXT_ROOM];
-    match text_from_sheet::text_of(given, &mut text) {
+    let alloc = rt.alloc();
+    let mut given = vec![in alloc; 0u8; READ]?;
+    let n = program_input::read_up_to(&mut rt.stdin(), given.as_mut_slice())?;
+    given.truncate(n);
+    let mut text = vec![in alloc; 0u8; TEXT_ROOM]?;
+    match text_from_sheet::text_of(given.as_slice(), text.as_mut_slice()) {
         Ok(n) => {
-            if n <= text.len() {
-                rt.write_all(&text[0..n])?;
-            }
-            Ok(())
+            text.truncate(n);
+            rt.write_all(text.as_slice())
         }
-        Err(refusal) => complain(errors, refusal),
+        Err(refusal) => complain(&rt.stderr(), refusal),
     }
 }
 
@@ -34,9 +30,6 @@ fn complain(errors: &impl Print, refusal: Refusal) -> io::Result<()> {
         refusal,
         text_line: 0,
     };
-    let n = text_message::message(reason, &mut words);
-    if n <= words.len() {
-        errors.write_all(&words[0..n])?;
-    }
-    Ok(())
+    let n = text_message::message(reason, &mut words).min(words.len());
+    errors.write_all(&words[..n])
 }

@@ -1,12 +1,10 @@
--- Whether two bytes stand after the first.
-use native.Mathlib.Omega.{arith}
-use borrow.Author.Rules.{rules}
+-- Whether two bytes stand there.
+use Rattle.std.proofs.Common.{arith}
 use Rattle.test_bytes.proofs.Meant.{escaped_few, escaped_two}
 use Rattle.test_bytes.proofs.escaped.Goals as goal
 
-pub returns-then-text-i-lt3 : goal.returns-then-text-i-lt3
-returns-then-text-i-lt3 c = escaped_few c.args.text.now c.args.i (omega arith)
+pub returns-in_default : goal.returns-in_default
+returns-in_default c = escaped_few c.args.rest.now (omega arith)
 
-pub returns : goal.returns
-returns c = let a = c.args in
-    rw (c.digit.ensures.1, c.digit-2.ensures.1) (escaped_two a.text.now a.i (omega arith))
+pub returns-in-len2-up : goal.returns-in-len2-up
+returns-in-len2-up c = rw (c.digit.ensures.1, c.digit-in-len2-up.ensures.1) (escaped_two c.args.rest.now (omega arith))

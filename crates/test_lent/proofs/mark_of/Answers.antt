@@ -1,6 +1,5 @@
 -- The mark of a place.
 use native.Mathlib.Omega.{arith}
-use borrow.Author.Rules.{rules}
 use Rattle.test_lent.proofs.Places.{mark-own, mark-last}
 use Rattle.test_lent.proofs.mark_of.Goals as goal
 

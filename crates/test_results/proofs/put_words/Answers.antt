@@ -11,7 +11,7 @@ use mir.ValLaws.{to_z-of_z}
 use Rattle.test_results.proofs.put_words.Goals as goal
 
 pub loop-i-init : goal.loop-i-init
-loop-i-init c = (omega arith, said (sym (words-none c.args.unit c.args.s.now)) (nothing c.args.out.now c.args.at))
+loop-i-init c = said (sym (words-none c.args.unit c.args.s.now)) (nothing c.args.out.now c.args.at)
 
 pub loop-i-preserved : goal.loop-i-preserved
 loop-i-preserved c = let l = c.loop-i in
@@ -20,4 +20,4 @@ loop-i-preserved c = let l = c.loop-i in
     let w = c.put_word-n.ensures in
     let v = rw (to_z-of_z w32 (get_or a.s.now l.i (pos 0)) (record { sfits = c.put_word-arg-in-loop-i-1.given })) at w in
     let b = rw e at c.put_byte-n.ensures in
-    (omega arith, said (sym (words_more a.unit l.i a.s.now (omega arith))) (followed l.invariant.1 (followed v b)))
+    said (sym (words_more a.unit l.i a.s.now (omega arith))) (followed l.invariant (followed v b))

@@ -1,8 +1,5 @@
 -- The least word, one that is too large, and any other.
-use Prim.Native.Nat.{◌<◌}
 use native.Mathlib.Omega.{arith}
-use borrow.Author.Rules.{rules}
-use Rattle.list_laws.proofs.Words.{minus-fits}
 use Rattle.test_words.proofs.Read.{below-least, below_large, below-small}
 use Rattle.test_words.proofs.below.Goals as goal
 

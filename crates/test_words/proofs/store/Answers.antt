@@ -1,6 +1,5 @@
 -- A place within the words, or beyond them.
 use native.Mathlib.Omega.{arith}
-use borrow.Author.Rules.{rules}
 use mir.Syntax.{w32}
 use mir.ValLaws.{to_z-of_z}
 use Rattle.test_words.proofs.Read.{stores_within, stores_beyond}

@@ -1,7 +1,5 @@
 -- No multiple is looked for, n is one, or the next is. What is over is below the unit.
 use native.Mathlib.Omega.{arith}
-use borrow.Author.Rules.{rules}
-use native.Mathlib.Nat.{mod-lt}
 use Rattle.test_words.proofs.Read.{whole_no_unit, whole_large_unit, whole_large, whole_already, whole-next}
 use Rattle.test_words.proofs.whole.Goals as goal
 
