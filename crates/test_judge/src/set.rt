@@ -27,12 +27,7 @@ pub(crate) fn run(given: &Given<'_>, lent: &mut [i32], out: &mut Line<'_>) {
             put_set(out, table, given.bytes, ends, lent, &s);
         }
         Law::Club(table) => {
-            let s = SetOutcome::from(judge_set::judge_set_by_table(
-                table,
-                given.bytes,
-                ends,
-                lent,
-            ));
+            let s = SetOutcome::from(judge_set::judge_set_by_table(table, given.bytes, ends, lent));
             put_set(out, table, given.bytes, ends, lent, &s);
         }
     }
