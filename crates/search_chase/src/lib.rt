@@ -176,9 +176,7 @@ fn judge_state(
     let asked = search_task::asks(goal);
     let from = search_task::start(p, goal);
     let mut a = search_advice::advise(board, p, ws, asked, from, sl);
-    let mut left = LESSONS;
-    while 0 < left {
-        left -= 1;
+    for _ in 0..LESSONS {
         let Advice::RowFails { row, .. } = a else {
             return search_node::judge_by(p, ws, goal, a, set, board, node, out);
         };

@@ -10,7 +10,7 @@ use Rattle.search_chase.proofs.judge_state.Goals as goal
 
 pub returns-then-learn_ahead-clause-judged_state : goal.returns-then-learn_ahead-clause-judged_state
 returns-then-learn_ahead-clause-judged_state c = let a = c.args in
-    let l = c.loop-left in
+    let l = c.loop in
     let e = c.learn_ahead in λ x r w m whole.
     let g = l.invariant.5 x r w m in
     judged-refuted a.p.now x (sheet_by a.goal x) a.ws.now l.ws e.new.ws e.new.set c.refute.new.node l.out e.new.sl e.new.sm e.result c.if-learn_ahead.true g.0
