@@ -14,7 +14,7 @@ use Rattle.judge.proofs.judge_numbers.Goals as goal
 
 pub overflow_mul-ws : goal.overflow_mul-ws
 overflow_mul-ws c = let a = c.args in
-    let rd = c.read-lines in
+    let rd = c.read in
     let m = c.in_ok-lines.lines in
     let done = sym c.in_ok-lines.ensures.0 in
     let f = few-lines (table_in a.table.now) a.sheet.now m done in
@@ -23,7 +23,7 @@ overflow_mul-ws c = let a = c.args in
 
 pub slice_bounds-ws-end : goal.slice_bounds-ws-end
 slice_bounds-ws-end c = let a = c.args in
-    let rd = c.read-lines in
+    let rd = c.read in
     let m = c.in_ok-lines.lines in
     let done = sym c.in_ok-lines.ensures.0 in
     let f = few-lines (table_in a.table.now) a.sheet.now m done in
@@ -32,7 +32,7 @@ slice_bounds-ws-end c = let a = c.args in
 
 pub slice_bounds-judge_words-end : goal.slice_bounds-judge_words-end
 slice_bounds-judge_words-end c = let a = c.args in
-    let rd = c.read-lines in
+    let rd = c.read in
     let m = c.in_ok-lines.lines in
     let done = sym c.in_ok-lines.ensures.0 in
     let f = few-lines (table_in a.table.now) a.sheet.now m done in
@@ -41,7 +41,7 @@ slice_bounds-judge_words-end c = let a = c.args in
 
 pub judge_words-requires : goal.judge_words-requires
 judge_words-requires c = let a = c.args in
-    let rd = c.read-lines in
+    let rd = c.read in
     let m = c.in_ok-lines.lines in
     let done = sym c.in_ok-lines.ensures.0 in
     let f = few-lines (table_in a.table.now) a.sheet.now m done in
@@ -50,7 +50,7 @@ judge_words-requires c = let a = c.args in
 
 pub returns : goal.returns
 returns c = let a = c.args in
-    let rd = c.read-lines in
+    let rd = c.read in
     let m = c.in_ok-lines.lines in
     let done = sym c.in_ok-lines.ensures.0 in
     let f = few-lines (table_in a.table.now) a.sheet.now m done in
