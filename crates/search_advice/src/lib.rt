@@ -22,7 +22,7 @@ const LATE: usize = 99;
 const PROBE_BUDGET: u32 = 10000;
 
 /// What is to be as it was when a step is undone: the facts that count and those folded, and how many rows are kept.
-#[derive(Clone, Copy, Debug)]
+#[derive(Clone, Copy, Debug, Default)]
 pub struct Standing {
     alive: FactSet,
     folded: FactSet,
@@ -407,13 +407,11 @@ pub fn failed(board: &mut Board) {
     board.failures = board.failures.saturating_add(1);
 }
 
-/// How the board stands after an advice.
-pub fn standing_of(board: &Board) -> Standing {
-    Standing {
-        alive: board.alive,
-        folded: board.folded,
-        kept: board.kept.len(),
-    }
+/// Notes how the board stands after an advice. It is noted where it is wanted, since a search has one for each of its steps.
+pub fn note_standing(board: &Board, stand: &mut Standing) {
+    stand.alive = board.alive;
+    stand.folded = board.folded;
+    stand.kept = board.kept.len();
 }
 
 /// Lets the board stand as it did, once the words are as they were.

@@ -5,10 +5,11 @@
 #![tactic(auto)]
 
 mod advice;
+mod kept;
 mod sets;
 
 pub use advice::{Advice, Kept, Places, Scope, list_block};
-use arrayvec::ArrayVec;
+pub use kept::{KeptRows, MOST_KEPT};
 use query_layout::{COLUMNS, MADE_UP, NAMES};
 use search_slots::SET_WORDS;
 pub use sets::{FACT_END, FACT_WORDS, FactSet, Facts, Members, NameSet, RowSet, SmallSet};
@@ -26,9 +27,6 @@ pub type Row = [u32; COLUMNS];
 
 /// One past the last relation.
 pub const RELATIONS: usize = MOST_RELATIONS + 1;
-
-/// The most rows that are kept.
-pub const MOST_KEPT: usize = 512;
 
 /// The places where a kept row may be found again by its values.
 pub const HASHES: usize = 512;
@@ -146,7 +144,7 @@ pub struct Board {
     of_relation: [FactSet; RELATIONS],
     by_value: [Sharing; COLUMNS],
     /// Rows of views that are kept, and whether one was lost for want of room; where they may be found by their values.
-    pub kept: ArrayVec<Kept, MOST_KEPT>,
+    pub kept: KeptRows,
     pub over: bool,
     pub places: [u16; HASHES],
     /// How many listed rows each kept row fits, if something is to be done there, and the most that one fits.
@@ -295,7 +293,7 @@ impl Board {
             by_value: [Sharing {
                 facts: [FactSet::new(); SHARES],
             }; COLUMNS],
-            kept: ArrayVec::new(),
+            kept: KeptRows::new(),
             over: false,
             places: [0; HASHES],
             counts: [None; MOST_KEPT],
@@ -508,10 +506,7 @@ impl Board {
 
     /// Kept row k.
     pub fn kept_at(&self, k: usize) -> Kept {
-        match self.kept.as_slice().get(k) {
-            Some(kept) => *kept,
-            None => Kept::default(),
-        }
+        self.kept.get(k).unwrap_or_default()
     }
 
     /// How many listed rows kept row k fits, if something is to be done there.

@@ -212,7 +212,8 @@ fn seek(
     if left == 0 {
         return false;
     }
-    let stand = search_advice::standing_of(board);
+    let mut stand = Standing::default();
+    search_advice::note_standing(board, &mut stand);
     let mut below = search_slots::none();
     let mut child = [0; NODE_NUMBERS];
     let mut i = 0;

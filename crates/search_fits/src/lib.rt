@@ -2,6 +2,8 @@
 //! row is looked at column by column, and not listed row by listed row.
 #![tactic(auto)]
 
+ghost use Rattle.std.specs.Prelude.{◌<◌};
+
 use query_layout::COLUMNS;
 use search_board::{
     Board, COLUMN_PAIRS, FIRST_MADE_UP, FIRSTS, KEYS, ListedRows, Plan, Row, RowSet, Struck,
@@ -32,7 +34,9 @@ fn key_of(v: usize, c: usize, x: u32) -> u32 {
 }
 
 // Where the value of this number stands, or is to stand.
-fn place_of(listed: &ListedRows, key: u32) -> usize {
+fn place_of(listed: &ListedRows, key: u32) -> usize
+    ensures { result < KEYS }
+{
     let start = key as usize % KEYS;
     for k in 0..KEYS {
         let h = (start + k) % KEYS;
@@ -48,7 +52,7 @@ fn with_value(listed: &ListedRows, v: usize, c: usize, x: u32) -> RowSet {
     if x == 0 {
         return listed.views[v % MOST_VIEWS].with_zero[c % COLUMNS];
     }
-    listed.with_value[place_of(listed, key_of(v, c, x)) % KEYS]
+    listed.with_value[place_of(listed, key_of(v, c, x))]
 }
 
 // Notes that listed row i of view v has the value x in column c.
@@ -58,7 +62,7 @@ fn note_value(listed: &mut ListedRows, v: usize, c: usize, x: u32, i: u8) {
         return;
     }
     let key = key_of(v, c, x);
-    let h = place_of(listed, key) % KEYS;
+    let h = place_of(listed, key);
     listed.keys[h] = key;
     listed.with_value[h].insert(i);
 }
