@@ -10,6 +10,8 @@
 //     7, relation, a value for each column of it              a fact of the case, a line for each
 #![tactic(auto)]
 
+ghost use Rattle.std.specs.Prelude.{◌≤◌};
+
 use judge_result::{COVERED, LEAST_ROOM, NO_LOG, NOT_COVERED, REFUSED, Verdict};
 use query_meaning::FACT_WORDS;
 use sheet_format::{FIELD_BYTES, FIELD_END, MOST_SHEET_BYTES, TABLE_NUMBERS};
@@ -28,14 +30,11 @@ const MISSING: usize = 6;
 const FACT: usize = 7;
 
 fn main(rt: HostRuntime) -> io::Result<()> {
-    let alloc = rt.alloc();
-    let mut table = vec![in alloc; 0u8; TABLE_READ]?;
-    let n = sheet_table_file::table(&rt, &rt.stderr(), 1, table.as_mut_slice());
-    table.truncate(n);
-    let mut sheet = vec![in alloc; 0u8; READ]?;
-    let n = program_input::read_up_to(&mut rt.reader(), sheet.as_mut_slice())?;
-    sheet.truncate(n);
-    cover(&rt, table.as_slice(), sheet.as_slice())
+    let mut table = [0u8; TABLE_READ];
+    let known = sheet_table_file::table(&rt, &rt.stderr(), 1, &mut table);
+    let mut sheet = [0u8; READ];
+    let read = program_input::read_up_to(&mut rt.reader(), &mut sheet)?;
+    cover(&rt, &table[..known], &sheet[..read])
 }
 
 // Judges a sheet by a table, and prints what comes out.
@@ -60,7 +59,9 @@ fn cover(rt: &impl Print, table: &[u8], sheet: &[u8]) -> io::Result<()> {
 }
 
 // The columns of the question's head, which is the sheet's first line.
-fn columns(sheet: &[u8]) -> usize {
+fn columns(sheet: &[u8]) -> usize
+    ensures { result ≤ 4 }
+{
     let fields = sheet::line(sheet, 1).len() / FIELD_BYTES;
     fields.saturating_sub(1).min(MOST_COLUMNS)
 }

@@ -13,15 +13,11 @@ use text_writer::TEXT_ROOM;
 const READ: usize = MOST_TEXT + 1;
 
 fn main(rt: HostRuntime) -> io::Result<()> {
-    let alloc = rt.alloc();
-    let mut table = vec![in alloc; 0u8; TABLE_READ]?;
-    let n = sheet_table_file::table(&rt, &rt.stderr(), 1, table.as_mut_slice());
-    table.truncate(n);
-    let mut given = vec![in alloc; 0u8; READ]?;
-    let n = program_input::read_up_to(&mut rt.reader(), given.as_mut_slice())?;
-    given.truncate(n);
-    let mut words = vec![in alloc; 0u8; TEXT_ROOM]?;
-    let n = text_answer::answer_by_table(table.as_slice(), given.as_slice(), words.as_mut_slice());
-    words.truncate(n);
-    rt.write_all(words.as_slice())
+    let mut table = [0u8; TABLE_READ];
+    let known = sheet_table_file::table(&rt, &rt.stderr(), 1, &mut table);
+    let mut given = [0u8; READ];
+    let read = program_input::read_up_to(&mut rt.reader(), &mut given)?;
+    let mut words = [0u8; TEXT_ROOM];
+    let said = text_answer::answer_by_table(&table[..known], &given[..read], &mut words);
+    rt.write_all(&words[..said.min(TEXT_ROOM)])
 }

@@ -14,7 +14,6 @@ use judge_result::{LEAST_ROOM, REFUSED};
 use program_input::NAME_ROOM;
 use sheet_format::{FIELD_END, MOST_BYTES, MOST_SHEET_BYTES};
 use sheet_table_file::TABLE_READ;
-use std::alloc::{AllocError, Global};
 use std::env::Env;
 use std::io;
 use std::rt::Files;
@@ -31,15 +30,39 @@ const KEPT: usize = MOST_SHEET_BYTES + 1;
 // So many files: one more than a set may have, so that more are refused.
 const FILES: usize = MOST_SHEETS + 1;
 
+// The bytes that are kept of all of them.
+const ROOM: usize = FILES * KEPT;
+
 // The number of an argument that no program has.
 const NO_ARGUMENT: usize = usize::MAX;
 
 fn main(rt: HostRuntime) -> io::Result<()> {
     let first = first_file(&rt);
-    let mut table = vec![in rt.alloc(); 0u8; TABLE_READ]?;
-    let n = sheet_table_file::table(&rt, &rt.stderr(), table_at(first), table.as_mut_slice());
-    table.truncate(n);
-    run(&rt, &rt.stderr(), table.as_slice(), first)
+    let mut table = [0u8; TABLE_READ];
+    let n = sheet_table_file::table(&rt, &rt.stderr(), table_at(first), &mut table);
+    run(&rt, &rt.stderr(), &table[..n], first)
+}
+
+// The bytes of files, one file's after the other's, and how many they are.
+#[derive(Drop)]
+struct Bytes {
+    room: [u8; ROOM],
+    length: usize,
+}
+
+impl Bytes {
+    // Puts as many bytes as are kept of a file after the others, if there is room for one more.
+    fn put_front(&mut self, s: &[u8]) {
+        let n = s.len().min(KEPT);
+        if self.length <= ROOM - KEPT {
+            self.room[self.length..self.length + n].copy_from_slice(&s[..n]);
+            self.length += n;
+        }
+    }
+
+    fn as_slice(&self) -> &[u8] {
+        &self.room[..self.length.min(ROOM)]
+    }
 }
 
 // Whether the first argument says that a table follows.
@@ -59,77 +82,63 @@ fn table_at(first: usize) -> usize {
 }
 
 // Judges the files from an argument on by a table, and prints the page.
-fn run<R: Env + Files + Print + AllocGlobal>(
+fn run<R: Env + Files + Print>(
     rt: &R,
     errors: &impl Print,
     table: &[u8],
     first: usize,
 ) -> io::Result<()> {
-    let mut bytes = Vec::new(rt.alloc());
-    let mut ends = Vec::new(rt.alloc());
-    for number in first..first.saturating_add(FILES) {
+    let mut bytes = Bytes {
+        room: [0; ROOM],
+        length: 0,
+    };
+    let mut ends = [0usize; FILES];
+    let mut count = 0;
+    for (end, number) in ends.iter_mut().zip(first..first.saturating_add(FILES)) {
         if !program_input::has_argument(rt, number) {
             break;
         }
-        put_file(rt, errors, table, &mut bytes, number)?;
-        ends.push(bytes.len())?;
+        put_file(rt, errors, table, &mut bytes, number);
+        *end = bytes.length;
+        count += 1;
     }
-    print(rt, table, bytes.as_slice(), ends.as_slice())
+    print(rt, table, bytes.as_slice(), &ends[..count])
 }
 
 // Puts the bytes of the file that an argument names after the others.
-fn put_file<R: Env + Files + AllocGlobal>(
+fn put_file<R: Env + Files>(
     rt: &R,
     errors: &impl Print,
     table: &[u8],
-    bytes: &mut Vec<u8>,
+    bytes: &mut Bytes,
     number: usize,
-) -> Result<(), AllocError> {
+) {
     let mut name = [0u8; NAME_ROOM];
-    let mut given = vec![in rt.alloc(); 0u8; READ]?;
-    let Some(file) = program_input::read_named(rt, errors, number, &mut name, given.as_mut_slice())
-    else {
-        return Ok(());
-    };
-    given.truncate(file.bytes);
-    put_given(
-        rt.alloc(),
-        errors,
-        table,
-        bytes,
-        given.as_slice(),
-        &name[..file.name],
-    )
+    let mut given = [0u8; READ];
+    if let Some(file) = program_input::read_named(rt, errors, number, &mut name, &mut given) {
+        put_given(
+            errors,
+            table,
+            bytes,
+            &given[..file.bytes],
+            &name[..file.name],
+        );
+    }
 }
 
 // Puts a sheet as it is, and the sheet of a text; a text that has none as it is.
-fn put_given(
-    alloc: Global,
-    errors: &impl Print,
-    table: &[u8],
-    bytes: &mut Vec<u8>,
-    given: &[u8],
-    name: &[u8],
-) -> Result<(), AllocError> {
+fn put_given(errors: &impl Print, table: &[u8], bytes: &mut Bytes, given: &[u8], name: &[u8]) {
     if !text_begins::is_text(given) {
-        return put_front(bytes, given);
+        return bytes.put_front(given);
     }
-    let mut sheet = vec![in alloc; 0u8; MOST_BYTES]?;
-    match text_to_sheet::sheet_of_by_table(table, given, sheet.as_mut_slice()) {
-        Ok(n) => {
-            sheet.truncate(n);
-            put_front(bytes, sheet.as_slice())
-        }
+    let mut sheet = [0u8; MOST_BYTES];
+    match text_to_sheet::sheet_of_by_table(table, given, &mut sheet) {
+        Ok(n) => bytes.put_front(&sheet[..n.min(MOST_BYTES)]),
         Err(reason) => {
             complain(errors, name, reason);
-            put_front(bytes, given)
+            bytes.put_front(given);
         }
     }
-}
-
-// Puts as many bytes as are kept of a file.
-fn put_front(bytes: &mut Vec<u8>, s: &[u8]) -> Result<(), AllocError> {
-    bytes.extend_from_slice(&s[..s.len().min(KEPT)])
 }
 
 // Says by the file's name why its text has no sheet, as far as it can be said.
@@ -142,15 +151,10 @@ fn complain(errors: &impl Print, name: &[u8], reason: NotMade) {
 }
 
 // Judges the set, and prints its page.
-fn print(
-    rt: &(impl Print + AllocGlobal),
-    table: &[u8],
-    bytes: &[u8],
-    ends: &[usize],
-) -> io::Result<()> {
-    let mut facts = vec![in rt.alloc(); 0i32; MOST_SHEETS * LEAST_ROOM]?;
+fn print(rt: &impl Print, table: &[u8], bytes: &[u8], ends: &[usize]) -> io::Result<()> {
+    let mut facts = [0i32; MOST_SHEETS * LEAST_ROOM];
     let mut page = [0u8; PAGE_ROOM];
-    match judge_day::judge_day_by_table(table, bytes, ends, facts.as_mut_slice(), &mut page) {
+    match judge_day::judge_day_by_table(table, bytes, ends, &mut facts, &mut page) {
         Ok(day) => rt.write_all(&page[..day.bytes.min(PAGE_ROOM)]),
         Err(cause) => {
             for n in [REFUSED, cause.number(), 0] {

@@ -11,16 +11,11 @@ use text_writer::TEXT_ROOM;
 const READ: usize = MOST_TEXT + 1;
 
 fn main(rt: HostRuntime) -> io::Result<()> {
-    let alloc = rt.alloc();
-    let mut given = vec![in alloc; 0u8; READ]?;
-    let n = program_input::read_up_to(&mut rt.stdin(), given.as_mut_slice())?;
-    given.truncate(n);
-    let mut sheet = vec![in alloc; 0u8; MOST_BYTES]?;
-    match text_to_sheet::sheet_of(given.as_slice(), sheet.as_mut_slice()) {
-        Ok(n) => {
-            sheet.truncate(n);
-            rt.write_all(sheet.as_slice())
-        }
+    let mut given = [0u8; READ];
+    let read = program_input::read_up_to(&mut rt.stdin(), &mut given)?;
+    let mut sheet = [0u8; MOST_BYTES];
+    match text_to_sheet::sheet_of(&given[..read], &mut sheet) {
+        Ok(n) => rt.write_all(&sheet[..n.min(MOST_BYTES)]),
         Err(reason) => complain(&rt.stderr(), reason),
     }
 }

@@ -10,16 +10,11 @@ use text_writer::TEXT_ROOM;
 const READ: usize = MOST_SHEET_BYTES + 1;
 
 fn main(rt: HostRuntime) -> io::Result<()> {
-    let alloc = rt.alloc();
-    let mut given = vec![in alloc; 0u8; READ]?;
-    let n = program_input::read_up_to(&mut rt.stdin(), given.as_mut_slice())?;
-    given.truncate(n);
-    let mut text = vec![in alloc; 0u8; TEXT_ROOM]?;
-    match text_from_sheet::text_of(given.as_slice(), text.as_mut_slice()) {
-        Ok(n) => {
-            text.truncate(n);
-            rt.write_all(text.as_slice())
-        }
+    let mut given = [0u8; READ];
+    let read = program_input::read_up_to(&mut rt.stdin(), &mut given)?;
+    let mut text = [0u8; TEXT_ROOM];
+    match text_from_sheet::text_of(&given[..read], &mut text) {
+        Ok(n) => rt.write_all(&text[..n.min(TEXT_ROOM)]),
         Err(refusal) => complain(&rt.stderr(), refusal),
     }
 }
