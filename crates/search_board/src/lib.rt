@@ -218,8 +218,8 @@ pub fn moved_row(u: &Row, to: &Row, row: &Row) -> Row {
     new
 }
 
-// The values that atom i of the tableau has.
-fn atom_row(p: &Plan, ws: &Words, i: usize) -> Row {
+/// The values that atom i of the tableau has.
+pub fn atom_row(p: &Plan, ws: &Words, i: usize) -> Row {
     let terms = tableau_parts::tableau_terms(p, i);
     let mut row = [0; COLUMNS];
     for (v, t) in row.iter_mut().zip(&terms) {
