@@ -1,11 +1,9 @@
 // Bytes of a case's text.
 #![tactic(auto)]
 
-ghost use Rattle.std.specs.Prelude.{◌≡◌, ◌≤◌, ◌<◌, ◌+◌, length, take, replicate, IfOk};
+ghost use Rattle.std.specs.Prelude.{◌≡◌, ◌≤◌, ◌<◌, ◌+◌, length, take, replicate};
 ghost use Rattle.text_buffer.specs.Puts.{Put};
 ghost use Rattle.test_bytes.specs.Bytes.{digit_value, escaped_by, extent, meant_by, stands_for, times_of};
-
-use std::alloc::{AllocError, Global};
 
 /// Puts the bytes that text stands for at the start of out, and returns how many they are.
 pub fn bytes(text: &[u8], out: &mut [u8]) -> usize
@@ -23,14 +21,12 @@ pub fn bytes(text: &[u8], out: &mut [u8]) -> usize
     n
 }
 
-/// The bytes that text stands for, at most `room`.
-pub fn to_bytes(alloc: Global, text: &[u8], room: usize) -> Result<Vec<u8>, AllocError>
-    ensures { IfOk result (λ v. v.items ≡ take room (stands_for 0 text.now)) }
+/// The bytes that text stands for, as many as there is room for: they are put there.
+pub fn to_bytes<'a>(text: &[u8], room: &'a mut [u8]) -> &'a [u8]
+    ensures { result.now ≡ take (length room.old) (stands_for 0 text.now) }
 {
-    let mut out = vec![in alloc; 0u8; room]?;
-    let n = bytes(text, &mut out);
-    out.truncate(n);
-    Ok(out)
+    let n = bytes(text, room);
+    &room[..n]
 }
 
 // Puts b into out so many times.
@@ -103,13 +99,10 @@ mod tests {
     #[test]
     fn bytes_of_a_text(rt: HostRuntime) -> Result<(), Fail> {
         assert_eq!(rt;
-            to_bytes(rt.alloc(), b"a/\\7c;", 64)?.as_slice(),
+            to_bytes(b"a/\\7c;", &mut [0u8; 64]),
             b"a\n|      ".as_slice()
         );
-        assert_eq!(rt;
-            to_bytes(rt.alloc(), b"ab,", 4)?.as_slice(),
-            b"ab  ".as_slice()
-        );
+        assert_eq!(rt; to_bytes(b"ab,", &mut [0u8; 4]), b"ab  ".as_slice());
         Ok(())
     }
 }

@@ -3,6 +3,8 @@
 // A sheet's lines are those of its number form, of the longest sheet: the field count, the kind and the fields after it, and lines of zeros after the last.
 #![tactic(auto)]
 
+ghost use Rattle.std.specs.Prelude.{◌≤◌, length};
+
 use judge_result::LEAST_ROOM;
 use sheet_format::{CONSTANT_END, LINE_WORDS, MOST_WORDS, TABLE_NUMBERS};
 use test_results::Line;
@@ -211,7 +213,9 @@ fn is_head(line: &[i32; LINE_WORDS], last: i32) -> bool {
 }
 
 // How many lines are heads of kinds up to the last.
-fn heads(lines: &[[i32; LINE_WORDS]], last: i32) -> usize {
+fn heads(lines: &[[i32; LINE_WORDS]], last: i32) -> usize
+    ensures { result ≤ length lines.now }
+{
     lines.iter().filter(|line| is_head(*line, last)).count()
 }
 

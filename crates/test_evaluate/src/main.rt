@@ -14,7 +14,6 @@
 mod ending;
 
 use sheet_format::Refusal;
-use std::alloc::{AllocError, Global};
 use std::io;
 use test_lines::Lines;
 use test_results::Line;
@@ -41,12 +40,11 @@ const ROOM: usize = WORDS * 12 + 128;
 
 // Runs every case.
 fn main(rt: HostRuntime) -> io::Result<()> {
-    let alloc = rt.alloc();
-    let mut room = vec![in alloc; 0u8; ROOM]?;
-    for case in Lines::new(alloc, rt.stdin(), CASE) {
+    let mut room = [0u8; ROOM];
+    for case in Lines::new(rt.stdin(), CASE) {
         let case = case?;
-        let mut out = Line::new(room.as_mut_slice());
-        run(alloc, case.as_slice(), &mut out)?;
+        let mut out = Line::new(&mut room);
+        run(case.as_bytes(), &mut out);
         out.byte(b'\n');
         rt.write_all(out.as_bytes())?;
     }
@@ -54,64 +52,55 @@ fn main(rt: HostRuntime) -> io::Result<()> {
 }
 
 // Runs a case, and puts its result. A line without a bar is a heading.
-fn run(alloc: Global, case: &[u8], out: &mut Line<'_>) -> Result<(), AllocError> {
+fn run(case: &[u8], out: &mut Line<'_>) {
     let Some(bar) = test_words::place(case, b'|') else {
         out.bytes(case);
-        return Ok(());
+        return;
     };
-    run_parts(alloc, &case[..bar], &case[bar + 1..], out)
+    run_parts(&case[..bar], &case[bar + 1..], out);
 }
 
 // Takes a case's two numbers apart, and its first text from the others: where two follow it, it is a table.
-fn run_parts(
-    alloc: Global,
-    numbers: &[u8],
-    texts: &[u8],
-    out: &mut Line<'_>,
-) -> Result<(), AllocError> {
+fn run_parts(numbers: &[u8], texts: &[u8], out: &mut Line<'_>) {
     let gap = test_words::place(numbers, b' ').unwrap_or(numbers.len());
     let block = test_numbers::number(&numbers[..gap]);
     let room = test_numbers::number(&numbers[gap..]);
     let Some(bar) = test_words::place(texts, b'|') else {
         out.byte(b'?');
-        return Ok(());
+        return;
     };
-    let first = test_bytes::to_bytes(alloc, &texts[..bar], SHEET)?;
-    let rest = &texts[bar + 1..];
+    let (first, rest) = (&texts[..bar], &texts[bar + 1..]);
+    let mut held = [0u8; SHEET];
     match test_words::place(rest, b'|') {
-        None => call(alloc, None, first.as_slice(), block, rest, room, out),
+        None => {
+            let sheet = test_bytes::to_bytes(first, &mut held);
+            call(None, sheet, block, rest, room, out);
+        }
         Some(bar) => {
-            let sheet = test_bytes::to_bytes(alloc, &rest[..bar], SHEET)?;
-            let table = Some(&first.as_slice()[..first.len().min(TABLE)]);
-            call(
-                alloc,
-                table,
-                sheet.as_slice(),
-                block,
-                &rest[bar + 1..],
-                room,
-                out,
-            )
+            let mut club = [0u8; TABLE];
+            let table = Some(test_bytes::to_bytes(first, &mut club));
+            let sheet = test_bytes::to_bytes(&rest[..bar], &mut held);
+            call(table, sheet, block, &rest[bar + 1..], room, out);
         }
     }
 }
 
 // Evaluates on the facts that a text stands for, by the table where there is one, and puts what came of it.
 fn call(
-    alloc: Global,
     table: Option<&[u8]>,
     sheet: &[u8],
     block: usize,
     facts: &[u8],
     room: usize,
     out: &mut Line<'_>,
-) -> Result<(), AllocError> {
-    let facts = test_words::to_words(alloc, facts, FACT, FACTS)?;
-    let mut lent = vec![in alloc; 0i32; room.min(WORDS)]?;
-    test_lent::put_marks(lent.as_mut_slice());
-    let e = answer(table, sheet, block, facts.as_slice(), lent.as_mut_slice());
-    put_answers(out, e, lent.as_slice());
-    Ok(())
+) {
+    let mut held = [0i32; FACTS];
+    let facts = test_words::to_words(facts, FACT, &mut held);
+    let mut words = [0i32; WORDS];
+    let lent = &mut words[..room.min(WORDS)];
+    test_lent::put_marks(lent);
+    let e = answer(table, sheet, block, facts, lent);
+    put_answers(out, e, lent);
 }
 
 // Puts how a call ended, and the answers in the lent words.

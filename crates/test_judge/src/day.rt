@@ -9,7 +9,6 @@ use c_results::DayOutcome;
 use day_page::PAGE_ROOM;
 use judge_ends::MOST_SHEETS;
 use judge_result::LEAST_ROOM;
-use std::alloc::{AllocError, Global};
 use test_ends::{put_ending, put_ends};
 use test_results::Line;
 
@@ -20,21 +19,16 @@ const HELD_PAGE: usize = PAGE_ROOM + 64;
 const MARK: u8 = b'~';
 
 // Takes the page's room and the ends apart, lends the page and judges; puts what came of it.
-pub(crate) fn run(
-    alloc: Global,
-    given: &Given<'_>,
-    lent: &mut [i32],
-    out: &mut Line<'_>,
-) -> Result<(), AllocError> {
+pub(crate) fn run(given: &Given<'_>, lent: &mut [i32], out: &mut Line<'_>) {
     let [room, numbers @ ..] = given.numbers else {
-        return Ok(());
+        return;
     };
     let mut ends = [0usize; HELD_NUMBERS];
     let k = put_ends(numbers, &mut ends);
-    let mut page = vec![in alloc; MARK; sheet_terms::number(*room).min(HELD_PAGE)]?;
-    let day = judged(given, &ends[..k], lent, page.as_mut_slice());
-    put_day(out, lent, page.as_slice(), &day);
-    Ok(())
+    let mut held = [MARK; HELD_PAGE];
+    let page = &mut held[..sheet_terms::number(*room).min(HELD_PAGE)];
+    let day = judged(given, &ends[..k], lent, page);
+    put_day(out, lent, page, &day);
 }
 
 fn judged(given: &Given<'_>, ends: &[usize], lent: &mut [i32], page: &mut [u8]) -> DayOutcome {

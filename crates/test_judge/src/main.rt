@@ -19,7 +19,6 @@ mod text;
 
 use judge_ends::MOST_SHEETS;
 use judge_result::LEAST_ROOM;
-use std::alloc::{AllocError, Global};
 use std::io;
 use test_lines::Lines;
 use test_results::Line;
@@ -59,24 +58,23 @@ struct Given<'a> {
 
 // Runs every case.
 fn main(rt: HostRuntime) -> io::Result<()> {
-    let alloc = rt.alloc();
-    let mut room = vec![in alloc; 0u8; ROOM]?;
-    for case in Lines::new(alloc, rt.stdin(), CASE) {
+    let mut room = [0u8; ROOM];
+    for case in Lines::new(rt.stdin(), CASE) {
         let case = case?;
-        let mut out = Line::new(room.as_mut_slice());
-        run(alloc, case.as_slice(), &mut out)?;
+        let mut out = Line::new(&mut room);
+        run(case.as_bytes(), &mut out);
         rt.write_all(out.as_bytes())?;
     }
     Ok(())
 }
 
 // Runs a case, and puts its result. A line without a bar is a heading.
-fn run(alloc: Global, case: &[u8], out: &mut Line<'_>) -> Result<(), AllocError> {
+fn run(case: &[u8], out: &mut Line<'_>) {
     let Some(bar) = test_words::place(case, b'|') else {
         put_line(out, case);
-        return Ok(());
+        return;
     };
-    run_named(alloc, &case[..bar], &case[bar + 1..], out)
+    run_named(&case[..bar], &case[bar + 1..], out);
 }
 
 fn put_line(out: &mut Line<'_>, s: &[u8]) {
@@ -85,92 +83,68 @@ fn put_line(out: &mut Line<'_>, s: &[u8]) {
 }
 
 // Takes the call's word and the case's name apart.
-fn run_named(
-    alloc: Global,
-    head: &[u8],
-    parts: &[u8],
-    out: &mut Line<'_>,
-) -> Result<(), AllocError> {
+fn run_named(head: &[u8], parts: &[u8], out: &mut Line<'_>) {
     let Some(gap) = test_words::place(head, b' ') else {
         put_line(out, head);
-        return Ok(());
+        return;
     };
     out.bytes(&head[gap + 1..]);
     if head[0] == b't' {
-        return text::run(alloc, parts, out);
+        text::run(parts, out);
+        return;
     }
-    run_numbers(alloc, head[0], parts, out)?;
+    run_numbers(head[0], parts, out);
     out.byte(b'\n');
-    Ok(())
 }
 
 // Takes a case's numbers and its text apart.
-fn run_numbers(
-    alloc: Global,
-    call: u8,
-    parts: &[u8],
-    out: &mut Line<'_>,
-) -> Result<(), AllocError> {
+fn run_numbers(call: u8, parts: &[u8], out: &mut Line<'_>) {
     let Some(bar) = test_words::place(parts, b'|') else {
-        return Ok(());
+        return;
     };
-    let numbers = test_words::to_words(alloc, &parts[..bar], 1, HELD_NUMBERS)?;
-    match numbers.as_slice() {
-        [] => Ok(()),
-        [words, rest @ ..] => run_text(alloc, call, *words, rest, &parts[bar + 1..], out),
+    let mut held = [0i32; HELD_NUMBERS];
+    match test_words::to_words(&parts[..bar], 1, &mut held) {
+        [] => {}
+        [words, rest @ ..] => run_text(call, *words, rest, &parts[bar + 1..], out),
     }
 }
 
 // Runs with the bytes that the text stands for, and after a bar those of a table.
-fn run_text(
-    alloc: Global,
-    call: u8,
-    words: i32,
-    numbers: &[i32],
-    text: &[u8],
-    out: &mut Line<'_>,
-) -> Result<(), AllocError> {
+fn run_text(call: u8, words: i32, numbers: &[i32], text: &[u8], out: &mut Line<'_>) {
+    let mut held = [0u8; BYTES];
     match test_words::place(text, b'|') {
         None => {
-            let bytes = test_bytes::to_bytes(alloc, text, BYTES)?;
             let own = sheet_own_table::own_table();
             let given = Given {
                 law: Law::Own(&own),
-                bytes: bytes.as_slice(),
+                bytes: test_bytes::to_bytes(text, &mut held),
                 numbers,
             };
-            run_call(alloc, call, words, &given, out)
+            run_call(call, words, &given, out);
         }
         Some(bar) => {
-            let bytes = test_bytes::to_bytes(alloc, &text[..bar], BYTES)?;
-            let table = test_bytes::to_bytes(alloc, &text[bar + 1..], TABLE)?;
+            let mut table = [0u8; TABLE];
             let given = Given {
-                law: Law::Club(table.as_slice()),
-                bytes: bytes.as_slice(),
+                law: Law::Club(test_bytes::to_bytes(&text[bar + 1..], &mut table)),
+                bytes: test_bytes::to_bytes(&text[..bar], &mut held),
                 numbers,
             };
-            run_call(alloc, call, words, &given, out)
+            run_call(call, words, &given, out);
         }
     }
 }
 
 // Calls with as many lent words as the case says.
-fn run_call(
-    alloc: Global,
-    call: u8,
-    words: i32,
-    given: &Given<'_>,
-    out: &mut Line<'_>,
-) -> Result<(), AllocError> {
-    let mut lent = vec![in alloc; 0i32; sheet_terms::number(words).min(HELD_WORDS)]?;
-    test_lent::put_marks(lent.as_mut_slice());
+fn run_call(call: u8, words: i32, given: &Given<'_>, out: &mut Line<'_>) {
+    let mut held = [0i32; HELD_WORDS];
+    let lent = &mut held[..sheet_terms::number(words).min(HELD_WORDS)];
+    test_lent::put_marks(lent);
     match call {
-        b'c' => cover::run(given, lent.as_mut_slice(), out),
-        b's' => set::run(given, lent.as_mut_slice(), out),
-        b'd' => day::run(alloc, given, lent.as_mut_slice(), out)?,
+        b'c' => cover::run(given, lent, out),
+        b's' => set::run(given, lent, out),
+        b'd' => day::run(given, lent, out),
         _ => {}
     }
-    Ok(())
 }
 
 // Puts a missing answer, and a byte after it.

@@ -1,67 +1,82 @@
 // Lines of the input.
 #![tactic(auto)]
 
-ghost use Rattle.std.specs.Prelude.{◌≡◌, IfOk, OnErr, IfSome};
+ghost use Rattle.std.specs.Prelude.{◌≡◌, IfOk, OnErr, IfSome, take};
 ghost use Rattle.std.specs.Io.KnownBytes.{Keeps};
 ghost use Rattle.std.specs.Iterator.{at_most};
 ghost use Rattle.test_lines.specs.Lines.{LineIn, TakesByte, TakesLine, BreaksOff, HasNoEnd, IsLine};
 
-use std::alloc::Global;
 use std::io;
 use std::io::Read;
 
 /// So many lines are given at most, more than any input has.
 pub const MOST_GIVEN: u32 = 1000000;
 
+/// No line that is given has more bytes: there is room for no more.
+pub const LONGEST: usize = 8192;
+
 /// The lines of an input, without their byte 10, up to an empty one or the end of the input.
 #[derive(Drop)]
 pub struct Lines<R> {
     input: R,
-    alloc: Global,
     room: usize,
     left: u32,
 }
 
+/// A line that was read, at the start of its room.
+#[derive(Clone, Copy)]
+pub struct Held {
+    pub room: [u8; LONGEST],
+    pub length: usize,
+}
+
+impl Held {
+    /// The bytes of the line.
+    pub fn as_bytes(&self) -> &[u8]
+        ensures { result.now ≡ take self.now.length self.now.room }
+    {
+        &self.room[..self.length.min(LONGEST)]
+    }
+}
+
 impl<R: Read + Drop> Lines<R> {
     /// Lines of at most `room` bytes: a longer one is cut, and what is left of it is the next line.
-    pub fn new(alloc: Global, input: R, room: usize) -> Lines<R>
+    pub fn new(input: R, room: usize) -> Lines<R>
         ensures room { result.room ≡ room }
         ensures left { result.left ≡ MOST_GIVEN }
     {
         Lines {
             input,
-            alloc,
             room,
             left: MOST_GIVEN,
         }
     }
 
     // The next line, without bytes at the end of the input.
-    fn read(&mut self) -> io::Result<Vec<u8>>
-        ensures plain { IfOk result (λ v. HasNoEnd v.items) }
+    fn read(&mut self) -> io::Result<Held>
+        ensures plain { IfOk result (λ h. HasNoEnd (take h.length h.room)) }
         ensures left { self.new.left ≡ self.old.left }
     {
-        let mut bytes = vec![in self.alloc; 0u8; self.room]?;
-        let n = line(&mut self.input, &mut bytes)?;
-        bytes.truncate(n);
-        Ok(bytes)
+        let mut room = [0u8; LONGEST];
+        let length = line(&mut self.input, &mut room[..self.room.min(LONGEST)])?;
+        Ok(Held { room, length })
     }
 }
 
 impl<R: Read + Drop> Iterator for Lines<R> {
-    type Item = io::Result<Vec<u8>>;
+    type Item = io::Result<Held>;
 
     ghost remaining = { λ s. at_most s.left };
 
-    ghost next_gives = { λ s r t. IfSome r (λ l. IfOk l (λ v. IsLine v.items)) };
+    ghost next_gives = { λ s r t. IfSome r (λ l. IfOk l (λ h. IsLine (take h.length h.room))) };
 
-    fn next(&mut self) -> Option<io::Result<Vec<u8>>> {
+    fn next(&mut self) -> Option<io::Result<Held>> {
         if self.left == 0 {
             return None;
         }
         self.left -= 1;
         match self.read() {
-            Ok(bytes) if bytes.is_empty() => None,
+            Ok(held) if held.as_bytes().is_empty() => None,
             given => Some(given),
         }
     }
@@ -104,14 +119,14 @@ mod tests {
     #[test]
     fn gives_lines_up_to_an_empty_one(rt: HostRuntime) -> Result<(), Fail> {
         let input = b"abcde\nf\n\ng\n".as_slice();
-        let mut all = Vec::new(rt.alloc());
-        for line in Lines::new(rt.alloc(), input, 4) {
-            all.push(line?)?;
+        let wanted = [b"abcd".as_slice(), b"e".as_slice(), b"f".as_slice()];
+        let mut many = 0usize;
+        for line in Lines::new(input, 4) {
+            let wanted = wanted.get(many).copied().unwrap_or(b"none".as_slice());
+            assert_eq!(rt; line?.as_bytes(), wanted);
+            many = many.saturating_add(1);
         }
-        assert_eq!(rt; all.len(), 3);
-        assert_eq!(rt; all[0].as_slice(), b"abcd".as_slice());
-        assert_eq!(rt; all[1].as_slice(), b"e".as_slice());
-        assert_eq!(rt; all[2].as_slice(), b"f".as_slice());
+        assert_eq!(rt; many, 3);
         Ok(())
     }
 }

@@ -75,8 +75,8 @@ impl<'a> Line<'a> {
     }
 }
 
-// A number, and a byte after it.
-fn put_number(out: &mut [u8], at: usize, n: usize, after: u8) -> usize
+/// A number, and a byte after it.
+pub fn put_number(out: &mut [u8], at: usize, n: usize, after: u8) -> usize
     ensures { Put out.old out.new at (decimal_digits n ++ (after ∷ [])) result }
 {
     let end = put_decimal(out, at, n as u64);
@@ -94,8 +94,8 @@ fn put_decimal(out: &mut [u8], at: usize, n: u64) -> usize
     text_buffer::put_byte(out, end, b'0' + (n % 10) as u8)
 }
 
-// "=" where a test holds, and "!" where it does not.
-fn put_mark(out: &mut [u8], at: usize, holds: bool) -> usize
+/// "=" where a test holds, and "!" where it does not.
+pub fn put_mark(out: &mut [u8], at: usize, holds: bool) -> usize
     ensures { Put out.old out.new at (mark_byte holds ∷ []) result }
 {
     if holds {
@@ -104,8 +104,8 @@ fn put_mark(out: &mut [u8], at: usize, holds: bool) -> usize
     text_buffer::put_byte(out, at, b'!')
 }
 
-// The words, "/" after each of a unit's last and a blank after any other.
-fn put_words(out: &mut [u8], at: usize, s: &[i32], unit: usize) -> usize
+/// The words, "/" after each of a unit's last and a blank after any other.
+pub fn put_words(out: &mut [u8], at: usize, s: &[i32], unit: usize) -> usize
     ensures { Put out.old out.new at (words_bytes unit 0 s.now) result }
 {
     let mut n = at;

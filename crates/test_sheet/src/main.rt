@@ -20,7 +20,6 @@
 mod result;
 
 use sheet_format::{LINE_WORDS, MOST_BYTES, MOST_WORDS, Refusal};
-use std::alloc::{AllocError, Global};
 use std::io;
 use test_lines::Lines;
 use test_results::Line;
@@ -47,12 +46,11 @@ const ROOM: usize = WORDS * 12 + BYTES * 3 + 512;
 
 // Runs every case.
 fn main(rt: HostRuntime) -> io::Result<()> {
-    let alloc = rt.alloc();
-    let mut room = vec![in alloc; 0u8; ROOM]?;
-    for case in Lines::new(alloc, rt.stdin(), CASE) {
+    let mut room = [0u8; ROOM];
+    for case in Lines::new(rt.stdin(), CASE) {
         let case = case?;
-        let mut out = Line::new(room.as_mut_slice());
-        run(alloc, case.as_slice(), &mut out)?;
+        let mut out = Line::new(&mut room);
+        run(case.as_bytes(), &mut out);
         out.byte(b'\n');
         rt.write_all(out.as_bytes())?;
     }
@@ -60,54 +58,39 @@ fn main(rt: HostRuntime) -> io::Result<()> {
 }
 
 // Runs a case, and puts its result. A line without a bar is a heading.
-fn run(alloc: Global, case: &[u8], out: &mut Line<'_>) -> Result<(), AllocError> {
+fn run(case: &[u8], out: &mut Line<'_>) {
     let Some(bar) = test_words::place(case, b'|') else {
         out.bytes(case);
-        return Ok(());
+        return;
     };
     let number = test_numbers::number(&case[..bar]);
-    call(alloc, case[0], number, &case[bar + 1..], out)
+    call(case[0], number, &case[bar + 1..], out);
 }
 
-fn call(
-    alloc: Global,
-    name: u8,
-    number: usize,
-    text: &[u8],
-    out: &mut Line<'_>,
-) -> Result<(), AllocError> {
+fn call(name: u8, number: usize, text: &[u8], out: &mut Line<'_>) {
     match name {
-        b'r' => call_read(alloc, None, number, text, out),
-        b'w' => call_write(alloc, None, number, text, out),
-        b'l' => call_line(alloc, number, text, out),
-        b'b' => call_both(alloc, None, number, text, out),
-        b'R' | b'W' | b'B' => call_with_table(alloc, name, number, text, out),
-        _ => {
-            out.byte(b'?');
-            Ok(())
-        }
+        b'r' => call_read(None, number, text, out),
+        b'w' => call_write(None, number, text, out),
+        b'l' => call_line(number, text, out),
+        b'b' => call_both(None, number, text, out),
+        b'R' | b'W' | b'B' => call_with_table(name, number, text, out),
+        _ => out.byte(b'?'),
     }
 }
 
 // Calls by the table that follows a bar.
-fn call_with_table(
-    alloc: Global,
-    name: u8,
-    number: usize,
-    text: &[u8],
-    out: &mut Line<'_>,
-) -> Result<(), AllocError> {
+fn call_with_table(name: u8, number: usize, text: &[u8], out: &mut Line<'_>) {
     let Some(bar) = test_words::place(text, b'|') else {
         out.byte(b'?');
-        return Ok(());
+        return;
     };
-    let held = test_bytes::to_bytes(alloc, &text[bar + 1..], TABLE)?;
-    let table = Some(held.as_slice());
+    let mut held = [0u8; TABLE];
+    let table = Some(test_bytes::to_bytes(&text[bar + 1..], &mut held));
     let text = &text[..bar];
     match name {
-        b'R' => call_read(alloc, table, number, text, out),
-        b'W' => call_write(alloc, table, number, text, out),
-        _ => call_both(alloc, table, number, text, out),
+        b'R' => call_read(table, number, text, out),
+        b'W' => call_write(table, number, text, out),
+        _ => call_both(table, number, text, out),
     }
 }
 
@@ -127,57 +110,37 @@ fn write(table: Option<&[u8]>, words: &[i32], lent: &mut [u8]) -> Result<usize, 
     }
 }
 
-fn call_read(
-    alloc: Global,
-    table: Option<&[u8]>,
-    room: usize,
-    text: &[u8],
-    out: &mut Line<'_>,
-) -> Result<(), AllocError> {
-    let given = test_bytes::to_bytes(alloc, text, SHEET)?;
-    let mut lent = vec![in alloc; WORD; room.min(WORDS)]?;
-    let answer = read(table, given.as_slice(), lent.as_mut_slice());
-    put_read(out, answer, lent.as_slice());
-    Ok(())
+fn call_read(table: Option<&[u8]>, room: usize, text: &[u8], out: &mut Line<'_>) {
+    let mut held = [0u8; SHEET];
+    let given = test_bytes::to_bytes(text, &mut held);
+    let mut words = [WORD; WORDS];
+    let lent = &mut words[..room.min(WORDS)];
+    let answer = read(table, given, lent);
+    put_read(out, answer, lent);
 }
 
-fn call_write(
-    alloc: Global,
-    table: Option<&[u8]>,
-    room: usize,
-    text: &[u8],
-    out: &mut Line<'_>,
-) -> Result<(), AllocError> {
-    let given = test_words::to_words(alloc, text, LINE_WORDS, WORDS)?;
-    put_written(alloc, table, given.as_slice(), room, out)
+fn call_write(table: Option<&[u8]>, room: usize, text: &[u8], out: &mut Line<'_>) {
+    let mut held = [0i32; WORDS];
+    let given = test_words::to_words(text, LINE_WORDS, &mut held);
+    put_written(table, given, room, out);
 }
 
-fn call_line(
-    alloc: Global,
-    number: usize,
-    text: &[u8],
-    out: &mut Line<'_>,
-) -> Result<(), AllocError> {
-    let given = test_bytes::to_bytes(alloc, text, SHEET)?;
-    let back = sheet::line(given.as_slice(), number);
+fn call_line(number: usize, text: &[u8], out: &mut Line<'_>) {
+    let mut held = [0u8; SHEET];
+    let given = test_bytes::to_bytes(text, &mut held);
+    let back = sheet::line(given, number);
     out.number(back.len(), b'|');
     result::put_bytes(out, back);
-    Ok(())
 }
 
-fn call_both(
-    alloc: Global,
-    table: Option<&[u8]>,
-    room: usize,
-    text: &[u8],
-    out: &mut Line<'_>,
-) -> Result<(), AllocError> {
-    let given = test_bytes::to_bytes(alloc, text, SHEET)?;
-    let mut words = vec![in alloc; WORD; WORDS]?;
-    let answer = read(table, given.as_slice(), words.as_mut_slice());
-    put_read(out, answer, words.as_slice());
-    let (done, _) = words.split_at(words_of(answer).min(words.len()));
-    put_written(alloc, table, done, room, out)
+fn call_both(table: Option<&[u8]>, room: usize, text: &[u8], out: &mut Line<'_>) {
+    let mut held = [0u8; SHEET];
+    let given = test_bytes::to_bytes(text, &mut held);
+    let mut words = [WORD; WORDS];
+    let answer = read(table, given, &mut words);
+    put_read(out, answer, &words);
+    let (done, _) = words.split_at(words_of(answer).min(WORDS));
+    put_written(table, done, room, out);
 }
 
 // How many words the lines have that were read. More lines than a sheet can have count as a thousand.
@@ -194,18 +157,12 @@ fn put_read(out: &mut Line<'_>, answer: Result<usize, Refusal>, lent: &[i32]) {
 }
 
 // Writes into so many lent bytes, and puts what was written there.
-fn put_written(
-    alloc: Global,
-    table: Option<&[u8]>,
-    words: &[i32],
-    room: usize,
-    out: &mut Line<'_>,
-) -> Result<(), AllocError> {
-    let mut lent = vec![in alloc; BYTE; room.min(BYTES)]?;
-    let answer = write(table, words, lent.as_mut_slice());
+fn put_written(table: Option<&[u8]>, words: &[i32], room: usize, out: &mut Line<'_>) {
+    let mut bytes = [BYTE; BYTES];
+    let lent = &mut bytes[..room.min(BYTES)];
+    let answer = write(table, words, lent);
     let (done, rest) = lent.split_at(answer.unwrap_or(0).min(lent.len()));
     result::put_answer(out, answer, rest.iter().all(|b| *b == BYTE));
     out.byte(b'|');
     result::put_bytes(out, done);
-    Ok(())
 }

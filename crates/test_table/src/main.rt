@@ -12,7 +12,6 @@
 #![tactic(auto)]
 
 use sheet_format::{RELATION_NUMBERS, Refusal, TABLE_NUMBERS};
-use std::alloc::{AllocError, Global};
 use std::io;
 use test_lines::Lines;
 use test_results::Line;
@@ -27,12 +26,11 @@ const ROOM: usize = 8192;
 
 // Runs every case.
 fn main(rt: HostRuntime) -> io::Result<()> {
-    let alloc = rt.alloc();
-    let mut room = vec![in alloc; 0u8; ROOM]?;
-    for case in Lines::new(alloc, rt.stdin(), CASE) {
+    let mut room = [0u8; ROOM];
+    for case in Lines::new(rt.stdin(), CASE) {
         let case = case?;
-        let mut out = Line::new(room.as_mut_slice());
-        run(alloc, case.as_slice(), &mut out)?;
+        let mut out = Line::new(&mut room);
+        run(case.as_bytes(), &mut out);
         out.byte(b'\n');
         rt.write_all(out.as_bytes())?;
     }
@@ -40,20 +38,19 @@ fn main(rt: HostRuntime) -> io::Result<()> {
 }
 
 // Runs a case, and puts its result. A line without a bar is a heading.
-fn run(alloc: Global, case: &[u8], out: &mut Line<'_>) -> Result<(), AllocError> {
+fn run(case: &[u8], out: &mut Line<'_>) {
     let Some(bar) = test_words::place(case, b'|') else {
         out.bytes(case);
-        return Ok(());
+        return;
     };
     match case[0] {
         b't' => read(
-            test_bytes::to_bytes(alloc, &case[bar + 1..], TABLE)?.as_slice(),
+            test_bytes::to_bytes(&case[bar + 1..], &mut [0u8; TABLE]),
             out,
         ),
         b'o' => call_own(out),
         _ => out.byte(b'?'),
     }
-    Ok(())
 }
 
 // Reads the library's own table, and puts its bytes too, "/" for byte 10.

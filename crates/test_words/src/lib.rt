@@ -1,10 +1,9 @@
 // Parts and words of a case's text.
 #![tactic(auto)]
 
-ghost use Rattle.std.specs.Prelude.{◌≡◌, ◌≤◌, ◌<◌, ◌+◌, min, length, get_or, drop, take, replicate, pos, IfOk, MatchOption};
+ghost use Rattle.std.specs.Prelude.{◌≡◌, ◌≤◌, ◌<◌, ◌+◌, min, length, get_or, drop, take, replicate, pos, MatchOption};
 ghost use Rattle.test_words.specs.Words.{before_either, Stores, word_below_zero, rounded_by, whole_of, word_of, words_read};
 
-use std::alloc::{AllocError, Global};
 use test_numbers::number;
 
 /// The place of the first byte b.
@@ -69,19 +68,13 @@ pub fn words(text: &[u8], unit: usize, out: &mut [i32]) -> usize
     n.min(out.len())
 }
 
-/// The words of text, at most `room`.
-pub fn to_words(
-    alloc: Global,
-    text: &[u8],
-    unit: usize,
-    room: usize,
-) -> Result<Vec<i32>, AllocError>
-    ensures { IfOk result (λ v. v.items ≡ (let r = words_read unit text.now (replicate room (pos 0)) in take r.next r.words)) }
+/// The words of text, as many as there is room for: they are put there, over zeros.
+pub fn to_words<'a>(text: &[u8], unit: usize, room: &'a mut [i32]) -> &'a [i32]
+    ensures { result.now ≡ (let r = words_read unit text.now (replicate (length room.old) (pos 0)) in take r.next r.words) }
 {
-    let mut out = vec![in alloc; 0i32; room]?;
-    let n = words(text, unit, &mut out);
-    out.truncate(n);
-    Ok(out)
+    room.fill(0);
+    let n = words(text, unit, room);
+    &room[..n]
 }
 
 fn store(out: &mut [i32], at: usize, w: i32) -> usize
@@ -133,13 +126,10 @@ mod tests {
     #[test]
     fn words_of_a_text(rt: HostRuntime) -> Result<(), Fail> {
         assert_eq!(rt;
-            to_words(rt.alloc(), b"7 -8/9", 4, 64)?.as_slice(),
+            to_words(b"7 -8/9", 4, &mut [5i32; 64]),
             [7, -8, 0, 0, 9].as_slice()
         );
-        assert_eq!(rt;
-            to_words(rt.alloc(), b"1 2 3", 0, 2)?.as_slice(),
-            [1, 2].as_slice()
-        );
+        assert_eq!(rt; to_words(b"1 2 3", 0, &mut [5i32; 2]), [1, 2].as_slice());
         Ok(())
     }
 }
