@@ -10,11 +10,13 @@
 //     7, relation, a value for each column of it              a fact of the case, a line for each
 #![tactic(auto)]
 
-ghost use Rattle.std.specs.Prelude.{◌≤◌};
+ghost use Rattle.std.specs.Prelude.{◌≡◌, ◌*◌, ◌≤◌, length};
+ghost use Rattle.judge_result.specs.Judged.{least_room};
+ghost use Rattle.judge_result.specs.Returns.{judgement_from_result};
 
 use judge_result::{COVERED, LEAST_ROOM, NO_LOG, NOT_COVERED, REFUSED, Verdict};
 use query_meaning::FACT_WORDS;
-use sheet_format::{FIELD_BYTES, FIELD_END, MOST_SHEET_BYTES, TABLE_NUMBERS};
+use sheet_format::{FIELD_BYTES, FIELD_END, MOST_SHEET_BYTES, Refusal, TABLE_NUMBERS};
 use sheet_table_file::TABLE_READ;
 use std::io;
 
@@ -40,7 +42,7 @@ fn main(rt: HostRuntime) -> io::Result<()> {
 // Judges a sheet by a table, and prints what comes out.
 fn cover(rt: &impl Print, table: &[u8], sheet: &[u8]) -> io::Result<()> {
     let mut facts = [0i32; LEAST_ROOM];
-    let (count, missing) = match judge::judge_by_table(table, sheet, &mut facts) {
+    let (count, missing) = match judged(table, sheet, &mut facts) {
         Ok(Verdict::NotCovered { facts, missing }) => (facts, missing),
         Ok(Verdict::Covered) => return print_line(rt, &[COVERED]),
         Ok(Verdict::NoLog) => return print_line(rt, &[NO_LOG]),
@@ -51,9 +53,29 @@ fn cover(rt: &impl Print, table: &[u8], sheet: &[u8]) -> io::Result<()> {
     print_line(rt, &[NOT_COVERED, count])?;
     print_missing(rt, &missing, columns(sheet))?;
     let numbers = sheet_table::load(table).unwrap_or([0; TABLE_NUMBERS]);
-    let (facts, _) = facts.as_chunks::<FACT_WORDS>();
-    for fact in facts.iter().take(count) {
-        print_fact(rt, &numbers, fact)?;
+    print_facts(rt, &numbers, &facts, count)
+}
+
+// Judges a sheet into the words that a verdict wants: the facts of its case are among them.
+fn judged(table: &[u8], sheet: &[u8], facts: &mut [i32]) -> Result<Verdict, Refusal>
+    requires { length facts.old ≡ least_room }
+    ensures { (judgement_from_result result).count * 5 ≤ least_room }
+{
+    judge::judge_by_table(table, sheet, facts)
+}
+
+// The facts of a case, a line for each.
+fn print_facts(
+    rt: &impl Print,
+    table: &[usize; TABLE_NUMBERS],
+    facts: &[i32],
+    count: usize,
+) -> io::Result<()>
+    requires { count * 5 ≤ length facts.now }
+{
+    let (facts, _) = facts[..count * FACT_WORDS].as_chunks::<FACT_WORDS>();
+    for fact in facts {
+        print_fact(rt, table, fact)?;
     }
     Ok(())
 }
