@@ -3,7 +3,6 @@
 ghost use Rattle.std.specs.Prelude.{◌≡◌, true, false, ◌+◌, ◌<◌, min, slice_set, IfSome, is_some};
 
 use crate::Kept;
-use sheet_format::MOST_VIEW_ATOMS;
 
 /// The most rows that are kept.
 pub const MOST_KEPT: usize = 512;
@@ -11,25 +10,11 @@ pub const MOST_KEPT: usize = 512;
 /// Rows of views, in the order in which they were kept.
 #[derive(Clone, Copy, Debug)]
 pub struct KeptRows {
-    rows: [Kept; MOST_KEPT],
-    count: usize,
+    pub(crate) rows: [Kept; MOST_KEPT],
+    pub(crate) count: usize,
 }
 
 impl KeptRows {
-    /// No row.
-    #[inline(always)]
-    pub fn new() -> Self
-        ensures { result.count ≡ 0 }
-    {
-        KeptRows {
-            rows: [Kept {
-                view: 0,
-                facts: [0; MOST_VIEW_ATOMS],
-            }; MOST_KEPT],
-            count: 0,
-        }
-    }
-
     /// How many rows are kept.
     pub fn len(&self) -> usize
         ensures { result ≡ self.now.count }

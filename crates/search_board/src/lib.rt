@@ -13,7 +13,7 @@ pub use kept::{KeptRows, MOST_KEPT};
 use query_layout::{COLUMNS, MADE_UP, NAMES};
 use search_slots::SET_WORDS;
 pub use sets::{FACT_END, FACT_WORDS, FactSet, Facts, Members, NameSet, RowSet, SmallSet};
-use sheet_format::{MOST_ATOMS, MOST_RELATIONS, MOST_VIEWS};
+use sheet_format::{MOST_ATOMS, MOST_RELATIONS, MOST_VIEW_ATOMS, MOST_VIEWS};
 use tableau_layout::{MOST_BLOCKS, PLAN_NUMBERS, SLOTS, VIEW_BLOCKS};
 
 /// A plan, as `tableau_plan` fills it.
@@ -293,7 +293,13 @@ impl Board {
             by_value: [Sharing {
                 facts: [FactSet::new(); SHARES],
             }; COLUMNS],
-            kept: KeptRows::new(),
+            kept: KeptRows {
+                rows: [Kept {
+                    view: 0,
+                    facts: [0; MOST_VIEW_ATOMS],
+                }; MOST_KEPT],
+                count: 0,
+            },
             over: false,
             places: [0; HASHES],
             counts: [None; MOST_KEPT],
