@@ -93,16 +93,15 @@ fn run<R: Env + Files + Print>(
         length: 0,
     };
     let mut ends = [0usize; FILES];
-    let mut count = 0;
-    for (end, number) in ends.iter_mut().zip(first..first.saturating_add(FILES)) {
+    for k in 0..FILES {
+        let number = first.saturating_add(k);
         if !program_input::has_argument(rt, number) {
-            break;
+            return print(rt, table, bytes.as_slice(), &ends[..k]);
         }
         put_file(rt, errors, table, &mut bytes, number);
-        *end = bytes.length;
-        count += 1;
+        ends[k] = bytes.length;
     }
-    print(rt, table, bytes.as_slice(), &ends[..count])
+    print(rt, table, bytes.as_slice(), &ends)
 }
 
 // Puts the bytes of the file that an argument names after the others.
