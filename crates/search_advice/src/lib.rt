@@ -4,6 +4,8 @@
 //! Nothing here is believed: the search checks each proposal, and has a complete walk for where there is none.
 #![tactic(auto)]
 
+ghost use Rattle.std.specs.Prelude.{◌≡◌};
+
 use query_layout::COLUMNS;
 use search_board::{
     Advice, Board, FactSet, Kept, MOST_KEPT, Plan, Row, RowSet, Scope, Words, asked_head,
@@ -408,7 +410,10 @@ pub fn failed(board: &mut Board) {
 }
 
 /// Notes how the board stands after an advice. It is noted where it is wanted, since a search has one for each of its steps.
-pub fn note_standing(board: &Board, stand: &mut Standing) {
+pub fn note_standing(board: &Board, stand: &mut Standing)
+    ensures facts { (stand.new.alive ≡ board.now.alive) × (stand.new.folded ≡ board.now.folded) }
+    ensures kept { stand.new.kept ≡ board.now.kept.count }
+{
     stand.alive = board.alive;
     stand.folded = board.folded;
     stand.kept = board.kept.len();

@@ -1,8 +1,9 @@
 //! Rows of views that are kept.
 
-ghost use Rattle.std.specs.Prelude.{◌≡◌, true, false, ◌+◌, ◌<◌, min, slice_set, IfSome, is_some};
+ghost use Rattle.std.specs.Prelude.{◌≡◌, true, false, None, ◌+◌, ◌<◌, ◌≤◌, min, nat_lt, slice_get, slice_set};
 
 use crate::Kept;
+use sheet_format::MOST_VIEW_ATOMS;
 
 /// The most rows that are kept.
 pub const MOST_KEPT: usize = 512;
@@ -10,11 +11,24 @@ pub const MOST_KEPT: usize = 512;
 /// Rows of views, in the order in which they were kept.
 #[derive(Clone, Copy, Debug)]
 pub struct KeptRows {
-    pub(crate) rows: [Kept; MOST_KEPT],
-    pub(crate) count: usize,
+    rows: [Kept; MOST_KEPT],
+    count: usize,
 }
 
 impl KeptRows {
+    /// No rows.
+    pub fn new() -> Self
+        ensures { result.count ≡ 0 }
+    {
+        KeptRows {
+            rows: [Kept {
+                view: 0,
+                facts: [0; MOST_VIEW_ATOMS],
+            }; MOST_KEPT],
+            count: 0,
+        }
+    }
+
     /// How many rows are kept.
     pub fn len(&self) -> usize
         ensures { result ≡ self.now.count }
@@ -24,17 +38,18 @@ impl KeptRows {
 
     /// Row k, if so many are kept.
     pub fn get(&self, k: usize) -> Option<Kept>
-        ensures { is_some result ≡ true → k < self.now.count }
+        ensures kept { k < self.now.count → result ≡ slice_get self.now.rows k }
+        ensures none { self.now.count ≤ k → result ≡ None }
     {
-        if k < self.count && k < MOST_KEPT {
-            return Some(self.rows[k]);
+        if self.count <= k {
+            return None;
         }
-        None
+        self.rows.get(k).copied()
     }
 
     /// Keeps one more row; false where there is no room for it.
     pub fn push(&mut self, kept: Kept) -> bool
-        ensures room { result ≡ true → self.old.count < MOST_KEPT }
+        ensures room { result ≡ nat_lt self.old.count MOST_KEPT }
         ensures kept { result ≡ true → (self.new.rows ≡ slice_set self.old.rows self.old.count kept) × (self.new.count ≡ self.old.count + 1) }
         ensures full { result ≡ false → self.new ≡ self.old }
     {

@@ -13,7 +13,7 @@ pub use kept::{KeptRows, MOST_KEPT};
 use query_layout::{COLUMNS, MADE_UP, NAMES};
 use search_slots::SET_WORDS;
 pub use sets::{FACT_END, FACT_WORDS, FactSet, Facts, Members, NameSet, RowSet, SmallSet};
-use sheet_format::{MOST_ATOMS, MOST_RELATIONS, MOST_VIEW_ATOMS, MOST_VIEWS};
+use sheet_format::{MOST_ATOMS, MOST_RELATIONS, MOST_VIEWS};
 use tableau_layout::{MOST_BLOCKS, PLAN_NUMBERS, SLOTS, VIEW_BLOCKS};
 
 /// A plan, as `tableau_plan` fills it.
@@ -143,8 +143,7 @@ pub struct Board {
     pub changed: FactSet,
     of_relation: [FactSet; RELATIONS],
     by_value: [Sharing; COLUMNS],
-    /// Rows of views that are kept, and whether one was lost for want of room; where they may be found by their values.
-    pub kept: KeptRows,
+    /// Whether a row of a view was lost for want of room; where kept rows may be found by their values.
     pub over: bool,
     pub places: [u16; HASHES],
     /// How many listed rows each kept row fits, if something is to be done there, and the most that one fits.
@@ -169,6 +168,8 @@ pub struct Board {
     pub budget: u32,
     pub failures: u32,
     pub trials: Trials,
+    /// Rows of views that are kept. They stand last: before other arrays the compiler builds a second board for them.
+    pub kept: KeptRows,
 }
 
 // ---- values and rows
@@ -293,13 +294,6 @@ impl Board {
             by_value: [Sharing {
                 facts: [FactSet::new(); SHARES],
             }; COLUMNS],
-            kept: KeptRows {
-                rows: [Kept {
-                    view: 0,
-                    facts: [0; MOST_VIEW_ATOMS],
-                }; MOST_KEPT],
-                count: 0,
-            },
             over: false,
             places: [0; HASHES],
             counts: [None; MOST_KEPT],
@@ -345,6 +339,7 @@ impl Board {
                 looked: 0,
                 reason: Advice::Nothing,
             },
+            kept: KeptRows::new(),
         }
     }
 
