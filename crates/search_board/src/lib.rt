@@ -168,7 +168,7 @@ pub struct Board {
     pub budget: u32,
     pub failures: u32,
     pub trials: Trials,
-    /// Rows of views that are kept. They stand last: before other arrays the compiler builds a second board for them.
+    /// Rows of views that are kept. They stand last: where other arrays follow them, the compiler builds a second board.
     pub kept: KeptRows,
 }
 
@@ -390,7 +390,8 @@ impl Board {
         }
     }
 
-    // Sets the values of fact i; whether they are others.
+    // Sets the values of fact i; whether they are others. Inlined, since values that were just written one by one are slow to read back at once.
+    #[inline(always)]
     fn set_values(&mut self, i: u8, row: &Row) -> bool {
         let old = self.row(i);
         if old == *row {

@@ -2,3 +2,4 @@ pub mod Laws
 pub mod Symmetry
 pub mod Turned
 pub mod Exchange
+pub mod Words

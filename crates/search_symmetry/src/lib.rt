@@ -2,10 +2,11 @@
 // rests on.
 #![tactic(auto)]
 
-ghost use Rattle.std.specs.Prelude.{◌≡◌, true, false, ◌<◌, ◌≤◌, ◌*◌, ◌+◌, length, IfSome};
+ghost use Rattle.std.specs.Prelude.{◌≡◌, true, false, ℕ, ◌<◌, ◌≤◌, ◌*◌, ◌+◌, ◌/◌, length, IfSome};
 ghost use Rattle.query_layout.specs.Layout.{block_width, names};
 ghost use Rattle.sheet_format.specs.Limits.{most_rows, most_views};
 ghost use Rattle.tableau_layout.specs.Layout.{most_copies, slot_end, most_blocks};
+ghost use Rattle.search_slots.specs.Slots.{set_words, in_set};
 ghost use Rattle.search_symmetry.specs.Symmetry.{exchanged, copy_becomes, Alike};
 ghost use Rattle.search_symmetry.specs.Steps.{SameFor, Swapped, Used, StaysAt, Stays, TurnsInto, Goes, WrittenCopies, ComeBack, UnmovedValue, Unmoved, SheetTurned, TwoListed, SlotTurned, SlotsTurned};
 
@@ -203,7 +204,26 @@ fn is_slot_turned(
     ws[m] == turn(a, b, v) && search_slots::has(set, m)
 }
 
-// Whether it is so with every slot of the set.
+// Whether it is so with every slot that the set has in word w.
+fn is_word_turned(
+    ws: &[usize],
+    set: &[u64],
+    a: &[usize; 4],
+    b: &[usize; 4],
+    to: &[usize; MOST_ROWS],
+    w: usize,
+) -> bool
+    requires { (w < set_words) × (length ws.now ≡ slot_end) × ComeBack to.now most_rows }
+    ensures { result ≡ true → (k : ℕ) → k < slot_end → k / 64 ≡ w → in_set set.now k ≡ true → SlotTurned ws.now set.now a.now b.now to.now k }
+{
+    if set.get(w).copied().unwrap_or(u64::MAX) == 0 {
+        return true;
+    }
+    (w * 64..SLOTS.min(w * 64 + 64)).all(|n| !search_slots::has(set, n)
+        || is_slot_turned(ws, set, a, b, to, n))
+}
+
+// Whether it is so with every slot of the set. Most words of a set have none.
 fn are_slots_turned(
     ws: &[usize],
     set: &[u64],
@@ -214,7 +234,7 @@ fn are_slots_turned(
     requires { (length ws.now ≡ slot_end) × ComeBack to.now most_rows }
     ensures { result ≡ true → SlotsTurned ws.now set.now a.now b.now to.now slot_end }
 {
-    (0..SLOTS).all(|n| !search_slots::has(set, n) || is_slot_turned(ws, set, a, b, to, n))
+    (0..SET_WORDS).all(|w| is_word_turned(ws, set, a, b, to, w))
 }
 
 // Whether the sheet stays: the constants of its blocks do, and each listed row goes to one and comes back. Where it goes is written.
