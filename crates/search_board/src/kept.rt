@@ -1,6 +1,6 @@
 //! Rows of views that are kept.
 
-ghost use Rattle.std.specs.Prelude.{◌≡◌, true, false, None, ◌+◌, ◌<◌, ◌≤◌, min, nat_lt, slice_get, slice_set};
+ghost use Rattle.std.specs.Prelude.{◌≡◌, true, false, None, ◌+◌, ◌<◌, ◌≤◌, min, length, nat_lt, slice_get, slice_set};
 
 use crate::Kept;
 use sheet_format::MOST_VIEW_ATOMS;
@@ -13,6 +13,7 @@ pub const MOST_KEPT: usize = 512;
 pub struct KeptRows {
     rows: [Kept; MOST_KEPT],
     count: usize,
+    pub ghost few: { count ≤ length rows },
 }
 
 impl KeptRows {
@@ -31,7 +32,8 @@ impl KeptRows {
 
     /// How many rows are kept.
     pub fn len(&self) -> usize
-        ensures { result ≡ self.now.count }
+        ensures count { result ≡ self.now.count }
+        ensures few { result ≤ MOST_KEPT }
     {
         self.count
     }
@@ -66,5 +68,45 @@ impl KeptRows {
         ensures { (self.new.rows ≡ self.old.rows) × (self.new.count ≡ min self.old.count n) }
     {
         self.count = self.count.min(n);
+    }
+}
+
+#[cfg(test)]
+mod tests {
+    use super::*;
+    use std::test::Fail;
+
+    #[test]
+    fn keeps_as_many_rows_as_there_is_room_for(rt: HostRuntime) -> Result<(), Fail> {
+        let mut kept = KeptRows::new();
+        let mut last = Kept::new(0);
+        for i in 0..MOST_KEPT {
+            last.facts = [(i / 256) as u8, (i % 256) as u8, 7];
+            assert_eq!(rt; kept.push(last), true);
+        }
+        assert_eq!(rt; kept.push(Kept::new(1)), false);
+        assert_eq!(rt; kept.len(), 512);
+        assert_eq!(rt;
+            kept.get(258),
+            Some(Kept {
+                view: 0,
+                facts: [1, 2, 7]
+            })
+        );
+        assert_eq!(rt; kept.get(511), Some(last));
+        assert_eq!(rt; kept.get(512), None);
+        kept.truncate(600);
+        assert_eq!(rt; kept.len(), 512);
+        kept.truncate(3);
+        assert_eq!(rt; kept.len(), 3);
+        assert_eq!(rt;
+            kept.get(2),
+            Some(Kept {
+                view: 0,
+                facts: [0, 2, 7]
+            })
+        );
+        assert_eq!(rt; kept.get(3), None);
+        Ok(())
     }
 }
