@@ -81,7 +81,8 @@ mod tests {
         let mut kept = KeptRows::new();
         let mut last = Kept::new(0);
         for i in 0..MOST_KEPT {
-            last.facts = [(i / 256) as u8, (i % 256) as u8, 7];
+            let [low, high] = (i as u16).to_le_bytes();
+            last.facts = [low, high, 7];
             assert_eq!(rt; kept.push(last), true);
         }
         assert_eq!(rt; kept.push(Kept::new(1)), false);
@@ -90,7 +91,7 @@ mod tests {
             kept.get(258),
             Some(Kept {
                 view: 0,
-                facts: [1, 2, 7]
+                facts: [2, 1, 7]
             })
         );
         assert_eq!(rt; kept.get(511), Some(last));
@@ -103,7 +104,7 @@ mod tests {
             kept.get(2),
             Some(Kept {
                 view: 0,
-                facts: [0, 2, 7]
+                facts: [2, 0, 7]
             })
         );
         assert_eq!(rt; kept.get(3), None);
